@@ -14,7 +14,6 @@ use Rattle.grant_core.specs.Frames.{after}
 use Rattle.grant_core.specs.Grants as grant
 use Rattle.grant_core.specs.Grants.{Event}
 use Rattle.container_model.specs.declared.answer.Part.{Part}
-use Rattle.container_model.specs.declared.command.Command.{Command}
 use Rattle.container_model.specs.declared.fault.ContainerFault.{ContainerFault}
 use Rattle.container_model.specs.declared.fault.ContainerFault.TheVariants.{BadAnswer, NoSuch, Stale, WrongLink, WrongState}
 use Rattle.container_model.specs.declared.grants.Tells.{Tells}
@@ -32,8 +31,8 @@ use Rattle.container_model.specs.Saves.{commit_at, commit_done, commit_doubted, 
 use Rattle.container_model.specs.Verbs.{claim_of, claimed, gives_up, holder_of, left, revoked_at}
 use Rattle.container_steady.proofs.Opening.{is_opened}
 use Rattle.container_steady.proofs.SteadyTells.{if_told}
-use Rattle.container_steady.proofs.Taken.{command_taken}
-use Rattle.container_steady.specs.Taken.{IsStepped, IsTakenAs, as_close, as_delete, as_edit, as_insert, as_kill, as_new, as_run, as_save, as_save_as, as_start, as_verb, steps_leave, steps_nothing, steps_take}
+use Rattle.container_steady.proofs.Taken.{command_made}
+use Rattle.container_steady.specs.Made.{IsMade, makes_activation, makes_edit, makes_end, makes_fewer, makes_frame, makes_nothing, makes_object, makes_save, makes_server, makes_steps, makes_taking, run_by}
 use Rattle.container_numbers.specs.FewFrames.{FewFrames, FewFramesAfter}
 use Rattle.container_numbers.proofs.SoundMoves.{granted_frames, requested_frames}
 use Rattle.container_numbers.proofs.SoundRooms.{length-set_nth}
@@ -81,23 +80,19 @@ revokes : (r : Record) (holder : Option ℕ) → AsMany r (revoked_at r holder).
 revokes r None = refl
 revokes r (Some n) = ap (λ (fs : List Frame). length fs) (requested_frames r UiDeactivate (find (is_object n) r.objects))
 
-stepped : (r : Record) (frame : Frame) (o : Object) (l : Link) (ts : List Step) (t : Took) → IsStepped r frame o l ts t → AsMany r t.rec
-stepped r frame o l ts t (steps_nothing none made) = subst (λ (z : Took). AsMany r z.rec) made refl
-stepped r frame o l ts t (steps_leave has leave made) = subst (λ (z : Took). AsMany r z.rec) made (leaves r frame o l ts)
-stepped r frame o l ts t (steps_take has takes lt holder made) = subst (λ (z : Took). AsMany r z.rec) made (revokes (claimed r frame o l) (holder_of frame.ui.state) ∙ claims r frame o l)
-
-taken_few : (r : Record) (c : Command) (t : Took) → FewFrames r → IsTakenAs r t c → FewFrames t.rec
-taken_few r _ t h (as_new name w k new made) = subst (λ (z : Took). FewFrames z.rec) made (one_more r.frames (new_frame name w k) new.few)
-taken_few r _ t h (as_insert f kind area at made) = subst (λ (z : Took). FewFrames z.rec) made h
-taken_few r _ t h (as_start started made) = subst (λ (z : Took). FewFrames z.rec) made h
-taken_few r _ t h (as_run n inc at run made) = subst (λ (z : Took). FewFrames z.rec) made h
-taken_few r _ t h (as_edit n bytes go small has made) = subst (λ (z : Took). FewFrames z.rec) made h
-taken_few r _ t h (as_save f at made) = as_few r t.rec (subst (λ (z : Took). AsMany r z.rec) made (saved r f at.frame None)) h
-taken_few r _ t h (as_save_as f name at apart own made) = as_few r t.rec (subst (λ (z : Took). AsMany r z.rec) made (saved r f at.frame (Some name))) h
-taken_few r _ t h (as_delete n at passive made) = subst (λ (z : Took). FewFrames z.rec) made h
-taken_few r _ t h (as_kill inc alive made) = subst (λ (z : Took). FewFrames z.rec) made h
-taken_few r _ t h (as_close n option go ts has row made) = as_few r t.rec (subst (λ (z : Took). AsMany r z.rec) made (leaves r go.at.frame go.at.object go.link ts)) h
-taken_few r _ t h (as_verb n number go verb) = as_few r t.rec (stepped r go.at.frame go.at.object go.link verb.ts t verb.stepped) h
+made_few : (r : Record) (ns : List ℕ) (t : Took) → FewFrames r → IsMade r t ns → FewFrames t.rec
+made_few r _ t h (makes_nothing made) = subst (λ (z : Took). FewFrames z.rec) made h
+made_few r _ t h (makes_frame name w k new made) = subst (λ (z : Took). FewFrames z.rec) made (one_more r.frames (new_frame name w k) new.few)
+made_few r _ t h (makes_object f kind area at made) = subst (λ (z : Took). FewFrames z.rec) made h
+made_few r _ t h (makes_fewer n at passive made) = subst (λ (z : Took). FewFrames z.rec) made h
+made_few r _ t h (makes_server started made) = subst (λ (z : Took). FewFrames z.rec) made h
+made_few r _ t h (makes_end inc alive made) = subst (λ (z : Took). FewFrames z.rec) made h
+made_few r _ t h (makes_activation n inc at run made) = subst (λ (z : Took). FewFrames z.rec) made h
+made_few r _ t h (makes_edit n bytes go small has made) = subst (λ (z : Took). FewFrames z.rec) made h
+made_few r _ t h (makes_save f name at other made) = as_few r t.rec (subst (λ (z : Took). AsMany r z.rec) made (saved r f at.frame name)) h
+made_few r _ t h (makes_steps n go ts has row made) = as_few r t.rec (subst (λ (z : Took). AsMany r z.rec) made (leaves r go.at.frame go.at.object go.link ts)) h
+made_few r _ t h (makes_taking n go ts taking made) =
+    as_few r t.rec (subst (λ (z : Took). AsMany r z.rec) made (revokes (claimed r go.at.frame go.at.object go.link) (holder_of go.at.frame.ui.state) ∙ claims r go.at.frame go.at.object go.link)) h
 
 -- ---- what a step gives, if it is taken
 abbrev Keeps : Record → Result Took ContainerFault → Type 0
@@ -207,7 +202,7 @@ resolves r f is_kept (Some frame) = keeps_if r (is_doubtful frame.phase) (resolv
 
 -- ---- whatever is given
 pub few_frames_after : FewFramesAfter
-few_frames_after r (Input.Ordered c) t h e = taken_few r c t h (command_taken r c t e)
+few_frames_after r (Input.Ordered c) t h e = made_few r (run_by c) t h (command_made r c t e)
 few_frames_after r (Input.Told link m) t h e = kept_few r (on_message r link m) t (messages r link m) h e
 few_frames_after r (Input.Reaped inc) t h e = kept_few r (on_reap r inc) t (reaps r inc) h e
 few_frames_after r (Input.Committed f) t h e = kept_few r (commit_done r f) t (commits r f (nth r.frames f)) h e

@@ -18,14 +18,15 @@ use Rattle.container_steady.specs.Steady.{Steady}
 use Rattle.container_steady.proofs.SteadyCounts.{each_without}
 use Rattle.container_steady.proofs.SteadyLookups.{each_append, each_set, each_weaker, nth-set_other, pairs_map}
 use Rattle.container_steady.proofs.SteadyTells.{if_told}
-use Rattle.container_steady.specs.Taken.{IsTakenAs, as_close, as_delete, as_edit, as_insert, as_kill, as_new, as_run, as_save, as_save_as, as_start, as_verb, edited}
-use Rattle.container_steady.proofs.Taken.{command_taken}
+use Rattle.container_steady.specs.Made.{IsMade, makes_activation, makes_edit, makes_end, makes_fewer, makes_frame, makes_nothing, makes_object, makes_save, makes_server, makes_steps, makes_taking, run_by}
+use Rattle.container_steady.specs.Taken.{edited}
+use Rattle.container_steady.proofs.Taken.{command_made}
 use Rattle.container_model.specs.Commands.{on_command}
 use Rattle.container_numbers.proofs.SoundAsking.{debts_few, link_checked, one_asked}
 use Rattle.container_numbers.proofs.SoundHandOffs.{asked_number, hand_off_in_within}
 use Rattle.container_numbers.proofs.SoundRooms.{Differs, IsSaved, Owing, Within, all_of, debts, each_of, length-set_nth, owes_less, put_within, sound_of, within_of}
 use Rattle.container_numbers.proofs.SoundSaves.{settled_sound}
-use Rattle.container_numbers.proofs.SoundVerbs.{closed_sound, stepped_sound}
+use Rattle.container_numbers.proofs.SoundVerbs.{claiming_sound, row_sound}
 
 -- ---- a new frame: nobody owes anything for it
 get_more : (n : ℕ) (frames : List Frame) (frame : Frame) (i : ℕ) → debt_in n (Some frame) ≡ 0 → debt_in n (slice_get (frames ++ frame ∷ []) i) ≡ debt_in n (slice_get frames i)
@@ -163,21 +164,22 @@ deleted_sound r o h = record {
   grants = h.grants;
 }
 
--- ---- each command leaves a record sound
-taken_sound : {Greatest : ℕ → Type 0} (r : Record) (c : Command) (t : Took) → Steady r → HasNumbers Greatest r → IsTakenAs r t c → HasNumbers Greatest t.rec
-taken_sound {Greatest} r _ t s h (as_new name w k new made) = subst (λ (z : Took). HasNumbers Greatest z.rec) made (frame_sound r (Commands.new_frame name w k) h new.numbers (omega arith) (λ n. refl))
-taken_sound {Greatest} r _ t s h (as_insert f kind area at made) = subst (λ (z : Took). HasNumbers Greatest z.rec) made
+-- ---- whatever a command makes of it leaves a record sound
+made_sound : {Greatest : ℕ → Type 0} (r : Record) (ns : List ℕ) (t : Took) → Steady r → HasNumbers Greatest r → IsMade r t ns → HasNumbers Greatest t.rec
+made_sound {Greatest} r _ t s h (makes_nothing made) = subst (λ (z : Took). HasNumbers Greatest z.rec) made h
+made_sound {Greatest} r _ t s h (makes_frame name w k new made) = subst (λ (z : Took). HasNumbers Greatest z.rec) made (frame_sound r (Commands.new_frame name w k) h new.numbers (omega arith) (λ n. refl))
+made_sound {Greatest} r _ t s h (makes_object f kind area at made) = subst (λ (z : Took). HasNumbers Greatest z.rec) made
     (object_sound r (Commands.new_object (r.last_object + 1) f (Commands.kind_of kind) area) h refl at.numbers)
-taken_sound {Greatest} r _ t s h (as_start started made) = subst (λ (z : Took). HasNumbers Greatest z.rec) made (server_sound r h started.numbers)
-taken_sound {Greatest} r _ t s h (as_run n inc at run made) = subst (λ (z : Took). HasNumbers Greatest z.rec) made (run_made_sound r at.object inc s h at.own run.margin run.numbers)
-taken_sound {Greatest} r _ t s h (as_edit n bytes go small has made) = subst (λ (z : Took). HasNumbers Greatest z.rec) made (edited_sound r go.at.object go.link bytes s h go.at.own go.linked has)
-taken_sound {Greatest} r _ t s h (as_save f at made) = subst (λ (z : Took). HasNumbers Greatest z.rec) made (saved_sound r f at.frame None (within_of r s h) at.numbers at.calls)
-taken_sound {Greatest} r _ t s h (as_save_as f name at apart own made) = subst (λ (z : Took). HasNumbers Greatest z.rec) made (saved_sound r f at.frame (Some name) (within_of r s h) at.numbers at.calls)
-taken_sound {Greatest} r _ t s h (as_delete n at passive made) = subst (λ (z : Took). HasNumbers Greatest z.rec) made (deleted_sound r at.object h)
-taken_sound {Greatest} r _ t s h (as_kill inc alive made) = subst (λ (z : Took). HasNumbers Greatest z.rec) made h
-taken_sound {Greatest} r _ t s h (as_close n option go ts has row made) = subst (λ (z : Took). HasNumbers Greatest z.rec) made
-    (closed_sound r go.at.object go.at.frame go.link (within_of r s h) go.at.own go.at.inside go.linked has option ts row)
-taken_sound r _ t s h (as_verb n number go verb) = stepped_sound r go.at.object go.at.frame go.link s h go.at.own go.at.inside go.linked verb.verb verb.ts t verb.row verb.stepped
+made_sound {Greatest} r _ t s h (makes_fewer n at passive made) = subst (λ (z : Took). HasNumbers Greatest z.rec) made (deleted_sound r at.object h)
+made_sound {Greatest} r _ t s h (makes_server started made) = subst (λ (z : Took). HasNumbers Greatest z.rec) made (server_sound r h started.numbers)
+made_sound {Greatest} r _ t s h (makes_end inc alive made) = subst (λ (z : Took). HasNumbers Greatest z.rec) made h
+made_sound {Greatest} r _ t s h (makes_activation n inc at run made) = subst (λ (z : Took). HasNumbers Greatest z.rec) made (run_made_sound r at.object inc s h at.own run.margin run.numbers)
+made_sound {Greatest} r _ t s h (makes_edit n bytes go small has made) = subst (λ (z : Took). HasNumbers Greatest z.rec) made (edited_sound r go.at.object go.link bytes s h go.at.own go.linked has)
+made_sound {Greatest} r _ t s h (makes_save f name at other made) = subst (λ (z : Took). HasNumbers Greatest z.rec) made (saved_sound r f at.frame name (within_of r s h) at.numbers at.calls)
+made_sound {Greatest} r _ t s h (makes_steps n go ts has row made) = subst (λ (z : Took). HasNumbers Greatest z.rec) made
+    (row_sound r go.at.object go.at.frame go.link (within_of r s h) go.at.own go.at.inside go.linked has ts row)
+made_sound {Greatest} r _ t s h (makes_taking n go ts taking made) = subst (λ (z : Took). HasNumbers Greatest z.rec) made
+    (claiming_sound r go.at.object go.at.frame go.link (within_of r s h) go.at.own go.at.inside go.linked taking.numbers ts taking)
 
 pub commands_keep : {Greatest : ℕ → Type 0} (r : Record) (c : Command) (t : Took) → Steady r → HasNumbers Greatest r → on_command r c ≡ Ok t → HasNumbers Greatest t.rec
-commands_keep r c t s h e = taken_sound r c t s h (command_taken r c t e)
+commands_keep r c t s h e = made_sound r (run_by c) t s h (command_made r c t e)

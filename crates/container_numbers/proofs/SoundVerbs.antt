@@ -18,18 +18,17 @@ use Rattle.container_model.specs.declared.record.Link.{Link}
 use Rattle.container_model.specs.declared.record.Object.{Object}
 use Rattle.container_model.specs.declared.record.Frame.{Frame}
 use Rattle.container_model.specs.Grants.{grant_of, moved, requested}
-use Rattle.container_model.specs.Record.{Record, Took, asked_link, has_numbers, is_object, with_frame, with_object}
+use Rattle.container_model.specs.Record.{Record, asked_link, has_numbers, is_object, with_frame, with_object}
 use Rattle.container_model.specs.Room.{HasNumbers, IfLinked, IsRoomy}
-use Rattle.container_model.specs.Verbs.{before_taking, claim_of, claimed, gives_up, holder_has_numbers, holder_of, leaving_made, object_has_numbers, operation_of, revoked, revoked_at, stepped_link, steps_now, takes, taking_made}
-use Rattle.container_steady.specs.Steady.{Steady}
-use Rattle.container_steady.specs.Taken.{IsStepped, steps_leave, steps_nothing, steps_take}
+use Rattle.container_model.specs.Verbs.{before_taking, claim_of, claimed, gives_up, holder_has_numbers, holder_of, leaving_made, object_has_numbers, operation_of, revoked, revoked_at, stepped_link, steps_now, taking_made}
+use Rattle.container_steady.specs.Made.{IsRow, IsTaking, row_of_close, row_of_verb}
 use Rattle.container_steady.proofs.SteadyFinds.{find-put_other, find-put_same}
 use Rattle.container_steady.proofs.SteadyLookups.{each_found, each_nth}
 use Rattle.container_steady.proofs.SteadyTells.{if_told}
 use Rattle.container_steady.proofs.SteadyTests.{found_numbered}
 use Rattle.container_numbers.proofs.SoundAsking.{asked_checked, asks_debts, debts_few, one_asked}
 use Rattle.container_numbers.proofs.SoundMoves.{one_framed}
-use Rattle.container_numbers.proofs.SoundRooms.{IsSaved, Owing, Within, debts, put_within, sound_of, within_less, within_of}
+use Rattle.container_numbers.proofs.SoundRooms.{IsSaved, Owing, Within, debts, put_within, sound_of, within_less}
 
 -- ---- the tables ask for at most three steps
 abbrev pub IsFew : Option (List Step) → Type 0
@@ -59,6 +58,10 @@ few_closes option state.Running = omega arith
 few_closes option state.InPlaceActive = omega arith
 few_closes option state.UiActive = omega arith
 few_closes option state.Open = omega arith
+
+few_row : (s : ObjectState) (ts : List Step) → IsRow s ts → length ts ≤ 3
+few_row s ts (row_of_verb v row leaves) = subst IsFew row (few_steps v s)
+few_row s ts (row_of_close option row) = subst IsFew row (few_closes option s)
 
 few_operations : (g : ℕ) (ts : List Step) → length (map (operation_of g) ts) ≡ length ts
 few_operations g [] = refl
@@ -169,13 +172,9 @@ module _ {Greatest : ℕ → Type 0} (r : Record) (o : Object) (frame : Frame) (
       let fewer = fewer_now frame.ui.state ts in
       put_left (revoked r frame o l).rec (stepped_link (r.last_g + 1) l (steps_now frame.ui.state ts)).link (revoked_left (holder_of frame.ui.state) lt c) (stepped after (r.last_g + 1) (steps_now frame.ui.state ts) (omega arith))
 
-  pub closed_sound : (option : CloseOption) (ts : List Step) → close_steps option l.states.object ≡ Some ts → HasNumbers Greatest (leaving_made r frame o l ts).rec
-  closed_sound option ts row = leaving_sound ts (subst IsFew row (few_closes option l.states.object))
+  -- what a row makes: of steps that leave the frame, and of steps that take it
+  pub row_sound : (ts : List Step) → IsRow l.states.object ts → HasNumbers Greatest (leaving_made r frame o l ts).rec
+  row_sound ts row = leaving_sound ts (few_row l.states.object ts row)
 
--- ---- what a verb asks for
-pub stepped_sound : {Greatest : ℕ → Type 0} (r : Record) (o : Object) (frame : Frame) (l : Link) → Steady r → HasNumbers Greatest r → find (is_object o.number) r.objects ≡ Some o → nth r.frames o.frame ≡ Some frame → o.link ≡ Some l → (v : Verb) (ts : List Step) (t : Took) → steps v l.states.object ≡ Some ts → IsStepped r frame o l ts t → HasNumbers Greatest t.rec
-stepped_sound {Greatest} r o frame l s h found at is v ts t row (steps_nothing none made) = subst (λ (z : Took). HasNumbers Greatest z.rec) made h
-stepped_sound {Greatest} r o frame l s h found at is v ts t row (steps_leave has leaves made) = subst (λ (z : Took). HasNumbers Greatest z.rec) made
-    (leaving_sound r o frame l (within_of r s h) found at is has ts (subst IsFew row (few_steps v l.states.object)))
-stepped_sound {Greatest} r o frame l s h found at is v ts t row (steps_take has takes lt holder made) = subst (λ (z : Took). HasNumbers Greatest z.rec) made
-    (taking_sound r o frame l (within_of r s h) found at is has ts (subst IsFew row (few_steps v l.states.object)) lt holder)
+  pub claiming_sound : (ts : List Step) → IsTaking r frame o l ts → HasNumbers Greatest (taking_made r frame o l ts).rec
+  claiming_sound ts k = taking_sound ts (subst IsFew k.row (few_steps k.verb l.states.object)) k.grants k.holder

@@ -1,5 +1,5 @@
 -- A file that is opened, as it is taken, and its objects as they come one by one.
-use Rattle.std.proofs.Common.{◌≡◌, ◌≤◌, ◌<◌, ◌+◌, ◌++◌, ℕ, zero, suc, true, false, not, List, [], ◌∷◌, length, Option, Some, None, Result, Ok, Err, refl, sym, ◌∙◌, ap, arith, subst}
+use Rattle.std.proofs.Common.{◌≡◌, ◌+◌, ◌++◌, ℕ, suc, true, false, not, List, [], ◌∷◌, length, Some, None, Ok, refl, sym, ◌∙◌, ap, arith, subst}
 use Rattle.std.proofs.lemmas.Bool.{leb-false, leb-true, ltb-false}
 use Rattle.std.proofs.lemmas.List.{append_assoc, append-nil}
 use Rattle.std.specs.Prelude.{◌||◌, nat_le, nat_lt, slice_get}
@@ -8,10 +8,10 @@ use Rattle.document_model.specs.DocOf.{is_object}
 use Rattle.document_model.specs.declared.object.DocObject.{DocObject}
 use Rattle.container_model.specs.declared.record.Frame.{Frame}
 use Rattle.container_model.specs.declared.fault.ContainerFault.TheVariants.{BadFile, Busy, Full, NumbersSpent, WrongState}
-use Rattle.container_model.specs.Record.{Record, Took, MOST_FRAMES, MOST_OBJECTS, unless}
+use Rattle.container_model.specs.Record.{Record, Took, MOST_FRAMES, MOST_OBJECTS}
 use Rattle.container_model.specs.Saves.{are_objects, is_document}
 use Rattle.container_model.specs.Commands.{is_named, is_size}
-use Rattle.container_model.specs.Opens.{Given, opened, opened_document, opened_frame, opened_given, opened_made, opened_object, opened_objects, opening}
+use Rattle.container_model.specs.Opens.{Given, opened_given, opened_made, opened_object, opened_objects}
 use Rattle.container_steady.specs.Opened.{FilesAreOpenedSo, IsOpened}
 use Rattle.container_steady.proofs.SteadyTells.{and_both, or_false, unless_ok}
 use Rattle.container_steady.proofs.SteadyTests.{not_false}

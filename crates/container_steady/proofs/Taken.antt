@@ -1,5 +1,5 @@
 -- What holds where a command is taken.
-use Rattle.std.proofs.Common.{◌≡◌, ◌<◌, ◌||◌, ◌&&◌, ℕ, ℤ, Bool, true, false, not, List, [], ◌∷◌, length, nat_le, nat_lt, Option, Some, None, is_some, Result, Ok, Err, refl, ◌∙◌, if◌then◌else◌}
+use Rattle.std.proofs.Common.{◌≡◌, ◌||◌, ◌&&◌, ℕ, ℤ, Bool, true, false, not, List, [], ◌∷◌, length, nat_le, nat_lt, Option, Some, None, is_some, Result, Ok, Err, refl, ◌∙◌, if◌then◌else◌}
 use Rattle.std.proofs.lemmas.Bool.{leb-false}
 use Rattle.std.specs.Str.{bytes_eq}
 use Rattle.wire_msgs.specs.Found.{find, nth}
@@ -22,7 +22,8 @@ use Rattle.container_model.specs.Record.{Record, Took, MARGIN, MOST_FRAMES, MOST
 use Rattle.container_model.specs.Commands
 use Rattle.container_model.specs.Located.{located_at, located_in, located, ready}
 use Rattle.container_model.specs.Verbs as verbs
-use Rattle.container_steady.specs.Taken.{CommandsAreTakenSo, IsInserted, IsNew, IsReadyAt, IsRun, IsRunningAt, IsSaved, IsStarted, IsStepped, IsTakenAs, IsVerb, as_close, as_delete, as_edit, as_insert, as_kill, as_new, as_run, as_save, as_save_as, as_start, as_verb, edited, steps_leave, steps_nothing, steps_take}
+use Rattle.container_steady.specs.Made.{IsMade, TakenIsMade, makes_activation, makes_edit, makes_end, makes_fewer, makes_frame, makes_nothing, makes_object, makes_save, makes_server, makes_steps, makes_taking, row_of_close, row_of_verb, run_by}
+use Rattle.container_steady.specs.Taken.{CommandsAreTakenSo, IsReadyAt, IsRunningAt, IsStepped, IsTakenAs, IsVerb, as_close, as_delete, as_edit, as_insert, as_kill, as_new, as_run, as_save, as_save_as, as_start, as_verb, edited, steps_leave, steps_nothing, steps_take}
 use Rattle.container_steady.proofs.SteadyTells.{or_false, unless_ok}
 use Rattle.container_steady.proofs.SteadyTests.{found_numbered, idle_of, none_of, not_false}
 
@@ -232,3 +233,25 @@ command_taken r (command.Delete n) t e = delete_taken r n t e
 command_taken r (command.Kill inc) t e = kill_taken r inc t e
 command_taken r (command.Close n option) t e = close_taken r n option t e
 command_taken r (command.Verb n number) t e = verb_taken r n number t e
+
+-- what each makes is of a shape
+stepped_made : (r : Record) (n : ℕ) (go : IsRunningAt r n) (number : ℤ) (t : Took) (v : IsVerb r go.at.frame go.at.object go.link number t) → IsStepped r go.at.frame go.at.object go.link v.ts t → IsMade r t []
+stepped_made r n go number t v (steps_nothing none made) = makes_nothing made
+stepped_made r n go number t v (steps_leave has leaves made) = makes_steps n go v.ts has (row_of_verb v.verb v.row leaves) made
+stepped_made r n go number t v (steps_take has takes lt holder made) = makes_taking n go v.ts (record { verb = v.verb; still = v.still; row = v.row; taken = takes; numbers = has; grants = lt; holder = holder }) made
+
+pub taken_made : TakenIsMade
+taken_made r _ t (as_new name w h new made) = makes_frame name w h new made
+taken_made r _ t (as_insert f kind area at made) = makes_object f kind area at made
+taken_made r _ t (as_start started made) = makes_server started made
+taken_made r _ t (as_run n inc at run made) = makes_activation n inc at run made
+taken_made r _ t (as_edit n bytes go small has made) = makes_edit n bytes go small has made
+taken_made r _ t (as_save f at made) = makes_save f None at tt made
+taken_made r _ t (as_save_as f name at apart own made) = makes_save f (Some name) at (apart, own) made
+taken_made r _ t (as_delete n at passive made) = makes_fewer n at passive made
+taken_made r _ t (as_kill inc alive made) = makes_end inc alive made
+taken_made r _ t (as_close n option go ts has row made) = makes_steps n go ts has (row_of_close option row) made
+taken_made r _ t (as_verb n number go verb) = stepped_made r n go number t verb verb.stepped
+
+pub command_made : (r : Record) (c : Command) (t : Took) → Commands.on_command r c ≡ Ok t → IsMade r t (run_by c)
+command_made r c t e = taken_made r c t (command_taken r c t e)

@@ -1,5 +1,5 @@
 -- What holds where a command is taken, and what it made: a case a command.
-use Rattle.std.specs.Prelude.{◌≡◌, ◌<◌, ◌&&◌, ℕ, ℤ, Bool, true, false, List, [], ◌∷◌, length, nat_lt, Option, Some, None, Ok}
+use Rattle.std.specs.Prelude.{◌≡◌, ◌<◌, ◌&&◌, ℕ, ℤ, true, false, List, [], ◌∷◌, length, nat_lt, Some, None, Ok}
 use Rattle.std.specs.Str.{bytes_eq}
 use Rattle.wire_msgs.specs.Found.{find, nth}
 use Rattle.wire_msgs.specs.declared.operation.Operation.TheVariants.{Edit}

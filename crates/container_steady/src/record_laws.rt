@@ -1,5 +1,6 @@
 //! Laws of a steady record. Each function is empty: its contract is the law, which is proved.
 
+ghost use Rattle.container_steady.specs.Made.{TakenIsMade};
 ghost use Rattle.container_steady.specs.Opened.{FilesAreOpenedSo};
 ghost use Rattle.container_steady.specs.Steady.{ClosesAreOpen, CommitsAnsweredContents, DocumentsHold, FullByTheFileAlone, OneObjectAnActivation, SteadyFromTheStart};
 ghost use Rattle.container_steady.specs.Taken.{CommandsAreTakenSo};
@@ -38,6 +39,11 @@ pub fn full_by_the_file_alone()
 /// Each command that is taken has its object and its frame, and makes what its case says.
 pub fn commands_are_taken_so()
     ensures { CommandsAreTakenSo }
+{}
+
+/// What a command that is taken makes is of one of a few shapes.
+pub fn taken_is_made()
+    ensures { TakenIsMade }
 {}
 
 /// Each file that is opened has a name that no frame bears, a size, a document within its limits, and numbers for its

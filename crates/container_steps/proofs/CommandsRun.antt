@@ -1,20 +1,19 @@
 -- A passive object that is activated or goes, in its container.
-use Rattle.std.proofs.Common.{◌≡◌, ◌<◌, ◌≤◌, ◌+◌, arith, ◌||◌, [], ◌∷◌, ℕ, Bool, true, false, not, List, length, nat_le, nat_lt, Option, Some, None, refl, Ok, Err, IfSome, get_or, set, slice_get, sym, ◌∙◌, ap, subst}
+use Rattle.std.proofs.Common.{◌≡◌, ◌<◌, ◌≤◌, ◌+◌, arith, ◌||◌, [], ◌∷◌, ℕ, Bool, true, false, not, List, length, nat_le, nat_lt, Some, Ok, Err, IfSome, get_or, set, slice_get, sym, ◌∙◌, ap, subst}
 use Rattle.std.specs.Prelude.{is_some, remove}
 use Rattle.std.proofs.lemmas.Bool.Decides.{nat_tests}
 use Rattle.std.proofs.lemmas.List.{get_or_default}
-use Rattle.wire_msgs.specs.Found.{IsPlace, nth, put}
+use Rattle.wire_msgs.specs.Found.{IsPlace, put}
 use Rattle.wire_msgs.specs.declared.message.Message.TheVariants.{Call}
 use Rattle.container_model.specs.declared.answer.Action.{Action}
 use Rattle.container_model.specs.declared.answer.Answer.{Answer}
-use Rattle.container_model.specs.declared.fault.ContainerFault.TheVariants.{Busy, InDoubt, NoSuch, WrongState, UnknownClass, NumbersSpent}
-use Rattle.container_model.specs.declared.record.Frame.{Frame}
+use Rattle.container_model.specs.declared.fault.ContainerFault.TheVariants.{NoSuch, WrongState, UnknownClass, NumbersSpent}
 use Rattle.container_model.specs.declared.record.Link.{Link}
 use Rattle.container_model.specs.declared.record.Object.{Object}
 use Rattle.container_model.specs.Commands.{begun_link, delete_made, first_operation, is_known_class, run, run_made, run_object}
 use Rattle.container_model.specs.Located.{located, ready}
 use Rattle.container_model.specs.Numbered.{IsObjectAt}
-use Rattle.container_model.specs.Record.{MARGIN, Record, acts, counts_none, is_alive, is_busy, is_doubtful, is_object, is_saving, quiet_answer, sends, unless, without_first}
+use Rattle.container_model.specs.Record.{MARGIN, Record, acts, counts_none, is_alive, is_object, quiet_answer, sends, unless, without_first}
 use Rattle.container_steps.proofs.VerbsPlaced.{object_here, own_here}
 
 -- what holds of the object that stands there

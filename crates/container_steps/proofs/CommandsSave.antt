@@ -18,7 +18,7 @@ use Rattle.container_model.specs.declared.record.Object.{Object}
 use Rattle.container_model.specs.declared.record.Phase.{Phase}
 use Rattle.container_model.specs.declared.record.Phase.TheVariants.{Idle}
 use Rattle.container_model.specs.Commands.{all_have_numbers, save_made, save_numbered, saving, saving_frame, saving_on}
-use Rattle.container_model.specs.HandOffs.{hand_off_at, handed_off, handing_frame, hands_off}
+use Rattle.container_model.specs.HandOffs.{hand_off_at, handing_frame, hands_off}
 use Rattle.container_model.specs.Numbered.{IsNth}
 use Rattle.container_model.specs.Record.{Record, Took, acts, ask, ask_at, asked_all, asked_link, asked_object, asked_sent, sends}
 use Rattle.container_model.specs.Saves.{awaits, is_awaited_link, settle, settle_actions, settled_actions, settled_frames}

@@ -1,8 +1,8 @@
 -- An object and its frame, where they stand, and the steps that are taken of both.
 use Rattle.std.proofs.Common.{◌≡◌, ◌<◌, ◌||◌, ℕ, zero, suc, arith, true, false, List, [], ◌∷◌, length, Result, Option, Some, None, Err, IfSome, IsSomeAnd, get_or, refl, sym, ◌∙◌, ap, subst, slice_get}
-use Rattle.wire_msgs.specs.Found.{IsPlace, nth}
+use Rattle.wire_msgs.specs.Found.{IsPlace}
 use Rattle.container_model.specs.declared.fault.ContainerFault.{ContainerFault}
-use Rattle.container_model.specs.declared.fault.ContainerFault.TheVariants.{NoSuch, InDoubt, Busy}
+use Rattle.container_model.specs.declared.fault.ContainerFault.TheVariants.{InDoubt, Busy}
 use Rattle.container_model.specs.declared.record.Frame.{Frame}
 use Rattle.container_model.specs.declared.record.Object.{Object}
 use Rattle.container_model.specs.Numbered.{IsNth}

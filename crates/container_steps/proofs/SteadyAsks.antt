@@ -1,5 +1,5 @@
 -- Objects of idle frames that have nothing to do: edits of them keep a record steady.
-use Rattle.std.proofs.Common.{◌≡◌, inl, ℕ, false, List, Option, Some, None, Ok, refl, sym, ap, ◌∙◌, subst}
+use Rattle.std.proofs.Common.{◌≡◌, inl, ℕ, false, List, Some, None, refl, sym, ap, ◌∙◌, subst}
 use Rattle.wire_msgs.specs.Found.{find, nth}
 use Rattle.wire_msgs.specs.declared.operation.Operation.TheVariants.{Edit}
 use Rattle.container_model.specs.declared.record.Link.{Link}
@@ -7,14 +7,14 @@ use Rattle.container_model.specs.declared.record.Object.{Object}
 use Rattle.container_model.specs.declared.record.Frame.{Frame}
 use Rattle.container_model.specs.declared.record.Phase.{Phase}
 use Rattle.container_model.specs.declared.record.Phase.TheVariants.{Idle}
-use Rattle.container_model.specs.Record.{Record, Took, is_object, is_asked, is_busy, is_claim, is_saving, is_doubtful, with_object, ask}
+use Rattle.container_model.specs.Record.{Record, is_object, is_asked, with_object, ask}
 use Rattle.container_steady.specs.Roles.{Role, role_in}
 use Rattle.container_steady.specs.Steady.{SteadyLink, SteadyObject, Steady}
 use Rattle.container_steady.specs.Taken.{edited}
 use Rattle.container_steady.proofs.SteadyLookups.{each_found}
 use Rattle.container_steady.proofs.SteadyLinks.{asked_once, edit_asked}
-use Rattle.container_steady.proofs.SteadyRecords.{unless_ok, or_false, and_some, at_some, if_at, Held, put_steady}
-use Rattle.container_steady.proofs.SteadyTests.{idle_of, none_of, found_numbered}
+use Rattle.container_steady.proofs.SteadyRecords.{and_some, at_some, if_at, Held, put_steady}
+use Rattle.container_steady.proofs.SteadyTests.{none_of}
 
 -- one of an idle frame that has nothing to do
 module _ (r : Record) (o : Object) (frame : Frame) (l : Link) (s : Steady r) (found : find (is_object o.number) r.objects ≡ Some o) (at : nth r.frames o.frame ≡ Some frame) (idle : frame.phase ≡ Idle) (quiet : is_asked o.link ≡ false) (is : o.link ≡ Some l) where

@@ -1,7 +1,7 @@
 -- Commands keep a record steady.
-use Rattle.std.proofs.Common.{◌≡◌, ◌≤◌, ◌<◌, inl, inr, ℕ, zero, suc, ◌+◌, Bool, true, false, not, List, [], ◌∷◌, ◌++◌, length, Option, Some, None, Result, Ok, Err, refl, sym, ap, ◌∙◌, arith, subst, ◌==◌}
-use Rattle.std.proofs.lemmas.Bool.{eqb-true, eqb-false, leb-false, ne_eqb}
-use Rattle.std.specs.Prelude.{IfSome, IsOkAnd, is_some, nat_lt, nat_le, ◌||◌, slice_get}
+use Rattle.std.proofs.Common.{◌≡◌, ◌≤◌, ◌<◌, inl, inr, ℕ, zero, suc, ◌+◌, Bool, true, false, List, [], ◌∷◌, ◌++◌, length, Option, Some, None, Ok, refl, sym, ap, ◌∙◌, arith, subst, ◌==◌}
+use Rattle.std.proofs.lemmas.Bool.{eqb-true, eqb-false, ne_eqb}
+use Rattle.std.specs.Prelude.{IfSome, IsOkAnd, nat_lt, slice_get}
 use Rattle.wire_msgs.specs.Found.{find, put, nth}
 use Rattle.wire_msgs.specs.declared.operation.Operation.{Operation}
 use Rattle.wire_msgs.specs.declared.operation.Operation.TheVariants.{InitNew, Load, Save}
@@ -12,7 +12,6 @@ use Rattle.object_state.specs.Both as both
 use Rattle.storage_tree.specs.declared.streams.NamedStream.{NamedStream}
 use Rattle.embed_core.specs.Kinds.{Kind, Note, Table, Drawing}
 use Rattle.object_parts.specs.Limits.{is_within}
-use Rattle.object_parts.specs.declared.area.Area.{Area}
 use Rattle.ole_parts.specs.CompObjs.{PAST_USER_TYPE}
 use Rattle.container_model.specs.declared.record.Link.{Link}
 use Rattle.container_model.specs.declared.record.Object.{Object}
@@ -20,23 +19,23 @@ use Rattle.container_model.specs.declared.record.Frame.{Frame}
 use Rattle.container_model.specs.declared.record.Phase.{Phase}
 use Rattle.container_model.specs.declared.record.Phase.TheVariants.{Idle, Saving}
 use Rattle.container_model.specs.declared.command.Command.{Command}
-use Rattle.container_model.specs.Record.{Record, Took, MOST_FRAMES, MOST_OBJECTS, MOST_SERVERS, MARGIN, is_object, is_alive, is_asked, is_busy, is_claim, is_moving, is_saving, is_doubtful, count_alive, count_objects, is_unreaped, acts, counts_none, without_first, asked_link, asked_object}
+use Rattle.container_model.specs.Record.{Record, Took, MOST_OBJECTS, is_object, is_alive, is_asked, is_busy, is_claim, count_objects, is_unreaped, without_first, asked_link, asked_object}
 use Rattle.grant_core.specs.Grants.{waiting}
 use Rattle.container_model.specs.Commands
 use Rattle.container_steady.specs.Roles.{IsClaim, IsPlain, Other, Role, SteadyGrant, role_in}
 use Rattle.container_steady.specs.Steady.{SteadyLink, SteadyObject, SteadyFrame, InOrder, Steady, IsBeginning, IsTimely, EndsWell, ended}
-use Rattle.container_steady.proofs.SteadyLookups.{each_found, each_weaker, each_both, each_put, each_map, each_append, each_set, each_nth, pairs_put, pairs_map, pairs_append, nth_append, none_busy}
+use Rattle.container_steady.proofs.SteadyLookups.{each_found, each_weaker, each_both, each_put, each_map, each_append, each_set, pairs_put, pairs_map, pairs_append, nth_append, none_busy}
 use Rattle.container_steady.proofs.SteadyCounts.{count_put, count_map, count_more, count_without, each_without, pairs_without}
 use Rattle.container_steady.proofs.SteadyLinks.{link_moved, save_asked}
-use Rattle.container_steady.proofs.SteadyRecords.{if_told, unless_ok, or_false, some_and, and_some, if_weaker, Held as HeldIn, Apart, apart_none, IsOut, TookPlace, order_both, settle_steady}
-use Rattle.container_steady.proofs.SteadyTests.{idle_of, not_false, none_of, found_numbered, asked_follows, link_asked}
+use Rattle.container_steady.proofs.SteadyRecords.{if_told, or_false, some_and, and_some, if_weaker, Held as HeldIn, Apart, apart_none, IsOut, order_both, settle_steady}
+use Rattle.container_steady.proofs.SteadyTests.{none_of}
 use Rattle.container_steady.proofs.SteadyMoves.{set_object, unset_object}
-use Rattle.container_steady.proofs.SteadyClaims.{KeepsLink, LinkStays, append_back, claim_kept, grant_kept, keeps_append, keeps_map, keeps_put, keeps_refl, keeps_without, set_back}
-use Rattle.container_steady.specs.Taken.{IsTakenAs, as_close, as_delete, as_edit, as_insert, as_kill, as_new, as_run, as_save, as_save_as, as_start, as_verb}
-use Rattle.container_steady.proofs.Taken.{command_taken}
+use Rattle.container_steady.proofs.SteadyClaims.{KeepsLink, append_back, claim_kept, grant_kept, keeps_append, keeps_map, keeps_put, keeps_refl, keeps_without, set_back}
+use Rattle.container_steady.specs.Made.{IsMade, makes_activation, makes_edit, makes_end, makes_fewer, makes_frame, makes_nothing, makes_object, makes_save, makes_server, makes_steps, makes_taking, run_by}
+use Rattle.container_steady.proofs.Taken.{command_made}
 use Rattle.container_steps.proofs.SteadyAsks.{edit_keeps}
 use Rattle.container_steps.proofs.SteadyHandOffs.{asked_stays, asked_took, hand_off_in_steady}
-use Rattle.container_steps.proofs.SteadyVerbs.{closing_keeps, stepped_keeps}
+use Rattle.container_steps.proofs.SteadyVerbs.{claiming_keeps, row_keeps}
 
 -- a new frame
 framed : (r : Record) (frame : Frame) (o : Object) → SteadyObject r o → SteadyObject (record r { frames = r.frames ++ frame ∷ [] }) o
@@ -252,22 +251,24 @@ deleted_steady r o s found passive =
       grants = λ f x e. grant_kept r after f x.ui.state (λ c names k. claim_kept r after f c (keeps_without r.objects o.number c.object (λ q. unclaimed r f c o k found passive (sym q))) (omega arith) k) (s.grants f x e);
     }
 
--- each command keeps a record steady
-taken_keeps : (r : Record) (c : Command) (t : Took) → Steady r → IsTakenAs r t c → Steady t.rec
-taken_keeps r _ t s (as_new name w h new made) = subst (λ (z : Took). Steady z.rec) made (frame_steady r (Commands.new_frame name w h) s (record { asked = refl }) refl)
-taken_keeps r _ t s (as_insert f kind area at made) = subst (λ (z : Took). Steady z.rec) made
+-- whatever a command makes of it keeps a record steady
+made_keeps : (r : Record) (ns : List ℕ) (t : Took) → Steady r → IsMade r t ns → Steady t.rec
+made_keeps r _ t s (makes_nothing made) = subst (λ (z : Took). Steady z.rec) made s
+made_keeps r _ t s (makes_frame name w h new made) = subst (λ (z : Took). Steady z.rec) made (frame_steady r (Commands.new_frame name w h) s (record { asked = refl }) refl)
+made_keeps r _ t s (makes_object f kind area at made) = subst (λ (z : Took). Steady z.rec) made
     (object_steady r (Commands.new_object (r.last_object + 1) f (Commands.kind_of kind) area) at.frame s refl refl at.there refl (user_type_fits (Commands.kind_of kind)) at.few)
-taken_keeps r _ t s (as_start started made) = subst (λ (z : Took). Steady z.rec) made (start_steady r s)
-taken_keeps r _ t s (as_run n inc at run made) = subst (λ (z : Took). Steady z.rec) made
+made_keeps r _ t s (makes_fewer n at passive made) = subst (λ (z : Took). Steady z.rec) made (deleted_steady r at.object s at.own passive)
+made_keeps r _ t s (makes_server started made) = subst (λ (z : Took). Steady z.rec) made (start_steady r s)
+made_keeps r _ t s (makes_end inc alive made) = subst (λ (z : Took). Steady z.rec) made s
+made_keeps r _ t s (makes_activation n inc at run made) = subst (λ (z : Took). Steady z.rec) made
     (run_steady r at.object inc (Commands.first_operation at.object at.object.work.streams) at.frame s at.own run.alive (first_begins at.object at.object.work.streams) at.inside at.idle run.passive)
-taken_keeps r _ t s (as_edit n bytes go small has made) = subst (λ (z : Took). Steady z.rec) made (edit_keeps r go.at.object go.at.frame go.link s go.at.own go.at.inside go.at.idle go.at.quiet go.linked bytes)
-taken_keeps r _ t s (as_save f at made) = subst (λ (z : Took). Steady z.rec) made (settle_steady (Commands.saving_on r f at.frame None).rec (hand_off_in_steady (Commands.saving r f at.frame None) f (saving_steady r f at.frame s at.there at.idle None at.frame.ui.state at.quiet)))
-taken_keeps r _ t s (as_save_as f name at apart own made) = subst (λ (z : Took). Steady z.rec) made (settle_steady (Commands.saving_on r f at.frame (Some name)).rec (hand_off_in_steady (Commands.saving r f at.frame (Some name)) f (saving_steady r f at.frame s at.there at.idle (Some name) at.frame.ui.state at.quiet)))
-taken_keeps r _ t s (as_delete n at passive made) = subst (λ (z : Took). Steady z.rec) made (deleted_steady r at.object s at.own passive)
-taken_keeps r _ t s (as_kill inc alive made) = subst (λ (z : Took). Steady z.rec) made s
-taken_keeps r _ t s (as_close n option go ts has row made) = subst (λ (z : Took). Steady z.rec) made
-    (closing_keeps r go.at.object go.at.frame go.link s go.at.own go.at.inside go.at.idle go.at.quiet go.linked go.at.unclaimed option ts row)
-taken_keeps r _ t s (as_verb n number go verb) = stepped_keeps r go.at.object go.at.frame go.link s go.at.own go.at.inside go.at.idle go.at.quiet go.linked go.at.unclaimed verb.verb verb.ts t verb.still verb.row verb.stepped
+made_keeps r _ t s (makes_edit n bytes go small has made) = subst (λ (z : Took). Steady z.rec) made (edit_keeps r go.at.object go.at.frame go.link s go.at.own go.at.inside go.at.idle go.at.quiet go.linked bytes)
+made_keeps r _ t s (makes_save f name at other made) = subst (λ (z : Took). Steady z.rec) made
+    (settle_steady (Commands.saving_on r f at.frame name).rec (hand_off_in_steady (Commands.saving r f at.frame name) f (saving_steady r f at.frame s at.there at.idle name at.frame.ui.state at.quiet)))
+made_keeps r _ t s (makes_steps n go ts has row made) = subst (λ (z : Took). Steady z.rec) made
+    (row_keeps r go.at.object go.at.frame go.link s go.at.own go.at.inside go.at.idle go.at.quiet go.linked go.at.unclaimed ts row)
+made_keeps r _ t s (makes_taking n go ts taking made) = subst (λ (z : Took). Steady z.rec) made
+    (claiming_keeps r go.at.object go.at.frame go.link s go.at.own go.at.inside go.at.idle go.at.quiet go.linked go.at.unclaimed ts taking)
 
 pub on_command_keeps : (r : Record) (c : Command) (t : Took) → Steady r → Commands.on_command r c ≡ Ok t → Steady t.rec
-on_command_keeps r c t s e = taken_keeps r c t s (command_taken r c t e)
+on_command_keeps r c t s e = made_keeps r (run_by c) t s (command_made r c t e)

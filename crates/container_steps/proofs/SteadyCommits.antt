@@ -13,12 +13,12 @@ use Rattle.container_model.specs.declared.record.Frame.{Frame}
 use Rattle.container_model.specs.declared.record.Phase.{Phase}
 use Rattle.container_model.specs.declared.record.Phase.TheVariants.{Idle, Committing, InDoubt}
 use Rattle.container_model.specs.Record.{Record, Took, MOST_OBJECTS, ask, asked_link}
-use Rattle.container_model.specs.Saves.{commit_at, commit_done, commit_doubted, commit_failed, commit_made, kept, cleared, completion, completed, doubted_frame, dropped_object, is_some_name, name_after, resolve, resolved_at, save_dropped}
+use Rattle.container_model.specs.Saves.{commit_at, commit_done, commit_doubted, commit_failed, commit_made, kept, cleared, completion, completed, doubted_frame, dropped_object, name_after, resolve, resolved_at, save_dropped}
 use Rattle.grant_core.specs.declared.grant_states.GrantState.{GrantState}
 use Rattle.container_steady.specs.Roles.{Role, SteadyGrant, role_in}
 use Rattle.container_steady.specs.Steady.{IsUnsettled, SteadyLink, SteadyObject, SteadyFrame, InOrder, Steady}
 use Rattle.container_steady.proofs.Settling.{done_commits, is_dropped, is_failed, kept_commits}
-use Rattle.container_steady.proofs.SteadyLookups.{each_map, each_nth, each_set, each_weaker, pairs_map}
+use Rattle.container_steady.proofs.SteadyLookups.{each_map, each_set, each_weaker, pairs_map}
 use Rattle.container_steady.proofs.SteadyContents.{completed_if, dropped_if}
 use Rattle.container_steady.proofs.SteadyCounts.{count_map}
 use Rattle.container_steady.proofs.SteadyLinks.{completion_asked, drop_asked, now_doubtful, undoubted}

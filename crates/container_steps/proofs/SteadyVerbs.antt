@@ -1,10 +1,10 @@
 -- Verbs and closes keep a record steady.
-use Rattle.std.proofs.Common.{◌≡◌, ℕ, Bool, true, false, not, List, [], ◌∷◌, map, Option, Some, None, Result, Ok, refl, sym, ap, ◌∙◌, arith, subst, if◌then◌else◌, eq-eqb}
-use Rattle.std.specs.Prelude.{IsOkAnd, ◌||◌, ◌&&◌, ℤ, nat_le}
+use Rattle.std.proofs.Common.{◌≡◌, ℕ, Bool, true, false, List, [], ◌∷◌, map, Some, None, Result, Ok, refl, sym, ap, ◌∙◌, arith, subst, if◌then◌else◌, eq-eqb}
+use Rattle.std.specs.Prelude.{IsOkAnd, ◌&&◌}
 use Rattle.std.specs.List.{AllByRecursion}
 use Rattle.wire_msgs.specs.Found.{find, nth, put}
 use Rattle.object_state.specs.Laws.{goal_of}
-use Rattle.object_state.specs.Verbs.{activates_ui, close_steps, steps, verb_of}
+use Rattle.object_state.specs.Verbs.{activates_ui, close_steps, steps}
 use Rattle.object_state.specs.declared.both_states.States.{States}
 use Rattle.object_state.specs.declared.faults.StateFault.{StateFault}
 use Rattle.object_state.specs.declared.operations.CloseOption.{CloseOption}
@@ -28,23 +28,18 @@ use Rattle.container_model.specs.declared.record.Object.{Object}
 use Rattle.container_model.specs.declared.record.Frame.{Frame}
 use Rattle.container_model.specs.declared.record.Phase.{Phase}
 use Rattle.container_model.specs.declared.record.Phase.TheVariants.{Idle}
-use Rattle.container_model.specs.declared.fault.ContainerFault.{ContainerFault}
-use Rattle.container_model.specs.declared.fault.ContainerFault.TheVariants.{Busy, InDoubt as Doubtful, NumbersSpent}
 use Rattle.container_model.specs.Grants.{grant_of, moved}
-use Rattle.container_model.specs.Record.{Record, Took, counts_none, has_numbers, is_asked, is_busy, is_claim, is_doubtful, is_moving, is_object, is_saving, quiet_answer, with_frame, with_object}
-use Rattle.container_model.specs.Verbs as verbs
+use Rattle.container_model.specs.Record.{Record, is_asked, is_claim, is_moving, is_object, with_frame, with_object}
 use Rattle.container_model.specs.Verbs.{claim_of, gives_up, leaving_made, operation_of, stepped_link, takes, taking_made}
 use Rattle.container_steady.specs.Roles.{IsClaim, IsPlain, IsShown, Other, Giving, Role, SteadyGrant, role_in}
 use Rattle.container_steady.specs.Steady.{ended, EndsAs, EndsWell, SteadyLink, Steady}
-use Rattle.container_steady.specs.Taken.{IsStepped, steps_leave, steps_nothing, steps_take}
+use Rattle.container_steady.specs.Made.{IsRow, IsTaking, row_of_close, row_of_verb}
 use Rattle.container_steps.proofs.SteadyAsks.{held_idle, free, linked_keeps, was}
 use Rattle.container_steady.proofs.SteadyLinks.{asked_each, quiet_asked, quiet_ends, quiet_plays}
 use Rattle.container_steady.proofs.SteadyMoves.{But, SteadyBut, all_steady, gives_it, has_it, move_but, moved_to, parts_ended, put_but, set_object}
-use Rattle.container_steady.proofs.SteadyRecords.{if_told, unless_ok, or_false}
 use Rattle.container_steady.proofs.SteadyRoles.{AtHeld, AtRest, holds, rests, at_rest, is_ui}
 use Rattle.container_steps.proofs.SteadySteps.{LeavesFrom, TakesFrom, hidden, placed, leaves_nothing, leaves_frame, leaves_plain, closing_from, close_runs, leaving_from, steps_timely, taking_from, verb_runs}
 use Rattle.container_steps.proofs.SteadyTaking.{still_at, taking_keeps}
-use Rattle.container_steady.proofs.SteadyTests.{idle_of, found_numbered}
 
 -- where an object's own claim is, its activation has it
 pub claim_act : (r : Record) (f : ℕ) (c : Claim) (x : Object) (l : Link) → IsClaim r f c → c.object ≡ x.number → find (is_object x.number) r.objects ≡ Some x → x.link ≡ Some l → l.act ≡ c.act
@@ -144,7 +139,7 @@ module _ (r : Record) (o : Object) (frame : Frame) (l : Link) (s : Steady r) (fo
   rows : l.states ≡ record { persist = record { state = Normal; last_save = l.states.persist.last_save }; object = l.states.object }
   rows = ap (λ (p : PersistState). record { persist = record { state = p; last_save = l.states.persist.last_save }; object = l.states.object }) ends.storage
 
-  pub closing_keeps : (option : CloseOption) (ts : List Step) → close_steps option l.states.object ≡ Some ts → Steady (leaving_made r frame o l ts).rec
+  closing_keeps : (option : CloseOption) (ts : List Step) → close_steps option l.states.object ≡ Some ts → Steady (leaving_made r frame o l ts).rec
   closing_keeps option ts e = leaving_at l.states.object ts (record { persist = record { state = Normal; last_save = l.states.persist.last_save }; object = Passive }) refl (closing_from option l.states.object ts e)
       (ap (λ (v : States). ended (Ok v) (map (operation_of 0) ts)) rows ∙ close_runs option 0 l.states.object ts l.states.persist.last_save e)
       (record { storage = refl; last_save = ends.last_save; running = tt; waits = tt })
@@ -157,20 +152,22 @@ module _ (r : Record) (o : Object) (frame : Frame) (l : Link) (s : Steady r) (fo
   goal_running verb.UiActivate = tt
   goal_running InPlaceActivate = tt
 
-  pub leaving_keeps : (v : Verb) (ts : List Step) → steps v l.states.object ≡ Some ts → takes ts ≡ false → Steady (leaving_made r frame o l ts).rec
+  leaving_keeps : (v : Verb) (ts : List Step) → steps v l.states.object ≡ Some ts → takes ts ≡ false → Steady (leaving_made r frame o l ts).rec
   leaving_keeps v ts e n = leaving_at l.states.object ts (record { persist = record { state = Normal; last_save = l.states.persist.last_save }; object = goal_of v }) refl (leaving_from v l.states.object ts e n)
       (ap (λ (v : States). ended (Ok v) (map (operation_of 0) ts)) rows ∙ verb_runs v 0 l.states.object ts l.states.persist.last_save e)
       (record { storage = refl; last_save = ends.last_save; running = goal_running v; waits = tt })
 
-  -- what a verb or a close makes
+  -- what a row makes: of steps that leave the frame, and of steps that take it
+  pub row_keeps : (ts : List Step) → IsRow l.states.object ts → Steady (leaving_made r frame o l ts).rec
+  row_keeps ts (row_of_verb v row leaves) = leaving_keeps v ts row leaves
+  row_keeps ts (row_of_close option row) = closing_keeps option ts row
+
   takes_ui : (v : Verb) (a : ObjectState) (ts : List Step) → TakesFrom v a ts → activates_ui v ≡ true
   takes_ui v a ts (hidden e) = e
   takes_ui v a ts (placed e) = e
 
-  pub stepped_keeps : (v : Verb) (ts : List Step) (t : Took) → (activates_ui v && is_moving frame.ui.state) ≡ false → steps v l.states.object ≡ Some ts → IsStepped r frame o l ts t → Steady t.rec
-  stepped_keeps v ts t moves e (steps_nothing none made) = subst (λ (z : Took). Steady z.rec) made s
-  stepped_keeps v ts t moves e (steps_leave has leaves made) = subst (λ (z : Took). Steady z.rec) made (leaving_keeps v ts e leaves)
-  stepped_keeps v ts t moves e (steps_take has takes lt holder made) =
-      let from = taking_from v l.states.object ts e takes in
-      let rest : is_moving frame.ui.state ≡ false = subst (λ (z : Bool). (z && is_moving frame.ui.state) ≡ false) (takes_ui v l.states.object ts from) moves in
-      subst (λ (z : Took). Steady z.rec) made (taking_keeps r o frame l s found at idle quiet is unclaimed v l.states.object ts refl from (still_at frame.ui.state rest))
+  pub claiming_keeps : (ts : List Step) → IsTaking r frame o l ts → Steady (taking_made r frame o l ts).rec
+  claiming_keeps ts h =
+      let from = taking_from h.verb l.states.object ts h.row h.taken in
+      let rest : is_moving frame.ui.state ≡ false = subst (λ (z : Bool). (z && is_moving frame.ui.state) ≡ false) (takes_ui h.verb l.states.object ts from) h.still in
+      taking_keeps r o frame l s found at idle quiet is unclaimed h.verb l.states.object ts refl from (still_at frame.ui.state rest)

@@ -1,7 +1,7 @@
 -- An object and its frame, where they stand in their container.
 use Rattle.std.proofs.Common.{◌≡◌, ◌<◌, ℕ, length, Result, Option, Some, None, Ok, get_or, set, refl, sym, ◌∙◌, ap, subst, IfSome, slice_get}
 use Rattle.std.proofs.lemmas.Option.{slice_get_read}
-use Rattle.wire_msgs.specs.Found.{IsPlace, nth, put, set_nth}
+use Rattle.wire_msgs.specs.Found.{IsPlace, put, set_nth}
 use Rattle.container_model.specs.declared.answer.Answer.{Answer}
 use Rattle.container_model.specs.declared.fault.ContainerFault.{ContainerFault}
 use Rattle.container_model.specs.declared.record.Frame.{Frame}

@@ -26,8 +26,6 @@ use Rattle.container_model.specs.declared.fault.ContainerFault.{ContainerFault}
 use Rattle.container_model.specs.declared.fault.ContainerFault.TheVariants.{Full, WrongState}
 use Rattle.world_model.specs.declared.logs.Sent.{Sent}
 use Rattle.world_model.specs.declared.logs.Taken.{Taken}
-use Rattle.world_model.specs.declared.logs.Document.{Document}
-use Rattle.world_model.specs.declared.logs.File.{File}
 use Rattle.world_model.specs.declared.life.Life.{Life}
 use Rattle.world_model.specs.declared.life.Life.TheVariants.{Running, Ended, Reaped}
 use Rattle.world_model.specs.declared.event.Event.{Event}
@@ -42,10 +40,10 @@ use Rattle.world_files.specs.Files.{id_of, CountedBounded, FilesCounted, HasComm
 use Rattle.world_facts.proofs.Lookups.{map_map_same}
 use Rattle.world_files.proofs.Numbering.{numbered}
 use Rattle.world_files.proofs.Moving.{id_asked}
-use Rattle.world_files.proofs.Quiet.{IsQuiet, command_quiet, doubt_quiet, drop_quiet, message_quiet, named, reap_quiet, renaming_quiet}
-use Rattle.container_steady.specs.Taken.{IsTakenAs, as_close, as_delete, as_edit, as_insert, as_kill, as_new, as_run, as_save, as_save_as, as_start, as_verb}
+use Rattle.world_files.proofs.Quiet.{IsQuiet, doubt_quiet, drop_quiet, leaving_quiet, linked_quiet, message_quiet, named, reap_quiet, renaming_quiet, same_quiet, save_quiet, taking_quiet}
+use Rattle.container_steady.specs.Made.{IsMade, IsOtherName, makes_activation, makes_edit, makes_end, makes_fewer, makes_frame, makes_nothing, makes_object, makes_save, makes_server, makes_steps, makes_taking, run_by}
 use Rattle.container_steady.proofs.Opening.{is_opened}
-use Rattle.container_steady.proofs.Taken.{command_taken}
+use Rattle.container_steady.proofs.Taken.{command_made}
 use Rattle.world_files.proofs.Bounding.{bounded_asking, bounded_same, bounded_framed, bounded_more, bounded_object, bounded_fewer, bounded_committed, among_without, opened_past}
 use Rattle.world_files.proofs.Commits.{counted_framed, counted_committed}
 use Rattle.world_files.proofs.Filing.{stored_asking, stored_same, stored_framed, stored_committed}
@@ -93,32 +91,38 @@ map_one : {A B : Type 0} (f : A → B) (xs : List A) (x : A) → map f (xs ++ x 
 map_one f [] x = refl
 map_one f (y ∷ ys) x = ap (λ vs. f y ∷ vs) (map_one f ys x)
 
-files_taken : (w : World) (c : Command) (t : Took) → Steady w.rec → Files w → IsTakenAs w.rec t c → Files (joined w t)
-files_taken w _ t s k (as_new name x y new made) =
+-- a save, under the frame's name or under another one
+files_saving : (w : World) (f : ℕ) (frame : Frame) (name : Option (List ℕ)) → nth w.rec.frames f ≡ Some frame → IsOtherName w.rec f frame name → Files w → Files (joined w (save_made w.rec f frame name))
+files_saving w f frame None at other k = files_quiet w (save_made w.rec f frame None) k (save_quiet w.rec f frame at)
+files_saving w f frame (Some name) at other k =
+    let r = w.rec in
+    let asking : World = record w { rec = named r f frame name } in
+    let asked : Files asking = record {
+      counted_bounded = bounded_asking r.frames f frame name (map id_of r.objects) r.last_object w.container_done at k.counted_bounded;
+      filed = stored_asking r.frames f frame name w.files w.counted w.container_done at other.0 k.filed;
+      commits = k.commits;
+    } in
+    let h : Files (joined asking (save_made r f frame (Some name))) = files_quiet asking (save_made r f frame (Some name)) asked (renaming_quiet r f frame name at) in
+    record { counted_bounded = h.counted_bounded; filed = h.filed; commits = h.commits }
+
+-- whatever a command makes
+files_made : (w : World) (ns : List ℕ) (t : Took) → Steady w.rec → Files w → IsMade w.rec t ns → Files (joined w t)
+files_made w _ t s k (makes_nothing made) = files_quiet w t k (subst (IsQuiet w.rec) made (same_quiet w.rec _ refl refl refl refl))
+files_made w _ t s k (makes_frame name x y new made) =
     let r = w.rec in
     subst (λ (v : Took). Files (joined w v)) made (record {
       counted_bounded = bounded_framed r.frames (new_frame name x y) (map id_of r.objects) r.last_object w.container_done (numbered r s) k.counted_bounded;
       filed = stored_framed r.frames (new_frame name x y) w.files w.counted w.container_done new.unnamed refl k.filed;
       commits = counted_framed w.counted w.container_done k.commits;
     })
-files_taken w _ t s k (as_insert f kind area at made) =
+files_made w _ t s k (makes_object f kind area at made) =
     let r = w.rec in
     subst (λ (v : Took). Files (joined w v)) made (record {
       counted_bounded = subst (λ ids. CountedBounded r.frames ids (r.last_object + 1) w.container_done) (sym (map_one id_of r.objects _)) (bounded_object r.frames (map id_of r.objects) r.last_object f w.container_done k.counted_bounded);
       filed = subst (λ cs. FilesCounted r.frames w.files cs w.container_done) (sym (append-nil w.counted)) k.filed;
       commits = subst (λ cs. HasCommits cs w.container_done) (sym (append-nil w.counted)) k.commits;
     })
-files_taken w _ t s k (as_save_as f name at free other made) =
-    let r = w.rec in
-    let asking : World = record w { rec = named r f at.frame name } in
-    let asked : Files asking = record {
-      counted_bounded = bounded_asking r.frames f at.frame name (map id_of r.objects) r.last_object w.container_done at.there k.counted_bounded;
-      filed = stored_asking r.frames f at.frame name w.files w.counted w.container_done at.there free k.filed;
-      commits = k.commits;
-    } in
-    let h : Files (joined asking (save_made r f at.frame (Some name))) = files_quiet asking (save_made r f at.frame (Some name)) asked (renaming_quiet r f at.frame name at.there) in
-    subst (λ (v : Took). Files (joined w v)) made (record { counted_bounded = h.counted_bounded; filed = h.filed; commits = h.commits })
-files_taken w _ t s k (as_delete n at passive made) =
+files_made w _ t s k (makes_fewer n at passive made) =
     let r = w.rec in
     let x = at.object in
     subst (λ (v : Took). Files (joined w v)) made (record {
@@ -126,16 +130,16 @@ files_taken w _ t s k (as_delete n at passive made) =
       filed = subst (λ cs. FilesCounted r.frames w.files cs w.container_done) (sym (append-nil w.counted)) k.filed;
       commits = subst (λ cs. HasCommits cs w.container_done) (sym (append-nil w.counted)) k.commits;
     })
-files_taken w _ t s k (as_start started made) = files_quiet w t k (command_quiet w.rec _ t tt (as_start started made))
-files_taken w _ t s k (as_run n inc at run made) = files_quiet w t k (command_quiet w.rec _ t tt (as_run n inc at run made))
-files_taken w _ t s k (as_edit n bytes go small has made) = files_quiet w t k (command_quiet w.rec _ t tt (as_edit n bytes go small has made))
-files_taken w _ t s k (as_save f at made) = files_quiet w t k (command_quiet w.rec _ t tt (as_save f at made))
-files_taken w _ t s k (as_kill inc alive made) = files_quiet w t k (command_quiet w.rec _ t tt (as_kill inc alive made))
-files_taken w _ t s k (as_close n option go ts has row made) = files_quiet w t k (command_quiet w.rec _ t tt (as_close n option go ts has row made))
-files_taken w _ t s k (as_verb n number go verb) = files_quiet w t k (command_quiet w.rec _ t tt (as_verb n number go verb))
+files_made w _ t s k (makes_server started made) = files_quiet w t k (subst (IsQuiet w.rec) made (same_quiet w.rec _ refl refl refl refl))
+files_made w _ t s k (makes_end inc alive made) = files_quiet w t k (subst (IsQuiet w.rec) made (same_quiet w.rec _ refl refl refl refl))
+files_made w _ t s k (makes_activation n inc at run made) = files_quiet w t k (subst (IsQuiet w.rec) made (linked_quiet w.rec _ n at.object _ at.found refl refl refl refl))
+files_made w _ t s k (makes_edit n bytes go small has made) = files_quiet w t k (subst (IsQuiet w.rec) made (linked_quiet w.rec _ n go.at.object _ go.at.found refl refl refl refl))
+files_made w _ t s k (makes_save f name at other made) = subst (λ (v : Took). Files (joined w v)) made (files_saving w f at.frame name at.there other k)
+files_made w _ t s k (makes_steps n go ts has row made) = files_quiet w t k (subst (IsQuiet w.rec) made (leaving_quiet w.rec n go.at.frame go.at.object go.link ts go.at.found go.at.inside))
+files_made w _ t s k (makes_taking n go ts taking made) = files_quiet w t k (subst (IsQuiet w.rec) made (taking_quiet w.rec n go.at.frame go.at.object go.link ts go.at.found go.at.inside))
 
 files_command : (w : World) (c : Command) (t : Took) → Steady w.rec → Files w → on_command w.rec c ≡ Ok t → Files (joined w t)
-files_command w c t s k e = files_taken w c t s k (command_taken w.rec c t e)
+files_command w c t s k e = files_made w (run_by c) t s k (command_made w.rec c t e)
 
 -- a file that is opened
 map_join : {A B : Type 0} (f : A → B) (xs ys : List A) → map f (xs ++ ys) ≡ map f xs ++ map f ys

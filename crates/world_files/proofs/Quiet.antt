@@ -1,10 +1,9 @@
 -- Steps of the container that leave files and what was counted alone.
 use Rattle.std.proofs.Common.{◌≡◌, ◌≢◌, ◌==◌, ℕ, ◌+◌, Bool, true, false, List, map, Option, Some, None, Result, Ok, Err, refl, sym, ap, ◌∙◌, subst, if◌then◌else◌}
-use Rattle.wire_msgs.specs.Found.{find, nth}
+use Rattle.wire_msgs.specs.Found.{find, nth, put}
 use Rattle.wire_msgs.specs.declared.message.Message.{Message}
 use Rattle.wire_msgs.specs.declared.message.Message.TheVariants.{Call, Reply, Write}
 use Rattle.wire_msgs.specs.declared.message.Message.TheVariants as message
-use Rattle.wire_msgs.specs.declared.operation.Operation.{Operation}
 use Rattle.wire_msgs.specs.declared.operation.Operation.TheVariants.{Save, SaveDropped, UiDeactivate}
 use Rattle.wire_msgs.specs.declared.answer.Answer.{Answer}
 use Rattle.object_parts.specs.Limits.{is_within}
@@ -18,10 +17,7 @@ use Rattle.container_model.specs.declared.record.Frame.{Frame}
 use Rattle.container_model.specs.declared.fault.ContainerFault.{ContainerFault}
 use Rattle.container_model.specs.declared.record.Phase.TheVariants.{Idle}
 use Rattle.container_model.specs.declared.fault.ContainerFault.TheVariants.{WrongLink, Stale, BadAnswer, NoSuch}
-use Rattle.container_model.specs.declared.command.Command.{Command}
-use Rattle.container_model.specs.declared.command.Command.TheVariants as command
-use Rattle.container_steady.specs.Taken.{IsStepped, IsTakenAs, as_close, as_delete, as_edit, as_insert, as_kill, as_new, as_run, as_save, as_save_as, as_start, as_verb, steps_leave, steps_nothing, steps_take}
-use Rattle.container_model.specs.Record.{Record, Took, quiet_answer, counts_none, acts, sends, with_frame, is_object, is_linked, is_alive, asked_link, asked_object}
+use Rattle.container_model.specs.Record.{Record, Took, counts_none, acts, sends, with_frame, is_object, is_linked, is_alive, asked_object}
 use Rattle.container_model.specs.Saves.{commit_doubted, doubted_frame, dropped_frame, dropped_object, forgotten_object, save_dropped, cleared, kept}
 use Rattle.container_model.specs.Grants.{grant_of, moved, request}
 use Rattle.container_model.specs.Verbs.{claim_of, gives_up, left, stepped_link, leaving_made, holder_of, revoked_at, claimed, revoked, steps_now, taking_made}
@@ -55,7 +51,7 @@ saving_quiet r w f frame name same os last =
     } in
     moved_quiet w (save_made r f frame name) (moved_settled w u (moved_after w v u begun (handed_moved v f))) refl
 
-save_quiet : (r : Record) (f : ℕ) (frame : Frame) → nth r.frames f ≡ Some frame → IsQuiet r (save_made r f frame None)
+pub save_quiet : (r : Record) (f : ℕ) (frame : Frame) → nth r.frames f ≡ Some frame → IsQuiet r (save_made r f frame None)
 save_quiet r f frame at = saving_quiet r r f frame None (set_same r.frames f frame (saving_frame None frame) at (saving_same frame None (λ name h. cc))) refl refl
 
 -- the record in which a frame asked for a name
@@ -97,7 +93,7 @@ left_moved r frame o l ss at =
     let e = Ask (claim_of o l (grant_of frame.ui.state)) in
     elim (gives_up ss) as (λ b. IsMoved r (if b then with_frame r o.frame (moved frame e) else r)) [ true ↦ frame_moved r o.frame frame e at | false ↦ unmoved r ]
 
-leaving_quiet : (r : Record) (n : ℕ) (frame : Frame) (o : Object) (l : Link) (ss : List Step) → find (is_object n) r.objects ≡ Some o → nth r.frames o.frame ≡ Some frame → IsQuiet r (leaving_made r frame o l ss)
+pub leaving_quiet : (r : Record) (n : ℕ) (frame : Frame) (o : Object) (l : Link) (ss : List Step) → find (is_object n) r.objects ≡ Some o → nth r.frames o.frame ≡ Some frame → IsQuiet r (leaving_made r frame o l ss)
 leaving_quiet r n frame o l ss f at = moved_quiet r (leaving_made r frame o l ss)
     (object_moved r (left r frame o l ss) n o (record o { link = Some (stepped_link 0 l ss).link }) (left_moved r frame o l ss at) f refl) refl
 
@@ -111,36 +107,17 @@ revoked_moved r frame o l holder at =
       | Some k ↦ moved_after r c (request c k UiDeactivate).rec h (request_moved c k UiDeactivate)
     ]
 
-taking_quiet : (r : Record) (n : ℕ) (frame : Frame) (o : Object) (l : Link) (ss : List Step) → find (is_object n) r.objects ≡ Some o → nth r.frames o.frame ≡ Some frame → IsQuiet r (taking_made r frame o l ss)
+pub taking_quiet : (r : Record) (n : ℕ) (frame : Frame) (o : Object) (l : Link) (ss : List Step) → find (is_object n) r.objects ≡ Some o → nth r.frames o.frame ≡ Some frame → IsQuiet r (taking_made r frame o l ss)
 taking_quiet r n frame o l ss f at = moved_quiet r (taking_made r frame o l ss)
     (object_moved r (revoked r frame o l).rec n o (record o { link = Some (stepped_link (r.last_g + 1) l (steps_now frame.ui.state ss)).link }) (revoked_moved r frame o l (holder_of frame.ui.state) at) f refl) refl
 
--- a verb
-stepped_quiet : (r : Record) (n : ℕ) (frame : Frame) (o : Object) (l : Link) (ts : List Step) (t : Took) → find (is_object n) r.objects ≡ Some o → nth r.frames o.frame ≡ Some frame → IsStepped r frame o l ts t → IsQuiet r t
-stepped_quiet r n frame o l ts t f at (steps_nothing none made) = subst (IsQuiet r) made (moved_quiet r (counts_none r quiet_answer) (unmoved r) refl)
-stepped_quiet r n frame o l ts t f at (steps_leave has leaves made) = subst (IsQuiet r) made (leaving_quiet r n frame o l ts f at)
-stepped_quiet r n frame o l ts t f at (steps_take has takes lt holder made) = subst (IsQuiet r) made (taking_quiet r n frame o l ts f at)
+-- frames, and what objects are called, stay as they were
+pub same_quiet : (r : Record) (t : Took) → t.rec.frames ≡ r.frames → map id_of t.rec.objects ≡ map id_of r.objects → t.rec.last_object ≡ r.last_object → t.answer.frame ≡ None → IsQuiet r t
+same_quiet r t frames ids last frame = record { frames = subst (AreSameFrames r.frames) (sym frames) (same_frames r.frames); ids = ids; last = last; frame = frame }
 
--- a command that makes no frame, and neither makes nor deletes an object
-abbrev pub IsCalm : Command → Type 0
-IsCalm (command.New name w h) = ⊥
-IsCalm (command.Insert f kind area) = ⊥
-IsCalm (command.Delete n) = ⊥
-IsCalm (command.SaveAs f name) = ⊥
-IsCalm c = Unit {0}
-
-pub command_quiet : (r : Record) (c : Command) (t : Took) → IsCalm c → IsTakenAs r t c → IsQuiet r t
-command_quiet r _ t calm (as_new name w h new made) = absurd calm
-command_quiet r _ t calm (as_insert f kind area at made) = absurd calm
-command_quiet r _ t calm (as_start started made) = subst (IsQuiet r) made (record { frames = same_frames r.frames; ids = refl; last = refl; frame = refl })
-command_quiet r _ t calm (as_run n inc at run made) = subst (IsQuiet r) made (record { frames = same_frames r.frames; ids = ids_linked r n at.object _ at.found refl; last = refl; frame = refl })
-command_quiet r _ t calm (as_edit n bytes go small has made) = subst (IsQuiet r) made (record { frames = same_frames r.frames; ids = ids_linked r n go.at.object _ go.at.found refl; last = refl; frame = refl })
-command_quiet r _ t calm (as_save f at made) = subst (IsQuiet r) made (save_quiet r f at.frame at.there)
-command_quiet r _ t calm (as_save_as f name at free other made) = absurd calm
-command_quiet r _ t calm (as_delete n at passive made) = absurd calm
-command_quiet r _ t calm (as_kill inc alive made) = subst (IsQuiet r) made (record { frames = same_frames r.frames; ids = refl; last = refl; frame = refl })
-command_quiet r _ t calm (as_close n option go ts has row made) = subst (IsQuiet r) made (leaving_quiet r n go.at.frame go.at.object go.link ts go.at.found go.at.inside)
-command_quiet r _ t calm (as_verb n number go verb) = stepped_quiet r n go.at.frame go.at.object go.link verb.ts t go.at.found go.at.inside verb.stepped
+-- one object has another link
+pub linked_quiet : (r : Record) (t : Took) (n : ℕ) (o : Object) (link : Option Link) → find (is_object n) r.objects ≡ Some o → t.rec.frames ≡ r.frames → t.rec.objects ≡ put (is_object o.number) (record o { link = link }) r.objects → t.rec.last_object ≡ r.last_object → t.answer.frame ≡ None → IsQuiet r t
+linked_quiet r t n o link f frames objects last frame = same_quiet r t frames (ap (map id_of) objects ∙ ids_linked r n o (record o { link = link }) f refl) last frame
 
 -- a reply
 reply_quiet_taken : (r : Record) (inc act : ℕ) (x : Object) (p : Result Replied ContainerFault) (t : Took) → find (is_linked inc act) r.objects ≡ Some x → reply_taken r inc act x p ≡ Ok t → IsQuiet r t

@@ -12,8 +12,8 @@ use Rattle.container_model.specs.declared.fault.ContainerFault.TheVariants.{Stal
 use Rattle.container_model.specs.declared.command.Command.{Command}
 use Rattle.container_model.specs.Commands.{kind_of, new_object, on_command, start_made}
 use Rattle.container_steady.specs.Steady.{Steady}
-use Rattle.container_steady.specs.Taken.{IsStepped, IsTakenAs, as_close, as_delete, as_edit, as_insert, as_kill, as_new, as_run, as_save, as_save_as, as_start, as_verb, steps_leave, steps_nothing, steps_take}
-use Rattle.container_steady.proofs.Taken.{command_taken}
+use Rattle.container_steady.specs.Made.{IsMade, makes_activation, makes_edit, makes_end, makes_fewer, makes_frame, makes_nothing, makes_object, makes_save, makes_server, makes_steps, makes_taking, run_by}
+use Rattle.container_steady.proofs.Taken.{command_made}
 use Rattle.container_model.specs.Record.{Record, Took, is_object, is_linked, is_alive, counts_none, with_frame, acts, sends}
 use Rattle.container_model.specs.Grants.{moved, grant_of}
 use Rattle.container_model.specs.Verbs.{gives_up, left, claim_of, leaving_made, holder_of, revoked_at, claimed, revoked, taking_made}
@@ -53,27 +53,22 @@ taking_leaves r n frame o l steps f at =
       subst (AllMove NoClaim NoTools r.frames) (sym h.1) (asked_moves r o.frame frame (claim_of o l (r.last_g + 1)) at),
     )
 
-stepped_leaves : (r : Record) (n : ℕ) (frame : Frame) (o : Object) (l : Link) (ts : List Step) (t : Took) → find (is_object n) r.objects ≡ Some o → nth r.frames o.frame ≡ Some frame → IsStepped r frame o l ts t → Leaves r t.rec
-stepped_leaves r n frame o l ts t f at (steps_nothing none made) = subst (λ (v : Took). Leaves r v.rec) made (leaves_all r r refl refl)
-stepped_leaves r n frame o l ts t f at (steps_leave has leaves made) = subst (λ (v : Took). Leaves r v.rec) made (leaving_leaves r n frame o l ts f at)
-stepped_leaves r n frame o l ts t f at (steps_take has takes lt holder made) = subst (λ (v : Took). Leaves r v.rec) made (taking_leaves r n frame o l ts f at)
-
--- each command leaves frames to whoever has them
-taken_leaves : (r : Record) (c : Command) (t : Took) → Steady r → IsTakenAs r t c → Leaves r t.rec
-taken_leaves r _ t s (as_new name w h new made) = subst (λ (v : Took). Leaves r v.rec) made (kept_stay r.objects r.objects (all_kept r.objects), more_move NoClaim NoTools r.frames _)
-taken_leaves r _ t s (as_insert f kind area at made) = subst (λ (v : Took). Leaves r v.rec) made (more_stay r.objects (new_object (r.last_object + 1) f (kind_of kind) area ∷ []) (refl, tt), none_move NoClaim NoTools r.frames)
-taken_leaves r _ t s (as_start started made) = subst (λ (v : Took). Leaves r v.rec) made (leaves_all r (start_made r).rec refl refl)
-taken_leaves r _ t s (as_run n inc at run made) = subst (λ (v : Took). Leaves r v.rec) made (linked_leaves r n at.object _ at.found (record { number = refl; frame = refl }), none_move NoClaim NoTools r.frames)
-taken_leaves r _ t s (as_edit n bytes go small has made) = subst (λ (v : Took). Leaves r v.rec) made (linked_leaves r n go.at.object _ go.at.found (record { number = refl; frame = refl }), none_move NoClaim NoTools r.frames)
-taken_leaves r _ t s (as_save f at made) = subst (λ (v : Took). Leaves r v.rec) made (save_leaves r f at.frame None at.there)
-taken_leaves r _ t s (as_save_as f name at free other made) = subst (λ (v : Took). Leaves r v.rec) made (save_leaves r f at.frame (Some name) at.there)
-taken_leaves r _ t s (as_delete n at passive made) = subst (λ (v : Took). Leaves r v.rec) made (without_stay r.objects at.object.number s.order, none_move NoClaim NoTools r.frames)
-taken_leaves r _ t s (as_kill inc alive made) = subst (λ (v : Took). Leaves r v.rec) made (leaves_all r r refl refl)
-taken_leaves r _ t s (as_close n option go ts has row made) = subst (λ (v : Took). Leaves r v.rec) made (leaving_leaves r n go.at.frame go.at.object go.link ts go.at.found go.at.inside)
-taken_leaves r _ t s (as_verb n number go verb) = stepped_leaves r n go.at.frame go.at.object go.link verb.ts t go.at.found go.at.inside verb.stepped
+-- whatever a command makes leaves frames to whoever has them
+made_leaves : (r : Record) (ns : List ℕ) (t : Took) → Steady r → IsMade r t ns → Leaves r t.rec
+made_leaves r _ t s (makes_nothing made) = subst (λ (v : Took). Leaves r v.rec) made (leaves_all r r refl refl)
+made_leaves r _ t s (makes_frame name w h new made) = subst (λ (v : Took). Leaves r v.rec) made (kept_stay r.objects r.objects (all_kept r.objects), more_move NoClaim NoTools r.frames _)
+made_leaves r _ t s (makes_object f kind area at made) = subst (λ (v : Took). Leaves r v.rec) made (more_stay r.objects (new_object (r.last_object + 1) f (kind_of kind) area ∷ []) (refl, tt), none_move NoClaim NoTools r.frames)
+made_leaves r _ t s (makes_fewer n at passive made) = subst (λ (v : Took). Leaves r v.rec) made (without_stay r.objects at.object.number s.order, none_move NoClaim NoTools r.frames)
+made_leaves r _ t s (makes_server started made) = subst (λ (v : Took). Leaves r v.rec) made (leaves_all r (start_made r).rec refl refl)
+made_leaves r _ t s (makes_end inc alive made) = subst (λ (v : Took). Leaves r v.rec) made (leaves_all r r refl refl)
+made_leaves r _ t s (makes_activation n inc at run made) = subst (λ (v : Took). Leaves r v.rec) made (linked_leaves r n at.object _ at.found (record { number = refl; frame = refl }), none_move NoClaim NoTools r.frames)
+made_leaves r _ t s (makes_edit n bytes go small has made) = subst (λ (v : Took). Leaves r v.rec) made (linked_leaves r n go.at.object _ go.at.found (record { number = refl; frame = refl }), none_move NoClaim NoTools r.frames)
+made_leaves r _ t s (makes_save f name at other made) = subst (λ (v : Took). Leaves r v.rec) made (save_leaves r f at.frame name at.there)
+made_leaves r _ t s (makes_steps n go ts has row made) = subst (λ (v : Took). Leaves r v.rec) made (leaving_leaves r n go.at.frame go.at.object go.link ts go.at.found go.at.inside)
+made_leaves r _ t s (makes_taking n go ts taking made) = subst (λ (v : Took). Leaves r v.rec) made (taking_leaves r n go.at.frame go.at.object go.link ts go.at.found go.at.inside)
 
 pub command_leaves : (r : Record) (c : Command) (t : Took) → Steady r → on_command r c ≡ Ok t → Leaves r t.rec
-command_leaves r c t s e = taken_leaves r c t s (command_taken r c t e)
+command_leaves r c t s e = made_leaves r (run_by c) t s (command_made r c t e)
 
 -- the holder asks to be relieved of its frame
 relieved_leaves : (r : Record) (o : Object) (act g : ℕ) (frame : Frame) → nth r.frames o.frame ≡ Some frame → Leaves r (relieved r o act g frame).rec

@@ -9,13 +9,14 @@ use Rattle.container_model.specs.Inputs.{Input}
 use Rattle.container_model.specs.Opens.{Given, opened}
 use Rattle.container_model.specs.Saves.{image, image_at, parts_in, commit_done, commit_failed, commit_made, done_entry, resolve}
 use Rattle.container_model.specs.Messages.{on_message, on_reap}
-use Rattle.container_model.specs.Commands.{on_command, kind_of}
+use Rattle.container_model.specs.Commands.{on_command}
 use Rattle.container_model.specs.declared.command.Command.{Command}
 use Rattle.container_model.specs.declared.command.Command.TheVariants as command
 use Rattle.container_model.specs.declared.record.Frame.{Frame}
 use Rattle.container_model.specs.declared.answer.Part.{Part}
 use Rattle.container_model.specs.declared.answer.Done.{Done}
 use Rattle.container_model.specs.declared.fault.ContainerFault.{ContainerFault}
+use Rattle.container_steady.specs.Made.{run_by}
 use Rattle.container_steady.specs.Steady.{IsUnsettled, Steady}
 use Rattle.container_steady.proofs.Settling.{IsCommitOf, done_commits, kept_commits, not_idle}
 use Rattle.container_steps.proofs.SteadyCommands.{on_command_keeps}
@@ -40,17 +41,13 @@ use Rattle.world_files.specs.Files.{id_of, Files}
 use Rattle.world_files.proofs.Bounding.{parts_of_frame}
 use Rattle.world_files.proofs.Kept.{image_is_at}
 use Rattle.world_steps.proofs.Instances.{nth_same}
-use Rattle.world_steps.proofs.Asking.{new_asks, insert_asks, edit_asks}
-use Rattle.world_steps.proofs.Handing.{save_asks}
 use Rattle.world_grants.specs.Grants.{AreSent, roles_of}
 use Rattle.world_grants.proofs.Alike.{fewer_grants}
 use Rattle.world_grants.proofs.Ending.{reap_moves}
-use Rattle.world_grants.proofs.Taking.{command_moves, committed_moves, dropped_moves, failed_moves, message_moves, opened_moves}
+use Rattle.world_grants.proofs.Taking.{MovesBy, command_moves, committed_moves, dropped_moves, failed_moves, message_moves, opened_moves}
 use Rattle.world_numbers.specs.Numbers.{ArePending}
 use Rattle.world_numbers.proofs.Pending.{asks_pending}
-use Rattle.world_steps.specs.Steps.{IsTurned}
-use Rattle.world_steps.proofs.Closing.{delete_asks, close_asks}
-use Rattle.world_steps.proofs.Verbing.{verb_asks}
+use Rattle.world_steps.specs.Steps.{IsCommanded, IsTurned, command_asks, command_begins, command_ends, command_starts}
 use Rattle.world_steps.proofs.Relieving.{ask_asks}
 use Rattle.world_steps.proofs.Forging.{own_link}
 use Rattle.world_steps.proofs.Replying.{reply_answers}
@@ -60,7 +57,7 @@ use Rattle.world_steps.proofs.Committing.{commit_counts, commit_plain}
 use Rattle.world_steps.proofs.Dropping.{dropped_asks, failed_asks}
 use Rattle.world_steps.proofs.Opening.{open_asks}
 use Rattle.world_safety.specs.Holding.{Agrees, AgreesIn}
-use Rattle.world_safety.proofs.Joining.{plain_joined, asked_views, joined_grants, turned_joined, asks_turned, answered_joined, reaped_joined, run_joined, start_joined, stopped_agrees, kill_joined}
+use Rattle.world_safety.proofs.Joining.{plain_joined, asked_views, joined_grants, turned_joined, asks_turned, answered_joined, reaped_joined, begun_joined, command_shapes, start_joined, stopped_agrees, kill_joined}
 use Rattle.world_safety.proofs.Serving.{agrees_called}
 use Rattle.world_safety.proofs.Shaping.{asks_followed}
 use Rattle.world_safety.proofs.Scribbling.{agrees_scribble, agrees_ask}
@@ -72,21 +69,21 @@ ok_is x y e = cc
 plain_owners : (w : World) (t : Took) → AgreesIn (joined w t) → AgreesIn (record (joined w t) { owners = w.owners ++ [] })
 plain_owners w t h = subst (λ o. Agrees w.hostile t.rec (ended_by t.answer.actions w.instances ++ started_by t.rec.numbers t.answer.actions) (w.sent ++ map of_container (messages_of t.answer.actions)) o w.container_done w.server_done) (sym (append-nil w.owners)) h
 
-turned_command : (w : World) (c : Command) (t : Took) → AgreesIn w → on_command w.rec c ≡ Ok t → IsTurned w.rec t → AgreesIn (record (joined w t) { owners = w.owners ++ [] })
-turned_command w c t h e m = plain_owners w t (turned_joined w t [] h (on_command_keeps w.rec c t h.steady e) (command_moves w.rec c t h.steady e) (λ x z honest. absurd z) m)
+-- by the shapes that it is
+agrees_shaped : (w : World) (ns : List ℕ) (t : Took) → AgreesIn w → Steady t.rec → MovesBy w.rec t.rec [] → IsCommanded w.rec (lives_of w.instances) w.owners t ns → AgreesIn (record (joined w t) { owners = w.owners ++ ns })
+agrees_shaped w _ t h steady moves (command_asks turned) = plain_owners w t (turned_joined w t [] h steady moves (λ x z honest. absurd z) turned)
+agrees_shaped w _ t h steady moves (command_starts made) = plain_owners w t (start_joined w t h steady made)
+agrees_shaped w _ t h steady moves (command_begins o begun) = begun_joined w o t h steady moves begun
+agrees_shaped w _ t h steady moves (command_ends inc made) = plain_owners w t (kill_joined w inc t h made)
+
+-- the objects that get an activation are those whose owners are kept
+owners_run : (c : Command) → run_by c ≡ owners_by c
+owners_run (command.Run o inc) = refl
+owners_run c = refl
 
 agrees_command : (w : World) (c : Command) (t : Took) → AgreesIn w → on_command w.rec c ≡ Ok t → AgreesIn (record (joined w t) { owners = w.owners ++ owners_by c })
-agrees_command w (command.New name x y) t h e = turned_command w (command.New name x y) t h e (asks_turned w.rec t (new_asks w.rec name x y t e))
-agrees_command w (command.Insert f kind area) t h e = turned_command w (command.Insert f kind area) t h e (asks_turned w.rec t (insert_asks w.rec f (kind_of kind) area t e))
-agrees_command w command.Start t h e = plain_owners w t (start_joined w t h e)
-agrees_command w (command.Run o inc) t h e = run_joined w o inc t h e
-agrees_command w (command.Edit o bytes) t h e = turned_command w (command.Edit o bytes) t h e (asks_turned w.rec t (edit_asks w.rec o bytes t h.steady e))
-agrees_command w (command.Save f) t h e = turned_command w (command.Save f) t h e (save_asks w.rec (command.Save f) t h.steady tt e)
-agrees_command w (command.SaveAs f name) t h e = turned_command w (command.SaveAs f name) t h e (save_asks w.rec (command.SaveAs f name) t h.steady tt e)
-agrees_command w (command.Delete o) t h e = turned_command w (command.Delete o) t h e (asks_turned w.rec t (delete_asks w.rec o t h.steady e))
-agrees_command w (command.Kill inc) t h e = plain_owners w t (kill_joined w inc t h e)
-agrees_command w (command.Close o option) t h e = turned_command w (command.Close o option) t h e (close_asks w.rec o option t h.steady e)
-agrees_command w (command.Verb o number) t h e = turned_command w (command.Verb o number) t h e (verb_asks w.rec o number t h.steady e)
+agrees_command w c t h e = subst (λ ns. AgreesIn (record (joined w t) { owners = w.owners ++ ns })) (owners_run c)
+    (agrees_shaped w (run_by c) t h (on_command_keeps w.rec c t h.steady e) (command_moves w.rec c t h.steady e) (command_shapes w c t h e))
 
 agrees_commanded : (w : World) (c : Command) (told : Result Took ContainerFault) → AgreesIn w → on_command w.rec c ≡ told → AgreesIn (commanded w c told)
 agrees_commanded w c (Err fault) h e = h

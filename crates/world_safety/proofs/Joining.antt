@@ -1,20 +1,18 @@
 -- What a step of the container makes of a world that agrees.
-use Rattle.std.proofs.Common.{◌≡◌, ◌≢◌, ℕ, suc, ◌+◌, Bool, true, false, List, [], ◌∷◌, ◌++◌, length, map, Option, Some, None, Ok, refl, sym, ap, ◌∙◌, inl, inr, arith, subst, nat_le, slice_get}
+use Rattle.std.proofs.Common.{◌≡◌, ◌≢◌, ℕ, suc, ◌+◌, Bool, true, false, List, [], ◌∷◌, ◌++◌, length, map, Option, Some, None, Ok, refl, sym, ap, ◌∙◌, inl, inr, arith, subst, slice_get}
 use Rattle.std.proofs.lemmas.List.{append-nil}
 use Rattle.std.proofs.lemmas.Bool.Decides.{eqb_tells}
 use Rattle.wire_msgs.specs.Found.{nth, set_nth}
 use Rattle.wire_msgs.specs.declared.message.Message.{Message}
 use Rattle.wire_msgs.specs.declared.operation.Operation.{Operation}
 use Rattle.server_model.specs.Server.{Activation}
-use Rattle.container_model.specs.Record.{Record, Took, MOST_SERVERS, acts, counts_none, count_alive, is_alive, is_unreaped}
-use Rattle.container_model.specs.Commands.{on_command, kill, start, start_made}
-use Rattle.container_model.specs.declared.command.Command.TheVariants as command
-use Rattle.container_model.specs.declared.fault.ContainerFault.TheVariants.{Full, NumbersSpent}
+use Rattle.container_model.specs.Record.{Record, Took, acts, counts_none, is_alive, is_unreaped}
+use Rattle.container_model.specs.Commands.{on_command, start_made}
+use Rattle.container_model.specs.declared.command.Command.{Command}
 use Rattle.container_model.specs.declared.answer.Action.TheVariants.{End}
 use Rattle.container_model.specs.declared.answer.Done.{Done}
+use Rattle.container_steady.specs.Made.{run_by}
 use Rattle.container_steady.specs.Steady.{Steady}
-use Rattle.container_steady.proofs.SteadyRecords.{unless_ok}
-use Rattle.container_steps.proofs.SteadyCommands.{on_command_keeps}
 use Rattle.world_model.specs.declared.life.Life.{Life}
 use Rattle.world_model.specs.declared.life.Life.TheVariants.{Running, Ended, Reaped}
 use Rattle.world_model.specs.World.{World, Instance, fresh, messages_of, of_container, started_by, end_of, ended_at, ended_by, joined}
@@ -33,13 +31,12 @@ use Rattle.world_grants.proofs.Alike.{grants_same}
 use Rattle.world_grants.proofs.Answering.{ready_for}
 use Rattle.world_grants.proofs.Stepping as starting
 use Rattle.world_grants.proofs.Stepping.{followed}
-use Rattle.world_grants.proofs.Taking.{MovesBy, command_moves}
-use Rattle.world_steps.specs.Steps.{IsBegun, IsPlain, IsTurned, IsReplied, IsReaped}
+use Rattle.world_grants.proofs.Taking.{MovesBy}
+use Rattle.world_steps.specs.Steps.{IsBegun, IsCommanded, IsPlain, IsTurned, IsReplied, IsReaped}
 use Rattle.world_steps.proofs.Keeping.{AreKept, longer, messages_longer, turned_kept, replied_kept, reaped_kept}
 use Rattle.world_steps.proofs.Instances.{nth_same, nth_other}
 use Rattle.world_steps.proofs.Objects.{messages_of_log, messages_told}
-use Rattle.world_steps.proofs.Closing.{kill_ends}
-use Rattle.world_steps.proofs.Running.{run_begins}
+use Rattle.world_steps.proofs.Commanding.{commanded_is}
 use Rattle.world_steps.proofs.Turns.{one_turn}
 use Rattle.world_safety.specs.Holding.{Agrees, AgreesIn}
 use Rattle.world_safety.proofs.Shaping.{IsFollowed, turned_followed, replied_followed, reaped_followed}
@@ -136,31 +133,31 @@ owner_new owners last o e = (let z : suc (length owners) ≡ last + 1 = omega ar
     at [] = refl
     at (x ∷ xs) = at xs
 
-host : (w : World) (inc : ℕ) → AgreesIn w → is_alive w.rec inc ≡ true → (life : Life) × (lives_of w.instances inc ≡ Some life)
-host w inc h a = at (nth w.rec.servers inc) refl a
+host : (w : World) → AgreesIn w → (inc : ℕ) → is_alive w.rec inc ≡ true → (life : Life) × (lives_of w.instances inc ≡ Some life)
+host w h inc a = at (nth w.rec.servers inc) refl a
   where
     at : (s : Option Bool) → nth w.rec.servers inc ≡ s → is_unreaped s ≡ true → (life : Life) × (lives_of w.instances inc ≡ Some life)
     at None f g = cc
     at (Some b) f g = (let p = nth_aligned w.rec.servers w.instances inc b h.servers f in (p.0.life, ap life_at p.1))
 
-pub run_begun : (w : World) (o inc : ℕ) (t : Took) → AgreesIn w → on_command w.rec (command.Run o inc) ≡ Ok t → IsBegun w.rec (lives_of w.instances) (w.owners ++ o ∷ []) o t
-run_begun w o inc t h e = run_begins w.rec (lives_of w.instances) (w.owners ++ o ∷ []) o inc t h.steady e (owner_new w.owners w.rec.last_act o h.facts.drawn.many) (host w inc h)
+-- what a command is of the shapes of change
+pub command_shapes : (w : World) (c : Command) (t : Took) → AgreesIn w → on_command w.rec c ≡ Ok t → IsCommanded w.rec (lives_of w.instances) w.owners t (run_by c)
+command_shapes w c t h e = commanded_is w.rec (lives_of w.instances) w.owners h.steady (λ n. owner_new w.owners w.rec.last_act n h.facts.drawn.many) (host w h) c t e
 
-pub run_joined : (w : World) (o inc : ℕ) (t : Took) → AgreesIn w → on_command w.rec (command.Run o inc) ≡ Ok t → AgreesIn (record (joined w t) { owners = w.owners ++ o ∷ [] })
-run_joined w o inc t h e =
+pub begun_joined : (w : World) (o : ℕ) (t : Took) → AgreesIn w → Steady t.rec → MovesBy w.rec t.rec [] → IsBegun w.rec (lives_of w.instances) (w.owners ++ o ∷ []) o t → AgreesIn (record (joined w t) { owners = w.owners ++ o ∷ [] })
+begun_joined w o t h steady moves b =
     let r = w.rec in
-    let b = run_begun w o inc t h e in
     let many : length (w.owners ++ o ∷ []) ≡ r.last_act + 1 = length_more w.owners o ∙ (ap suc h.facts.drawn.many ∙ (let y : suc r.last_act ≡ r.last_act + 1 = omega arith in y)) in
     let f = begun (links_of r.objects) (links_of t.rec.objects) (acts_of w.instances) (lives_of w.instances) (messages w.sent) (messages_of t.answer.actions) w.owners (o ∷ []) r.last_act w.container_done w.server_done o b.begins many h.facts in
     let more = messages_of t.answer.actions in
     let calls : AreCalls more = begins_calls (links_of r.objects) (links_of t.rec.objects) (lives_of w.instances) (w.owners ++ o ∷ []) r.last_act o more b.begins in
-    joined_agrees w t h (on_command_keeps r (command.Run o inc) t h.steady e) b.servers b.starts b.ends (w.owners ++ o ∷ []) w.container_done
+    joined_agrees w t h steady b.servers b.starts b.ends (w.owners ++ o ∷ []) w.container_done
     (subst (λ n. Facts w.hostile (links_of t.rec.objects) (acts_of w.instances) (lives_of w.instances) (messages w.sent ++ messages_of t.answer.actions) (w.owners ++ o ∷ []) n w.container_done w.server_done) (sym b.last_act) f)
     (views_kept (links_of r.objects) (links_of t.rec.objects) (acts_of w.instances) (acts_of w.instances) w.sent (w.sent ++ map of_container more)
     (begins_leave w.hostile (links_of r.objects) (links_of t.rec.objects) (acts_of w.instances) (lives_of w.instances) (w.owners ++ o ∷ []) r.last_act o more b.begins h.facts.drawn.acts_drawn)
     (grows_calls w.sent more calls) h.views)
     (starting.begun (links_of r.objects) (links_of t.rec.objects) (acts_of w.instances) (lives_of w.instances) (messages w.sent) more w.owners (o ∷ []) r.last_act o w.container_done w.server_done (roles_of r) (roles_of t.rec)
-    h.facts h.grants (ready_for r h.steady).linked (command_moves r (command.Run o inc) t h.steady e) calls b.begins)
+    h.facts h.grants (ready_for r h.steady).linked moves calls b.begins)
 
 -- the server of an activation is there
 pub hosted : (is : List Instance) (inc act : ℕ) (a : Activation) → acts_of is inc act ≡ Some a → (life : Life) × (lives_of is inc ≡ Some life)
@@ -198,15 +195,12 @@ module _ (is : List Instance) (numbers : ℕ) where
     hosted = hosted is;
   }
 
-pub start_joined : (w : World) (t : Took) → AgreesIn w → start w.rec ≡ Ok t → AgreesIn (joined w t)
-start_joined w t h e =
+pub start_joined : (w : World) (t : Took) → AgreesIn w → Steady t.rec → start_made w.rec ≡ t → AgreesIn (joined w t)
+start_joined w t h keeps is =
     let r = w.rec in
-    let a = unless_ok (nat_le MOST_SERVERS (count_alive r.servers)) Full _ t e in
-    let b : Ok (start_made r) ≡ Ok t = (unless_ok (nat_le r.numbers (length r.servers)) NumbersSpent _ t a.1).1 in
-    let is : start_made r ≡ t = cc in
     let new = fresh r.numbers (length r.servers + 1) in
     let one : fresh r.numbers (length w.instances + 1) ≡ new = ap (λ n. fresh r.numbers (n + 1)) (sym h.servers) in
-    let steady : Steady (start_made r).rec = subst (λ (v : Took). Steady v.rec) (sym is) (on_command_keeps r command.Start t h.steady e) in
+    let steady : Steady (start_made r).rec = subst (λ (v : Took). Steady v.rec) (sym is) keeps in
     let begins : StartsOrEnds (acts_of w.instances) (acts_of (w.instances ++ new ∷ [])) (lives_of w.instances) (lives_of (w.instances ++ new ∷ [])) =
     subst (λ i. StartsOrEnds (acts_of w.instances) (acts_of (w.instances ++ i ∷ [])) (lives_of w.instances) (lives_of (w.instances ++ i ∷ []))) one (server_starts w.instances r.numbers) in
     let made : Agrees w.hostile (start_made r).rec (w.instances ++ new ∷ []) w.sent w.owners w.container_done w.server_done = record {
@@ -263,12 +257,11 @@ ended_agrees : (w : World) (inc : ℕ) (i : Option Instance) → nth w.instances
 ended_agrees w inc None at h = h
 ended_agrees w inc (Some i) at h = stopped_agrees w inc i (end_of i.life) at (over_of i.life) h
 
-pub kill_joined : (w : World) (inc : ℕ) (t : Took) → AgreesIn w → kill w.rec inc ≡ Ok t → AgreesIn (joined w t)
-kill_joined w inc t h e =
-    let made : Took = counts_none w.rec (acts (End inc ∷ [])) in
+pub kill_joined : (w : World) (inc : ℕ) (t : Took) → AgreesIn w → counts_none w.rec (acts (End inc ∷ [])) ≡ t → AgreesIn (joined w t)
+kill_joined w inc t h made =
     let js = ended_at inc w.instances (nth w.instances inc) in
     let here : Agrees w.hostile w.rec js w.sent w.owners w.container_done w.server_done = ended_agrees w inc (nth w.instances inc) refl h in
     let more : Agrees w.hostile w.rec (js ++ []) (w.sent ++ []) w.owners w.container_done w.server_done =
     subst (λ is. Agrees w.hostile w.rec is (w.sent ++ []) w.owners w.container_done w.server_done) (sym (append-nil js))
     (subst (λ s. Agrees w.hostile w.rec js s w.owners w.container_done w.server_done) (sym (append-nil w.sent)) here) in
-    subst (λ (v : Took). AgreesIn (joined w v)) (kill_ends w.rec inc t e) more
+    subst (λ (v : Took). AgreesIn (joined w v)) made more

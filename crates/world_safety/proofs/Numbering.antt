@@ -2,7 +2,7 @@
 use Rattle.std.proofs.Common.{◌≡◌, ◌≤◌, ◌+◌, ℕ, List, [], ◌∷◌, ◌++◌, length, Option, Some, None, Result, Ok, Err, refl, sym, ap, ◌∙◌, arith, subst}
 use Rattle.std.proofs.lemmas.List.{length-append}
 use Rattle.std.specs.List.{AllByRecursion}
-use Rattle.std.specs.Prelude.{Bool, true, false, nat_le}
+use Rattle.std.specs.Prelude.{Bool, true, false}
 use Rattle.wire_msgs.specs.Found.{find, nth, set_nth}
 use Rattle.wire_msgs.specs.declared.message.Message.{Message}
 use Rattle.wire_msgs.specs.declared.message.Message.TheVariants.{Call, Reply, Write, Ask}
@@ -12,19 +12,17 @@ use Rattle.embed_core.specs.Kinds.{Kind}
 use Rattle.server_model.specs.Server.{Served, Told, on_call, wanted}
 use Rattle.server_model.specs.Server as server
 use Rattle.server_model.specs.declared.fault.ServerFault.{ServerFault}
-use Rattle.container_model.specs.Record.{Took, MOST_SERVERS, count_alive, is_object}
+use Rattle.container_model.specs.Record.{Took, is_object}
 use Rattle.container_model.specs.Room.{HasRoom}
 use Rattle.container_model.specs.Saves.{image, commit_done, commit_failed, commit_made, resolve}
 use Rattle.container_model.specs.Messages.{on_message, on_reap}
-use Rattle.container_model.specs.Commands.{kind_of, on_command, start, start_made}
+use Rattle.container_model.specs.Commands.{on_command, start_made}
 use Rattle.container_model.specs.declared.command.Command.{Command}
-use Rattle.container_model.specs.declared.command.Command.TheVariants as command
 use Rattle.container_model.specs.declared.record.Frame.{Frame}
 use Rattle.container_model.specs.declared.answer.Part.{Part}
 use Rattle.container_model.specs.declared.fault.ContainerFault.{ContainerFault}
-use Rattle.container_model.specs.declared.fault.ContainerFault.TheVariants.{Full, NumbersSpent}
 use Rattle.container_steady.proofs.Settling.{IsCommitOf, done_commits, kept_commits}
-use Rattle.container_steady.proofs.SteadyRecords.{unless_ok}
+use Rattle.container_steady.specs.Made.{run_by}
 use Rattle.container_numbers.specs.Sound.{IsNumbered}
 use Rattle.container_model.specs.Inputs.{Input}
 use Rattle.container_model.specs.Opens.{Given, opened}
@@ -48,10 +46,7 @@ use Rattle.world_numbers.proofs.Joining.{IsTaken, fresh_within, hosted_within, j
 use Rattle.world_numbers.proofs.Pending.{begins_pending, none_pending, reaped_pending, replied_pending, turned_pending}
 use Rattle.world_numbers.proofs.Serving.{served_within}
 use Rattle.world_numbers.proofs.Speaking.{SpeaksWithin, asks_within, writes_within}
-use Rattle.world_steps.specs.Steps.{IsTurned}
-use Rattle.world_steps.proofs.Asking.{new_asks, insert_asks, edit_asks}
-use Rattle.world_steps.proofs.Handing.{save_asks}
-use Rattle.world_steps.proofs.Closing.{delete_asks, close_asks, kill_ends}
+use Rattle.world_steps.specs.Steps.{IsCommanded, IsTurned, command_asks, command_begins, command_ends, command_starts}
 use Rattle.world_steps.proofs.Committing.{commit_plain}
 use Rattle.world_steps.proofs.Dropping.{dropped_asks, failed_asks}
 use Rattle.world_steps.proofs.Forging.{own_link}
@@ -62,10 +57,9 @@ use Rattle.world_steps.proofs.Reaping.{reap_ends}
 use Rattle.world_steps.proofs.Relieving.{ask_asks}
 use Rattle.world_steps.proofs.Replying.{reply_answers}
 use Rattle.world_steps.proofs.Taking.{write_asks}
-use Rattle.world_steps.proofs.Verbing.{verb_asks}
 use Rattle.world_safety.specs.Holding.{AgreesIn}
 use Rattle.world_safety.proofs.Events.{agrees_turned, among_place, commit_pending, none_honest, turned}
-use Rattle.world_safety.proofs.Joining.{asks_turned, run_begun}
+use Rattle.world_safety.proofs.Joining.{asks_turned, command_shapes}
 
 ok_is : (x y : World) → ◌≡◌ {A = Result World Stop} (Ok x) (Ok y) → x ≡ y
 ok_is x y e = cc
@@ -78,32 +72,23 @@ module _ (limit : ℕ) (w : World) (h : AgreesIn w) (k : Numbers limit w) where
   turned_taken : (t : Took) → IsNumbered limit t.rec → IsTurned w.rec t → IsTaken limit t
   turned_taken t r m = plain_taken limit t r (turned_pending (links_of w.rec.objects) (links_of t.rec.objects) (messages_of t.answer.actions) m.0) m.1.starts
 
-  start_taken : (t : Took) → IsNumbered limit t.rec → start w.rec ≡ Ok t → IsTaken limit t
-  start_taken t r e =
-      let a = unless_ok (nat_le MOST_SERVERS (count_alive w.rec.servers)) Full _ t e in
-      let b : Ok (start_made w.rec) ≡ Ok t = (unless_ok (nat_le w.rec.numbers (length w.rec.servers)) NumbersSpent _ t a.1).1 in
-      let is : start_made w.rec ≡ t = cc in
+  start_taken : (t : Took) → IsNumbered limit t.rec → start_made w.rec ≡ t → IsTaken limit t
+  start_taken t r is =
       let new : IsNumbered limit (start_made w.rec).rec = subst (λ (v : Took). IsNumbered limit v.rec) (sym is) r in
       let many = length-append w.rec.servers (false ∷ []) in
       let le : length w.rec.servers + 1 ≤ length (start_made w.rec).rec.servers = omega arith in
       subst (IsTaken limit) is (record { recorded = new; pending = none_pending (links_of w.rec.objects) [] refl; starts = (fresh_within limit (start_made w.rec).rec (length w.rec.servers + 1) new le, tt) })
 
-  numbered : (c : Command) (t : Took) → on_command w.rec c ≡ Ok t → IsNumbered limit t.rec
-  numbered c t e = numbers_after limit w.rec (Input.Ordered c) t h.steady k.recorded e
+  -- by the shapes that it is
+  shaped_taken : (ns : List ℕ) (t : Took) → IsNumbered limit t.rec → IsCommanded w.rec (lives_of w.instances) w.owners t ns → IsTaken limit t
+  shaped_taken _ t r (command_asks turned) = turned_taken t r turned
+  shaped_taken _ t r (command_starts made) = start_taken t r made
+  shaped_taken _ t r (command_begins o b) = plain_taken limit t r
+      (begins_pending (links_of w.rec.objects) (links_of t.rec.objects) (lives_of w.instances) (w.owners ++ o ∷ []) w.rec.last_act o (messages_of t.answer.actions) b.begins) b.starts
+  shaped_taken _ t r (command_ends inc made) = subst (IsTaken limit) made (record { recorded = k.recorded; pending = none_pending (links_of w.rec.objects) [] refl; starts = tt })
 
   command_taken : (c : Command) (t : Took) → on_command w.rec c ≡ Ok t → IsTaken limit t
-  command_taken (command.New name x y) t e = turned_taken t (numbered (command.New name x y) t e) (asks_turned w.rec t (new_asks w.rec name x y t e))
-  command_taken (command.Insert f kind area) t e = turned_taken t (numbered (command.Insert f kind area) t e) (asks_turned w.rec t (insert_asks w.rec f (kind_of kind) area t e))
-  command_taken command.Start t e = start_taken t (numbered command.Start t e) e
-  command_taken (command.Run o inc) t e = (let b = run_begun w o inc t h e in
-      plain_taken limit t (numbered (command.Run o inc) t e) (begins_pending (links_of w.rec.objects) (links_of t.rec.objects) (lives_of w.instances) (w.owners ++ o ∷ []) w.rec.last_act o (messages_of t.answer.actions) b.begins) b.starts)
-  command_taken (command.Edit o bytes) t e = turned_taken t (numbered (command.Edit o bytes) t e) (asks_turned w.rec t (edit_asks w.rec o bytes t h.steady e))
-  command_taken (command.Save f) t e = turned_taken t (numbered (command.Save f) t e) (save_asks w.rec (command.Save f) t h.steady tt e)
-  command_taken (command.SaveAs f name) t e = turned_taken t (numbered (command.SaveAs f name) t e) (save_asks w.rec (command.SaveAs f name) t h.steady tt e)
-  command_taken (command.Delete o) t e = turned_taken t (numbered (command.Delete o) t e) (asks_turned w.rec t (delete_asks w.rec o t h.steady e))
-  command_taken (command.Kill inc) t e = subst (IsTaken limit) (kill_ends w.rec inc t e) (record { recorded = k.recorded; pending = none_pending (links_of w.rec.objects) [] refl; starts = tt })
-  command_taken (command.Close o option) t e = turned_taken t (numbered (command.Close o option) t e) (close_asks w.rec o option t h.steady e)
-  command_taken (command.Verb o number) t e = turned_taken t (numbered (command.Verb o number) t e) (verb_asks w.rec o number t h.steady e)
+  command_taken c t e = shaped_taken (run_by c) t (numbers_after limit w.rec (Input.Ordered c) t h.steady k.recorded e) (command_shapes w c t h e)
 
   message_numbered : (inc : ℕ) (m : Message) (t : Took) → on_message w.rec inc m ≡ Ok t → IsNumbered limit t.rec
   message_numbered inc m t e = numbers_after limit w.rec (Input.Told inc m) t h.steady k.recorded e

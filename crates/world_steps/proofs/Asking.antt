@@ -1,33 +1,23 @@
--- Commands that ask operations, or nothing: new frames and objects, edits; and what is asked of whole frames.
-use Rattle.std.proofs.Common.{◌≡◌, ◌⊎◌, ◌==◌, ℕ, ◌+◌, ◌<◌, Bool, true, false, not, List, [], ◌∷◌, ◌++◌, length, map, Option, Some, None, option_map, Ok, refl, sym, ap, ◌∙◌, inl, inr, arith, subst, nat_le, if◌then◌else◌, eq-eqb}
+-- What is asked of one object, and of whole frames.
+use Rattle.std.proofs.Common.{◌≡◌, ◌⊎◌, ◌==◌, ℕ, ◌+◌, ◌<◌, Bool, true, false, List, [], ◌∷◌, ◌++◌, map, Option, Some, None, option_map, refl, sym, ap, ◌∙◌, inl, inr, arith, subst, if◌then◌else◌, eq-eqb}
 use Rattle.std.specs.List.{AllByRecursion}
-use Rattle.wire_msgs.specs.Found.{find, put, nth}
+use Rattle.wire_msgs.specs.Found.{find, put}
 use Rattle.wire_msgs.specs.declared.message.Message.{Message}
 use Rattle.wire_msgs.specs.declared.operation.Operation.{Operation}
-use Rattle.wire_msgs.specs.declared.operation.Operation.TheVariants.{Edit}
 use Rattle.storage_tree.specs.declared.stored.Stored.{Stored}
-use Rattle.embed_core.specs.Kinds.{Kind}
-use Rattle.object_parts.specs.declared.area.Area.{Area}
 use Rattle.container_model.specs.declared.record.Link.{Link}
 use Rattle.container_model.specs.declared.record.Object.{Object}
-use Rattle.container_model.specs.declared.record.Frame.{Frame}
-use Rattle.container_model.specs.declared.fault.ContainerFault.TheVariants.{Busy, InDoubt as Doubtful, Full, NumbersSpent, WrongState}
-use Rattle.container_model.specs.Record.{Record, Took, MOST_FRAMES, MOST_OBJECTS, is_object, is_saving, is_doubtful, count_objects, ask, ask_at, asked_link, asked_sent, asked_object, asked_all}
-use Rattle.container_model.specs.Commands.{new, new_made, insert, insert_at, insert_made, new_object, is_named, is_size, is_empty_area, edit, edit_linked}
+use Rattle.container_model.specs.Record.{Record, is_object, ask, ask_at, asked_link, asked_sent, asked_object, asked_all}
 use Rattle.container_steady.specs.Steady.{EachPair, InOrder, WaitsBehind, Steady}
-use Rattle.container_steady.specs.Taken.{edited}
-use Rattle.container_steady.proofs.Taken.{edited_by, ready_at}
 use Rattle.std.proofs.lemmas.Bool.{eqb-true, eqb-false, ne_eqb}
-use Rattle.container_steady.proofs.SteadyRecords.{if_told, unless_ok}
+use Rattle.container_steady.proofs.SteadyRecords.{if_told}
 use Rattle.container_steady.proofs.SteadyTests.{found_numbered}
 use Rattle.container_steady.proofs.SteadyShapes.{asked_of}
-use Rattle.world_model.specs.World.{messages_of}
 use Rattle.world_model.specs.Safe.{Among, link_at, links_of}
 use Rattle.world_facts.specs.Words.{Links}
 use Rattle.world_facts.specs.Shapes.{IsSame, AskedAt, none, stays, queues, sends as sent, AsksAll, IsQuiet}
 use Rattle.world_facts.proofs.Lookups.{among_join}
-use Rattle.world_steps.specs.Steps.{IsPlain}
-use Rattle.world_steps.proofs.Objects.{IsHeld, Waits, found_held, link_mapped, link_was, put_here, put_there, messages_sends, no_start_sent, no_end_sent}
+use Rattle.world_steps.proofs.Objects.{IsHeld, Waits, found_held, link_mapped, link_was, put_here, put_there}
 
 -- an object of which nothing is asked
 same_link : (l : Link) → IsSame l l
@@ -112,37 +102,6 @@ who_is_asked (x ∷ os) f op m s h =
       | false ↦ (λ t g. later g)
     ] refl h
 
--- New and Insert
-pub new_asks : (r : Record) (name : List ℕ) (w h : ℕ) (t : Took) → new r name w h ≡ Ok t → AsksAll (λ o op. IsQuiet op) (links_of r.objects) (links_of t.rec.objects) (messages_of t.answer.actions) × IsPlain r t
-new_asks r name w h t e =
-    let a = unless_ok (is_named name r.frames) Busy _ t e in
-    let b = unless_ok (not (is_size w h)) WrongState _ t a.1 in
-    let c = unless_ok (nat_le MOST_FRAMES (length r.frames)) Full _ t b.1 in
-    let g : Ok (new_made r name w h) ≡ Ok t = (unless_ok (nat_le r.numbers (length r.frames)) NumbersSpent _ t c.1).1 in
-    let is : new_made r name w h ≡ t = cc in
-    subst (λ (v : Took). AsksAll (λ o op. IsQuiet op) (links_of r.objects) (links_of v.rec.objects) (messages_of v.answer.actions) × IsPlain r v) is
-    (none_asked (links_of r.objects) (links_of r.objects) (λ n. refl), record { last_act = refl; servers = refl; starts = λ numbers. refl; ends = λ is. refl })
-
-link_more : (os : List Object) (y : Object) (n : ℕ) → y.link ≡ None → links_of (os ++ y ∷ []) n ≡ links_of os n
-link_more [] y n e = elim (y.number == n) as (λ b. link_at (if b then Some y else None) ≡ None) [ true ↦ e | false ↦ refl ]
-link_more (z ∷ os) y n e = elim (z.number == n) as (λ b. link_at (if b then Some z else find (is_object n) (os ++ y ∷ [])) ≡ link_at (if b then Some z else find (is_object n) os)) [ true ↦ refl | false ↦ link_more os y n e ]
-
-insert_asks_in : (r : Record) (f : ℕ) (kind : Kind) (area : Area) (frame : Option Frame) (t : Took) → insert_at r f kind area frame ≡ Ok t → AsksAll (λ o op. IsQuiet op) (links_of r.objects) (links_of t.rec.objects) (messages_of t.answer.actions) × IsPlain r t
-insert_asks_in r f kind area None t e = cc
-insert_asks_in r f kind area (Some frame) t e =
-    let a = unless_ok (is_doubtful frame.phase) Doubtful _ t e in
-    let b = unless_ok (is_saving frame.phase) Busy _ t a.1 in
-    let c = unless_ok (is_empty_area area) WrongState _ t b.1 in
-    let d = unless_ok (nat_le MOST_OBJECTS (count_objects f r.objects)) Full _ t c.1 in
-    let g : Ok (insert_made r f kind area) ≡ Ok t = (unless_ok (nat_le r.numbers r.last_object) NumbersSpent _ t d.1).1 in
-    let is : insert_made r f kind area ≡ t = cc in
-    let y = new_object (r.last_object + 1) f kind area in
-    subst (λ (v : Took). AsksAll (λ o op. IsQuiet op) (links_of r.objects) (links_of v.rec.objects) (messages_of v.answer.actions) × IsPlain r v) is
-    (none_asked (links_of r.objects) (links_of (r.objects ++ y ∷ [])) (λ n. link_more r.objects y n refl), record { last_act = refl; servers = refl; starts = λ numbers. refl; ends = λ is. refl })
-
-pub insert_asks : (r : Record) (f : ℕ) (kind : Kind) (area : Area) (t : Took) → insert r f kind area ≡ Ok t → AsksAll (λ o op. IsQuiet op) (links_of r.objects) (links_of t.rec.objects) (messages_of t.answer.actions) × IsPlain r t
-insert_asks r f kind area t e = insert_asks_in r f kind area (nth r.frames f) t e
-
 -- one object is asked
 pub one_asked : (r : Record) (n : ℕ) (op : Operation) (x : Object) (l : Link) → Steady r → find (is_object n) r.objects ≡ Some x → x.link ≡ Some l → IsQuiet op
     → AsksAll (λ o op. IsQuiet op) (links_of r.objects) (links_of (put (is_object x.number) (record x { link = Some (ask l op).link }) r.objects)) (ask l op).sent
@@ -162,25 +121,6 @@ one_asked r n op x l s f xl quiet =
           (λ t'. unasked_as IsQuiet (links_of r.objects k) (links_of (put test a r.objects) k) (put_there r.objects test x a s.order here refl k (λ q. eqb-false x.number k t' (sym q))));
       from = λ m g. (x.number, subst (λ b. Among (if b then ms else []) m) (sym (eq-eqb x.number x.number refl)) g);
     }
-
--- Edit
-edit_quiet : (bytes : List ℕ) → IsQuiet (Edit bytes)
-edit_quiet bytes = λ k storage e. cc
-
-edit_asks_linked : (r : Record) (n : ℕ) (bytes : List ℕ) (x : Object) (link : Option Link) (t : Took) → Steady r → find (is_object n) r.objects ≡ Some x → x.link ≡ link → edit_linked r x bytes link ≡ Ok t
-    → AsksAll (λ o op. IsQuiet op) (links_of r.objects) (links_of t.rec.objects) (messages_of t.answer.actions) × IsPlain r t
-edit_asks_linked r n bytes x None t s f xl e = cc
-edit_asks_linked r n bytes x (Some l) t s f xl e =
-    let is : edited r x l bytes ≡ t = edited_by r x bytes l t xl e in
-    let a : Object = record x { link = Some (ask l (Edit bytes)).link } in
-    let ms = (ask l (Edit bytes)).sent in
-    subst (λ (v : Took). AsksAll (λ o op. IsQuiet op) (links_of r.objects) (links_of v.rec.objects) (messages_of v.answer.actions) × IsPlain r v) is (
-      subst (λ v. AsksAll (λ o op. IsQuiet op) (links_of r.objects) (links_of (put (is_object x.number) a r.objects)) v) (sym (messages_sends ms)) (one_asked r n (Edit bytes) x l s f xl (edit_quiet bytes)),
-      record { last_act = refl; servers = refl; starts = λ numbers. no_start_sent numbers ms; ends = no_end_sent ms },
-    )
-
-pub edit_asks : (r : Record) (n : ℕ) (bytes : List ℕ) (t : Took) → Steady r → edit r n bytes ≡ Ok t → AsksAll (λ o op. IsQuiet op) (links_of r.objects) (links_of t.rec.objects) (messages_of t.answer.actions) × IsPlain r t
-edit_asks r n bytes t s e = (let at = ready_at r n (λ o frame. edit_linked r o bytes o.link) t e in edit_asks_linked r n bytes at.0.object at.0.object.link t s at.0.found refl at.1)
 
 -- whole frames
 pub asked_number : (f : ℕ) (op : Operation) (o : Object) → (asked_object f op o).number ≡ o.number

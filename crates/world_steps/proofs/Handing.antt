@@ -1,25 +1,21 @@
 -- Saves that are asked for and that go on: each object of a frame is asked for its content, and in a save under another name
 -- then for its storage.
-use Rattle.std.proofs.Common.{◌≡◌, ℕ, ◌+◌, Bool, true, false, List, [], ◌∷◌, ◌++◌, length, map, Option, Some, None, Ok, refl, sym, ap, ◌∙◌, subst, if◌then◌else◌, ◌<◌}
+use Rattle.std.proofs.Common.{◌≡◌, ℕ, ◌+◌, Bool, true, false, List, [], ◌∷◌, ◌++◌, length, map, Option, Some, None, refl, sym, ap, ◌∙◌, subst, if◌then◌else◌, ◌<◌}
 use Rattle.wire_msgs.specs.Found.{find, nth}
 use Rattle.wire_msgs.specs.declared.operation.Operation.{Operation}
 use Rattle.wire_msgs.specs.declared.operation.Operation.TheVariants.{HandsOff, Save, UiActivate}
 use Rattle.grant_core.specs.Grants.{Event}
 use Rattle.grant_core.specs.Frames.{after}
 use Rattle.grant_core.specs.declared.grant_states.Claim.{Claim}
-use Rattle.container_model.specs.declared.command.Command.{Command}
-use Rattle.container_model.specs.declared.command.Command.TheVariants as command
 use Rattle.container_model.specs.declared.grants.Tells.{Tells}
 use Rattle.container_model.specs.declared.record.Frame.{Frame}
 use Rattle.container_model.specs.declared.record.Object.{Object}
-use Rattle.container_model.specs.Record.{Record, Took, asked_all, asked_link, asked_object, is_object, with_frame}
+use Rattle.container_model.specs.Record.{Record, asked_all, asked_link, asked_object, is_object, with_frame}
 use Rattle.container_model.specs.Grants.{Requested, event_of, further, grant_each, moved, passed_to, regranted, regranted_by, regranted_in, request, requested}
 use Rattle.container_model.specs.Saves.{settle_actions}
 use Rattle.container_model.specs.HandOffs.{hand_off, hand_off_at, hand_off_each, hand_off_in, handed_off, hands_off, unasked as not_handed}
-use Rattle.container_model.specs.Commands.{on_command, save_made, saving, saving_on}
+use Rattle.container_model.specs.Commands.{save_made, saving, saving_on}
 use Rattle.container_steady.specs.Steady.{EachPair, Steady}
-use Rattle.container_steady.specs.Taken.{IsTakenAs, as_close, as_delete, as_edit, as_insert, as_kill, as_new, as_run, as_save, as_save_as, as_start, as_verb}
-use Rattle.container_steady.proofs.Taken.{command_taken}
 use Rattle.container_steady.proofs.SteadyTests.{found_numbered}
 use Rattle.world_model.specs.Safe.{links_of}
 use Rattle.world_facts.specs.Shapes.{IsQuiet}
@@ -121,27 +117,6 @@ save_turned r f frame name s =
         ends = λ is. no_end ms (settle_actions u.rec) is (no_end_settled 1 u.rec.objects u.rec.frames is);
       },
     )
-
-abbrev pub IsSaving : Command → Type 0
-IsSaving (command.Save f) = Unit {0}
-IsSaving (command.SaveAs f name) = Unit {0}
-IsSaving c = ⊥
-
-saves_taken : (r : Record) (c : Command) (t : Took) → Steady r → IsSaving c → IsTakenAs r t c → IsTurned r t
-saves_taken r _ t s saving (as_new name w h new made) = absurd saving
-saves_taken r _ t s saving (as_insert f kind area at made) = absurd saving
-saves_taken r _ t s saving (as_start started made) = absurd saving
-saves_taken r _ t s saving (as_run n inc at run made) = absurd saving
-saves_taken r _ t s saving (as_edit n bytes go small has made) = absurd saving
-saves_taken r _ t s saving (as_save f at made) = subst (IsTurned r) made (save_turned r f at.frame None s)
-saves_taken r _ t s saving (as_save_as f name at free other made) = subst (IsTurned r) made (save_turned r f at.frame (Some name) s)
-saves_taken r _ t s saving (as_delete n at passive made) = absurd saving
-saves_taken r _ t s saving (as_kill inc alive made) = absurd saving
-saves_taken r _ t s saving (as_close n option go ts has row made) = absurd saving
-saves_taken r _ t s saving (as_verb n number go verb) = absurd saving
-
-pub save_asks : (r : Record) (c : Command) (t : Took) → Steady r → IsSaving c → on_command r c ≡ Ok t → IsTurned r t
-save_asks r c t s saving e = saves_taken r c t s saving (command_taken r c t e)
 
 -- objects of a record keep their numbers as they are asked one by one
 requested_numbers : (r : Record) (n : ℕ) (op : Operation) (x : Option Object) → find (is_object n) r.objects ≡ x → numbers (requested r op x).rec.objects ≡ numbers r.objects

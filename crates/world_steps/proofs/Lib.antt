@@ -8,7 +8,6 @@ pub mod Turns
 pub mod Keeping
 pub mod Verbing
 pub mod Relieving
-pub mod Closing
 pub mod Taking
 pub mod Running
 pub mod Replying
@@ -17,4 +16,5 @@ pub mod Committing
 pub mod Dropping
 pub mod Opening
 pub mod Handing
+pub mod Commanding
 pub mod Forging

@@ -1,16 +1,13 @@
 -- Run: an activation begins.
-use Rattle.std.proofs.Common.{◌≡◌, ◌||◌, ℕ, ◌+◌, true, not, List, [], ◌∷◌, Some, is_some, Ok, refl, sym, ap, ◌∙◌, subst, nat_le, nat_lt}
+use Rattle.std.proofs.Common.{◌≡◌, ℕ, ◌+◌, true, List, [], ◌∷◌, Some, refl, sym, ap, ◌∙◌, subst}
 use Rattle.wire_msgs.specs.Found.{find, put, nth}
 use Rattle.wire_msgs.specs.declared.operation.Operation.{Operation}
 use Rattle.storage_tree.specs.declared.streams.NamedStream.{NamedStream}
 use Rattle.container_model.specs.declared.record.Object.{Object}
-use Rattle.container_model.specs.declared.fault.ContainerFault.TheVariants.{NoSuch, NumbersSpent, WrongState, UnknownClass}
-use Rattle.container_model.specs.Record.{Record, Took, MARGIN, is_object, is_alive}
-use Rattle.container_model.specs.Commands.{is_known_class, run, run_made, run_object, first_operation, begun_link}
+use Rattle.container_model.specs.Record.{Record, is_object, is_alive}
+use Rattle.container_model.specs.Commands.{run, run_made, first_operation, begun_link}
 use Rattle.container_steady.specs.Steady.{Steady}
-use Rattle.container_steady.proofs.SteadyRecords.{unless_ok}
-use Rattle.container_steady.proofs.Taken.{ready_at}
-use Rattle.container_steady.proofs.SteadyTests.{not_false, none_of, found_numbered}
+use Rattle.container_steady.specs.Taken.{IsReadyAt, IsRun}
 use Rattle.world_model.specs.declared.life.Life.{Life}
 use Rattle.world_model.specs.World.{messages_of}
 use Rattle.world_model.specs.Safe.{links_of}
@@ -23,38 +20,31 @@ first_quiet : (o : Object) (ss : List NamedStream) → IsQuiet (first_operation 
 first_quiet o [] = λ k storage e. cc
 first_quiet o (s ∷ ss) = λ k storage e. cc
 
-pub run_begins : (r : Record) (lives : Lives) (owners : List ℕ) (n inc : ℕ) (t : Took) → Steady r → run r n inc ≡ Ok t
-    → nth owners (r.last_act + 1) ≡ Some n → (is_alive r inc ≡ true → (life : Life) × (lives inc ≡ Some life)) → IsBegun r lives owners n t
-run_begins r lives owners n inc t s e ow ho =
-    let a1 = unless_ok (not (is_alive r inc)) NoSuch _ t e in
-    let at = ready_at r n (λ o frame. run_object r o inc) t a1.1 in
-    let x : Object = at.0.object in
-    let f : find (is_object n) r.objects ≡ Some x = at.0.found in
-    let a4 = unless_ok (is_some x.link) WrongState _ t at.1 in
-    let a5 = unless_ok (not (is_known_class x.class)) UnknownClass _ t a4.1 in
-    let a6 : Ok (run_made r x inc) ≡ Ok t = (unless_ok (nat_lt r.numbers MARGIN || nat_le r.numbers r.last_act) NumbersSpent _ t a5.1).1 in
-    let is : run_made r x inc ≡ t = cc in
+pub run_begins : (r : Record) (lives : Lives) (owners : List ℕ) (n inc : ℕ) (at : IsReadyAt r n) → IsRun r at.object inc → Steady r
+    → nth owners (r.last_act + 1) ≡ Some n → (is_alive r inc ≡ true → (life : Life) × (lives inc ≡ Some life)) → IsBegun r lives owners n (run_made r at.object inc)
+run_begins r lives owners n inc at run s ow ho =
+    let x : Object = at.object in
     let op : Operation = first_operation x x.work.streams in
     let new = begun_link inc (r.last_act + 1) op in
     let a : Object = record x { link = Some new } in
     let test = is_object x.number in
-    let here : find test r.objects ≡ Some x = found_numbered n r.objects x f in
-    let xn : x.number ≡ n = found_number r.objects n x f in
+    let here : find test r.objects ≡ Some x = at.own in
+    let xn : x.number ≡ n = found_number r.objects n x at.found in
     let made : Begins (links_of r.objects) (links_of (put test a r.objects)) lives owners r.last_act x.number (messages_of (run_made r x inc).answer.actions) = record {
       inc = inc;
       op = op;
-      was = link_was r.objects test x a s.order here refl ∙ none_of x.link a4.0;
+      was = link_was r.objects test x a s.order here refl ∙ run.passive;
       is = put_here r.objects test x a s.order here refl;
       others = λ k ne. put_there r.objects test x a s.order here refl k ne;
       quiet = first_quiet x x.work.streams;
       owner = ow ∙ ap Some (sym xn);
-      hosted = ho (not_false (is_alive r inc) a1.0);
+      hosted = ho run.alive;
       sends = refl;
     } in
-    subst (IsBegun r lives owners n) is (record {
+    record {
       begins = subst (λ k. Begins (links_of r.objects) (links_of (put test a r.objects)) lives owners r.last_act k (messages_of (run_made r x inc).answer.actions)) xn made;
       last_act = refl;
       servers = refl;
       starts = λ numbers. refl;
       ends = λ is. refl;
-    })
+    }

@@ -1,10 +1,10 @@
 -- Verbs: the holder of a frame is asked to give it up, and an object is asked the steps of the verb, one after the other.
-use Rattle.std.proofs.Common.{◌≡◌, ◌+◌, length, ◌&&◌, ◌||◌, ℕ, ℤ, true, false, not, List, [], ◌∷◌, ◌++◌, map, Option, Some, None, Result, Ok, refl, sym, ap, ◌∙◌, subst, if◌then◌else◌, nat_le, eq-eqb}
+use Rattle.std.proofs.Common.{◌≡◌, ◌+◌, length, ℕ, true, false, List, [], ◌∷◌, ◌++◌, map, Option, Some, None, Result, Ok, refl, sym, ap, ◌∙◌, subst, if◌then◌else◌, eq-eqb}
 use Rattle.std.specs.List.{AllByRecursion}
 use Rattle.std.proofs.lemmas.List.{append-nil}
 use Rattle.wire_msgs.specs.Found.{find, put, nth, set_nth}
 use Rattle.wire_msgs.specs.declared.operation.Operation.TheVariants.{UiDeactivate}
-use Rattle.object_state.specs.Verbs.{steps, verb_of}
+use Rattle.object_state.specs.Verbs.{steps}
 use Rattle.object_state.specs.declared.object_states.ObjectState.{ObjectState}
 use Rattle.object_state.specs.declared.object_states.ObjectState.TheVariants.{UiActive}
 use Rattle.object_state.specs.declared.verbs.Verb.{Verb}
@@ -18,19 +18,17 @@ use Rattle.container_model.specs.declared.record.Link.{Link}
 use Rattle.container_model.specs.declared.record.Object.{Object}
 use Rattle.container_model.specs.declared.record.Frame.{Frame}
 use Rattle.container_model.specs.declared.fault.ContainerFault.{ContainerFault}
-use Rattle.container_model.specs.declared.fault.ContainerFault.TheVariants.{Busy, NumbersSpent}
-use Rattle.container_model.specs.Record.{Record, Took, acts, counts_none, quiet_answer, sends, with_frame, with_object, has_numbers, is_moving, is_object}
+use Rattle.container_model.specs.Record.{Record, Took, acts, sends, with_frame, with_object, is_object}
 use Rattle.container_model.specs.Grants.{Requested, grant_of, moved, request}
-use Rattle.container_model.specs.Verbs.{operation_of, claim_of, takes, gives_up, stepped_link, leaving_made, holder_of, holder_has_numbers, revoked_at, claimed, steps_now, taking_made, taking, stepping, verb_steps, steps_of, verb_linked, wants_ui, verb_framed, verb}
+use Rattle.container_model.specs.Verbs.{operation_of, claim_of, takes, gives_up, stepped_link, leaving_made, holder_of, revoked_at, claimed, steps_now, taking_made}
+use Rattle.container_steady.specs.Made.{IsTaking}
 use Rattle.container_steady.specs.Roles.{Holding, Other, IsShown, role_in}
 use Rattle.container_steady.specs.Steady.{WaitsBehind, Steady}
-use Rattle.container_steady.proofs.Taken.{ready_at}
-use Rattle.container_steady.proofs.SteadyRecords.{if_told, unless_ok}
+use Rattle.container_steady.proofs.SteadyRecords.{if_told}
 use Rattle.container_steady.proofs.SteadyTests.{found_numbered}
-use Rattle.world_model.specs.World.{messages_of}
 use Rattle.world_model.specs.Safe.{link_at, links_of}
 use Rattle.world_facts.specs.Shapes.{IsQuiet}
-use Rattle.world_steps.specs.Steps.{IsPlain, AsksInTurn, asks_none, asks_first, IsTurned}
+use Rattle.world_steps.specs.Steps.{AsksInTurn, asks_none, asks_first, IsTurned}
 use Rattle.world_steps.proofs.Objects.{found_held, linked_object, messages_sends, no_start_sent, no_end_sent, steady_waits}
 use Rattle.world_steps.proofs.Turns.{each_turns, placed_here, placed_there, KeepsRest, rest_same, request_keeps, request_others, request_asks, turns_join}
 
@@ -39,10 +37,6 @@ ok_took x y e = cc
 
 ui_quiet : IsQuiet UiDeactivate
 ui_quiet = λ k storage e. cc
-
--- a step that does nothing
-pub nothing_turned : (r : Record) → IsTurned r (counts_none r quiet_answer)
-nothing_turned r = (asks_none (links_of r.objects) (links_of r.objects) [] (λ k. refl) refl, record { last_act = refl; servers = refl; starts = λ numbers. refl; ends = λ is. refl })
 
 -- no step tells the end of a save
 step_quiet : (g : ℕ) (s : Step) → IsQuiet (operation_of g s)
@@ -120,18 +114,17 @@ module _ (r : Record) (n : ℕ) (o : Object) (l : Link) (s : Steady r) (found : 
       ends_there frame v ss (asks_first (links_of r.objects) (links_of v.rec.objects) (links_of v.rec.objects) v.sent [] v.sent asked (asks_none (links_of v.rec.objects) (links_of v.rec.objects) [] (λ k. refl) refl) (sym (append-nil v.sent)))
       (request_keeps c h UiDeactivate) (request_others c h UiDeactivate o.number (λ q. ne (ap Some (sym q))) ∙ (ap link_at at ∙ linked))
 
-  pub taking_turned : (frame : Frame) (ss : List Step) → (holder_of frame.ui.state ≡ Some o.number → ⊥) → IsTurned r (taking_made r frame o l ss)
+  taking_turned : (frame : Frame) (ss : List Step) → (holder_of frame.ui.state ≡ Some o.number → ⊥) → IsTurned r (taking_made r frame o l ss)
   taking_turned frame ss ne = with_holder frame (steps_now frame.ui.state ss) (holder_of frame.ui.state) ne
 
   -- the holder is active with its menus and border, and then no verb takes the frame
-  no_steps : (v : Option Verb) (ss : List Step) → steps_of v UiActive ≡ Some ss → takes ss ≡ false
-  no_steps None ss e = cc
-  no_steps (Some verb.Primary) ss e = (let q : [] ≡ ss = cc in ap takes (sym q))
-  no_steps (Some verb.Show) ss e = (let q : [] ≡ ss = cc in ap takes (sym q))
-  no_steps (Some verb.UiActivate) ss e = (let q : [] ≡ ss = cc in ap takes (sym q))
-  no_steps (Some verb.Open) ss e = (let q : step.UiDeactivate ∷ step.InPlaceDeactivate ∷ step.OpenWindow ∷ [] ≡ ss = cc in ap takes (sym q))
-  no_steps (Some verb.Hide) ss e = (let q : step.UiDeactivate ∷ step.InPlaceDeactivate ∷ [] ≡ ss = cc in ap takes (sym q))
-  no_steps (Some verb.InPlaceActivate) ss e = (let q : step.UiDeactivate ∷ [] ≡ ss = cc in ap takes (sym q))
+  no_steps : (v : Verb) (ss : List Step) → steps v UiActive ≡ Some ss → takes ss ≡ false
+  no_steps verb.Primary ss e = (let q : [] ≡ ss = cc in ap takes (sym q))
+  no_steps verb.Show ss e = (let q : [] ≡ ss = cc in ap takes (sym q))
+  no_steps verb.UiActivate ss e = (let q : [] ≡ ss = cc in ap takes (sym q))
+  no_steps verb.Open ss e = (let q : step.UiDeactivate ∷ step.InPlaceDeactivate ∷ step.OpenWindow ∷ [] ≡ ss = cc in ap takes (sym q))
+  no_steps verb.Hide ss e = (let q : step.UiDeactivate ∷ step.InPlaceDeactivate ∷ [] ≡ ss = cc in ap takes (sym q))
+  no_steps verb.InPlaceActivate ss e = (let q : step.UiDeactivate ∷ [] ≡ ss = cc in ap takes (sym q))
 
   shown_at : (state : GrantState) (object : ObjectState) → IsShown (role_in state o.number) object → holder_of state ≡ Some o.number → object ≡ UiActive
   shown_at Free object h e = cc
@@ -141,7 +134,7 @@ module _ (r : Record) (n : ℕ) (o : Object) (l : Link) (s : Steady r) (found : 
       let q : holder.object ≡ o.number = cc in
       subst (λ b. IsShown (if b then Holding holder.g tools else Other) object) (eq-eqb holder.object o.number q) h
 
-  not_holder : (frame : Frame) (v : Option Verb) (ss : List Step) → nth r.frames o.frame ≡ Some frame → steps_of v l.states.object ≡ Some ss → takes ss ≡ true → holder_of frame.ui.state ≡ Some o.number → ⊥
+  not_holder : (frame : Frame) (v : Verb) (ss : List Step) → nth r.frames o.frame ≡ Some frame → steps v l.states.object ≡ Some ss → takes ss ≡ true → holder_of frame.ui.state ≡ Some o.number → ⊥
   not_holder frame v ss framed e t h =
       let held = found_held r n l o s found linked in
       let same : Some held.object ≡ Some o = sym held.found ∙ found in
@@ -151,28 +144,9 @@ module _ (r : Record) (n : ℕ) (o : Object) (l : Link) (s : Steady r) (found : 
       let shown : IsShown (role_in frame.ui.state o.number) l.states.object =
       subst (λ (x : Object). IsShown (role_in frame.ui.state x.number) l.states.object) same_object (subst (λ (x : Frame). IsShown (role_in x.ui.state held.object.number) l.states.object) frame_is held.steady.shown) in
       let active : l.states.object ≡ UiActive = shown_at frame.ui.state l.states.object shown h in
-      let none : takes ss ≡ false = no_steps v ss (ap (steps_of v) (sym active) ∙ e) in
+      let none : takes ss ≡ false = no_steps v ss (ap (steps v) (sym active) ∙ e) in
       let z : true ≡ false = sym t ∙ none in
       cc
 
-  stepped_turned : (frame : Frame) (v : Option Verb) (ss : List Step) (t : Took) → nth r.frames o.frame ≡ Some frame → steps_of v l.states.object ≡ Some ss → stepping r frame o l ss ≡ Ok t → IsTurned r t
-  stepped_turned frame v ss t framed steps e = if_told (λ (x : Result Took ContainerFault). x ≡ Ok t → IsTurned r t) (takes ss) (taking r frame o l ss) (Ok (leaving_made r frame o l ss))
-      (λ b g. let made : Ok (taking_made r frame o l ss) ≡ Ok t = (unless_ok (nat_le r.numbers r.last_g || not (holder_has_numbers r (holder_of frame.ui.state))) NumbersSpent _ t g).1 in
-      subst (IsTurned r) (ok_took _ t made) (taking_turned frame ss (not_holder frame v ss framed steps b)))
-      (λ b g. subst (IsTurned r) (ok_took _ t g) (leaving_turned frame ss)) e
-
-  pub steps_turned : (frame : Frame) (v : Option Verb) (steps : Option (List Step)) (t : Took) → nth r.frames o.frame ≡ Some frame → steps_of v l.states.object ≡ steps → verb_steps r frame o l steps ≡ Ok t → IsTurned r t
-  steps_turned frame v None t framed q e = cc
-  steps_turned frame v (Some []) t framed q e = subst (IsTurned r) (ok_took _ t e) (nothing_turned r)
-  steps_turned frame v (Some (x ∷ ss)) t framed q e = stepped_turned frame v (x ∷ ss) t framed q (unless_ok (not (has_numbers r.numbers l)) NumbersSpent _ t e).1
-
-verb_linked_turned : (r : Record) (n : ℕ) (v : Option Verb) (frame : Frame) (o : Object) (link : Option Link) (t : Took) → Steady r → find (is_object n) r.objects ≡ Some o → nth r.frames o.frame ≡ Some frame → o.link ≡ link → verb_linked r frame o v link ≡ Ok t
-    → IsTurned r t
-verb_linked_turned r n v frame o None t s f framed linked e = cc
-verb_linked_turned r n v frame o (Some l) t s f framed linked e = steps_turned r n o l s f linked frame v (steps_of v l.states.object) t framed refl e
-
-pub verb_asks : (r : Record) (n : ℕ) (number : ℤ) (t : Took) → Steady r → verb r n number ≡ Ok t → AsksInTurn (links_of r.objects) (links_of t.rec.objects) (messages_of t.answer.actions) × IsPlain r t
-verb_asks r n number t s e =
-    let at = ready_at r n (verb_framed r (verb_of number)) t e in
-    let still = unless_ok (wants_ui (verb_of number) && is_moving at.0.frame.ui.state) Busy _ t at.1 in
-    verb_linked_turned r n (verb_of number) at.0.frame at.0.object at.0.object.link t s at.0.found at.0.inside refl still.1
+  pub claiming_turned : (frame : Frame) (ss : List Step) → nth r.frames o.frame ≡ Some frame → IsTaking r frame o l ss → IsTurned r (taking_made r frame o l ss)
+  claiming_turned frame ss framed h = taking_turned frame ss (not_holder frame h.verb ss framed h.row h.taken)

@@ -1,7 +1,9 @@
 -- What a step of a container is, as a list of shapes of change.
-use Rattle.std.specs.Prelude.{◌≡◌, ◌+◌, ◌++◌, ℕ, List, [], length}
+use Rattle.std.specs.Prelude.{◌≡◌, ◌+◌, ◌++◌, ℕ, List, [], ◌∷◌, length}
 use Rattle.wire_msgs.specs.declared.message.Message.{Message}
-use Rattle.container_model.specs.Record.{Record, Took}
+use Rattle.container_model.specs.declared.answer.Action.TheVariants.{End}
+use Rattle.container_model.specs.Commands.{start_made}
+use Rattle.container_model.specs.Record.{Record, Took, acts, counts_none}
 use Rattle.world_model.specs.World.{Instance, messages_of, started_by, ended_by}
 use Rattle.world_model.specs.Safe.{links_of}
 use Rattle.world_facts.specs.Words.{Links, Acts, Lives}
@@ -52,3 +54,11 @@ pub record IsReaped (hostile : List ℕ) (links after : Links) (acts : Acts) (li
   pub between : Links
   pub ends : EndsSome hostile links between acts lives
   pub asked : AsksInTurn between after more
+
+-- What a command is that is taken, and the objects that get an activation by it: it asks objects in turn, starts a server,
+-- begins an activation, or has a server ended.
+pub data IsCommanded (r : Record) (lives : Lives) (owners : List ℕ) (t : Took) : List ℕ → Type 0 where
+  command_asks : IsTurned r t → IsCommanded r lives owners t []
+  command_starts : start_made r ≡ t → IsCommanded r lives owners t []
+  command_begins : (o : ℕ) → IsBegun r lives (owners ++ o ∷ []) o t → IsCommanded r lives owners t (o ∷ [])
+  command_ends : (inc : ℕ) → counts_none r (acts (End inc ∷ [])) ≡ t → IsCommanded r lives owners t []
