@@ -1,8 +1,8 @@
 //! The command lines of the commands between files and folders and of maps, and the help that they print.
 
-use clap::{Arg, ArgAction, Command};
-use program_ends::command_lines;
-pub use program_ends::command_lines::{FILE, JSON};
+use clap::Command;
+pub use program_ends::command_lines::FILE;
+use program_ends::command_lines::{self, AS_JSON, Argument, FILE_MADE, FILE_READ, Kind, Row};
 use std::alloc::{AllocError, Global};
 
 /// The names of the commands and of their other arguments.
@@ -74,82 +74,64 @@ FILE is replaced only once all of it is written; until then the old one stays as
 
 Example: olecon pack mail mail.msg";
 
-fn file_argument<'a>(alloc: Global, help: &'a str) -> Arg<'a> {
-    Arg::new(alloc, FILE)
-        .value_name("FILE")
-        .help(help)
-        .required(true)
-}
-
-fn folder_argument<'a>(alloc: Global, help: &'a str) -> Arg<'a> {
-    Arg::new(alloc, FOLDER)
-        .value_name("FOLDER")
-        .help(help)
-        .required(true)
-}
-
-fn force_argument<'a>(alloc: Global) -> Arg<'a> {
-    Arg::new(alloc, FORCE)
-        .long(FORCE)
-        .help("Replaces what stands in FOLDER under such a name")
-        .action(ArgAction::SetTrue)
-}
-
-fn json_argument<'a>(alloc: Global) -> Arg<'a> {
-    Arg::new(alloc, JSON)
-        .long(JSON)
-        .help("Writes one JSON value")
-        .action(ArgAction::SetTrue)
-}
-
-fn check_command<'a>(alloc: Global) -> Result<Command<'a>, AllocError> {
-    Command::new(alloc, CHECK)
-        .about(ABOUT_CHECK)
-        .after_help(PLACES)
-        .arg(file_argument(alloc, "The file to check"))?
-        .arg(json_argument(alloc))
-}
-
-fn map_command<'a>(alloc: Global) -> Result<Command<'a>, AllocError> {
-    Command::new(alloc, MAP)
-        .about(ABOUT_MAP)
-        .after_help(SECTORS)
-        .arg(file_argument(alloc, "The file to read"))
-}
-
-fn extract_command<'a>(alloc: Global) -> Result<Command<'a>, AllocError> {
-    Command::new(alloc, EXTRACT)
-        .about(ABOUT_EXTRACT)
-        .after_help(FOLDERS)
-        .arg(file_argument(alloc, "The file to read"))?
-        .arg(folder_argument(alloc, "The folder to make"))?
-        .arg(force_argument(alloc))
-}
-
-fn pack_command<'a>(alloc: Global) -> Result<Command<'a>, AllocError> {
-    Command::new(alloc, PACK)
-        .about(ABOUT_PACK)
-        .after_help(PACKED)
-        .arg(folder_argument(alloc, "The folder to read"))?
-        .arg(file_argument(alloc, "The file to write"))
-}
-
-/// Adds the command that this makes.
-fn with_command<'a>(
-    program: Command<'a>,
-    command: Result<Command<'a>, AllocError>,
-) -> Result<Command<'a>, AllocError> {
-    program.subcommand(command?)
-}
+/// The commands of this crate, behind those of `program_ends`.
+const ROWS: &[Row<'static>] = &[
+    Row {
+        name: CHECK,
+        about: ABOUT_CHECK,
+        after: PLACES,
+        arguments: &[
+            Argument {
+                name: FILE,
+                help: "The file to check",
+                kind: Kind::Needed("FILE"),
+            },
+            AS_JSON,
+        ],
+    },
+    Row {
+        name: MAP,
+        about: ABOUT_MAP,
+        after: SECTORS,
+        arguments: &[FILE_READ],
+    },
+    Row {
+        name: EXTRACT,
+        about: ABOUT_EXTRACT,
+        after: FOLDERS,
+        arguments: &[
+            FILE_READ,
+            Argument {
+                name: FOLDER,
+                help: "The folder to make",
+                kind: Kind::Needed("FOLDER"),
+            },
+            Argument {
+                name: FORCE,
+                help: "Replaces what stands in FOLDER under such a name",
+                kind: Kind::Flag,
+            },
+        ],
+    },
+    Row {
+        name: PACK,
+        about: ABOUT_PACK,
+        after: PACKED,
+        arguments: &[
+            Argument {
+                name: FOLDER,
+                help: "The folder to read",
+                kind: Kind::Needed("FOLDER"),
+            },
+            FILE_MADE,
+        ],
+    },
+];
 
 /// The command line of the program `olecon` with its commands over files: `make`, `list`, `get`, `clean`, `check`,
 /// `map`, `extract` and `pack`. A program with more commands adds them. `Task::of` tells what a parsed one asks for.
 ///
 /// Refused for want of memory alone.
 pub fn command_line<'a>(alloc: Global) -> Result<Command<'a>, AllocError> {
-    let files = command_lines::command_line(alloc);
-    let checks = with_command(files?, check_command(alloc));
-    let maps = with_command(checks?, map_command(alloc));
-    let extracts = with_command(maps?, extract_command(alloc));
-    with_command(extracts?, pack_command(alloc))
+    command_lines::command_line(alloc, ROWS)
 }

@@ -2,10 +2,6 @@
 #![tactic(auto)]
 
 pub mod command_lines;
-mod disk_folder;
-mod extracting;
-mod finding;
-mod packing;
 pub mod running;
 pub mod tasks;
 

@@ -16,14 +16,38 @@ use file_places::source::Sought;
 use listing_forms::form::Form;
 use listing_forms::json_form::Json;
 use listing_forms::long_form::Long;
-use program_ends::ends::{refuse, refuse_path};
+use program_ends::ends::{keep, refuse, refuse_path};
 use program_ends::new_file::NewFile;
 use std::fs::OpenFile;
 use std::process::ExitCode;
 use std::rt::Runtime;
 use std::{fs, io};
 use texts::path::Path;
-use texts::report::{Report, STANDARD};
+use texts::report::Report;
+
+/// Opens a file, or tells that it can't be read and gives the status to end with.
+fn open<R: Runtime + AllocGlobal>(rt: &R, path: &str) -> Result<R::File, ExitCode> {
+    match fs::open(rt, path) {
+        Ok(source) => Ok(source),
+        Err(_) => Err(refuse(rt, &Report::File(path, "Unreadable"))),
+    }
+}
+
+/// Whether a file tells how long it is, so that it needn't be held whole: what isn't needed of it is passed over.
+fn is_sought<F: OpenFile>(source: &F) -> bool {
+    match source.metadata() {
+        Ok(about) => about.is_file() && about.len() > 0,
+        Err(_) => false,
+    }
+}
+
+/// Tells why nothing more is told of a file, if so, and gives the status to end with.
+fn end<R: Runtime>(rt: &R, path: &str, told: Result<(), ListFault>) -> ExitCode {
+    match told {
+        Ok(()) => ExitCode::SUCCESS,
+        Err(fault) => refuse(rt, &fault.report(path)),
+    }
+}
 
 /// Makes the file that standard input describes.
 pub fn make<R: Runtime + AllocGlobal>(rt: &R, path: &str) -> ExitCode {
@@ -34,22 +58,6 @@ pub fn make<R: Runtime + AllocGlobal>(rt: &R, path: &str) -> ExitCode {
             new.discard();
             refuse(rt, &fault.report(path))
         }
-    }
-}
-
-/// Keeps a new file of so many bytes, and tells their number.
-pub(crate) fn keep<R: Runtime + AllocGlobal>(
-    rt: &R,
-    new: NewFile<'_, R>,
-    path: &str,
-    count: usize,
-) -> ExitCode {
-    if new.keep().is_err() {
-        return refuse(rt, &Report::File(path, "Unwritable"));
-    }
-    match println!(rt; "{count} bytes") {
-        Ok(()) => ExitCode::SUCCESS,
-        Err(_) => refuse(rt, &Report::File(STANDARD, "Unwritable")),
     }
 }
 
@@ -66,12 +74,9 @@ pub enum Listing {
 
 /// Lists a file on standard output.
 pub fn list<R: Runtime + AllocGlobal>(rt: &R, path: &str, listing: Listing) -> ExitCode {
-    let Ok(source) = fs::open(rt, path) else {
-        return refuse(rt, &Report::File(path, "Unreadable"));
-    };
-    match list_open(rt, source, listing) {
-        Ok(()) => ExitCode::SUCCESS,
-        Err(fault) => refuse(rt, &fault.report(path)),
+    match open(rt, path) {
+        Ok(source) => end(rt, path, list_open(rt, source, listing)),
+        Err(code) => code,
     }
 }
 
@@ -93,36 +98,27 @@ fn list_as<F: Form, R: Runtime + AllocGlobal>(
     rt: &R,
     mut source: R::File,
 ) -> Result<(), ListFault> {
-    match source.metadata() {
-        Ok(about) if about.is_file() && about.len() > 0 => list_source_as::<F, _, _>(
-            rt.alloc(),
-            &mut Sought::new(source),
-            &mut io::writer(rt),
-        ),
-        _ => list_file_as::<F, _, _>(rt.alloc(), &mut source, &mut io::writer(rt)),
+    if is_sought(&source) {
+        list_source_as::<F, _, _>(rt.alloc(), &mut Sought::new(source), &mut io::writer(rt))
+    } else {
+        list_file_as::<F, _, _>(rt.alloc(), &mut source, &mut io::writer(rt))
     }
 }
 
 /// Lists an open file in lines, likewise.
 fn list_lines<R: Runtime + AllocGlobal>(rt: &R, mut source: R::File) -> Result<(), ListFault> {
-    match source.metadata() {
-        Ok(about) if about.is_file() && about.len() > 0 => list_source(
-            rt.alloc(),
-            &mut Sought::new(source),
-            &mut io::writer(rt),
-        ),
-        _ => list_file(rt.alloc(), &mut source, &mut io::writer(rt)),
+    if is_sought(&source) {
+        list_source(rt.alloc(), &mut Sought::new(source), &mut io::writer(rt))
+    } else {
+        list_file(rt.alloc(), &mut source, &mut io::writer(rt))
     }
 }
 
 /// Tells on standard output what is wrong with a file, and where.
 pub fn check<R: Runtime + AllocGlobal>(rt: &R, path: &str, form: CheckForm) -> ExitCode {
-    let Ok(source) = fs::open(rt, path) else {
-        return refuse(rt, &Report::File(path, "Unreadable"));
-    };
-    match check_open(rt, source, form) {
-        Ok(()) => ExitCode::SUCCESS,
-        Err(fault) => refuse(rt, &fault.report(path)),
+    match open(rt, path) {
+        Ok(source) => end(rt, path, check_open(rt, source, form)),
+        Err(code) => code,
     }
 }
 
@@ -132,25 +128,27 @@ fn check_open<R: Runtime + AllocGlobal>(
     mut source: R::File,
     form: CheckForm,
 ) -> Result<(), ListFault> {
-    match source.metadata() {
-        Ok(about) if about.is_file() && about.len() > 0 => check_source(
+    if is_sought(&source) {
+        check_source(
             rt.alloc(),
             &mut Sought::new(source),
             form,
             &mut io::writer(rt),
-        ),
-        _ => check_file(rt.alloc(), &mut source, form, &mut io::writer(rt)),
+        )
+    } else {
+        check_file(rt.alloc(), &mut source, form, &mut io::writer(rt))
     }
 }
 
 /// Writes the map of a file to standard output.
 pub fn map<R: Runtime + AllocGlobal>(rt: &R, path: &str) -> ExitCode {
-    let Ok(mut source) = fs::open(rt, path) else {
-        return refuse(rt, &Report::File(path, "Unreadable"));
-    };
-    match map_file(rt.alloc(), &mut source, &mut io::writer(rt)) {
-        Ok(()) => ExitCode::SUCCESS,
-        Err(fault) => refuse(rt, &fault.report(path)),
+    match open(rt, path) {
+        Ok(mut source) => end(
+            rt,
+            path,
+            map_file(rt.alloc(), &mut source, &mut io::writer(rt)),
+        ),
+        Err(code) => code,
     }
 }
 
@@ -174,10 +172,15 @@ fn get_spelled<R: Runtime + AllocGlobal>(
         Ok(names) => names,
         Err(fault) => return refuse_path(rt, word, fault.name()),
     };
-    let Ok(source) = fs::open(rt, path) else {
-        return refuse(rt, &Report::File(path, "Unreadable"));
-    };
-    match get_open(rt, source, names) {
+    match open(rt, path) {
+        Ok(source) => end_get(rt, path, get_open(rt, source, names)),
+        Err(code) => code,
+    }
+}
+
+/// Tells why a stream isn't written, if so, and gives the status to end with.
+fn end_get<R: Runtime>(rt: &R, path: &str, got: Result<(), GetFault>) -> ExitCode {
+    match got {
         Ok(()) => ExitCode::SUCCESS,
         Err(fault) => refuse(rt, &fault.report(path)),
     }
@@ -189,22 +192,33 @@ fn get_open<R: Runtime + AllocGlobal>(
     mut source: R::File,
     names: &[Name],
 ) -> Result<(), GetFault> {
-    match source.metadata() {
-        Ok(about) if about.is_file() && about.len() > 0 => get_source(
+    if is_sought(&source) {
+        get_source(
             rt.alloc(),
             &mut Sought::new(source),
             names,
             &mut io::writer(rt),
-        ),
-        _ => get_file(rt.alloc(), &mut source, names, &mut io::writer(rt)),
+        )
+    } else {
+        get_file(rt.alloc(), &mut source, names, &mut io::writer(rt))
     }
 }
 
 /// Writes the tree of a file to another, or to the same.
 pub fn clean<R: Runtime + AllocGlobal>(rt: &R, path: &str, out: &str) -> ExitCode {
-    let Ok(source) = fs::open(rt, path) else {
-        return refuse(rt, &Report::File(path, "Unreadable"));
-    };
+    match open(rt, path) {
+        Ok(source) => clean_into(rt, path, source, out),
+        Err(code) => code,
+    }
+}
+
+/// Writes the tree of an open file to another, which is kept if all of it is written.
+fn clean_into<R: Runtime + AllocGlobal>(
+    rt: &R,
+    path: &str,
+    source: R::File,
+    out: &str,
+) -> ExitCode {
     let mut new = NewFile::new(rt, out);
     match clean_open(rt, source, &mut new) {
         Ok(count) => keep(rt, new, out, count),
@@ -221,10 +235,9 @@ fn clean_open<R: Runtime + AllocGlobal>(
     mut source: R::File,
     new: &mut NewFile<'_, R>,
 ) -> Result<usize, CleanFault> {
-    match source.metadata() {
-        Ok(about) if about.is_file() && about.len() > 0 => {
-            clean_source(rt.alloc(), &mut Sought::new(source), new)
-        }
-        _ => clean_file(rt.alloc(), &mut source, new),
+    if is_sought(&source) {
+        clean_source(rt.alloc(), &mut Sought::new(source), new)
+    } else {
+        clean_file(rt.alloc(), &mut source, new)
     }
 }

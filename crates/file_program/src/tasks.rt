@@ -1,11 +1,11 @@
 //! What a command line over files asks for.
 
 use crate::command_lines::{CHECK, EXTRACT, FOLDER, FORCE, MAP, PACK};
-use crate::extracting::extract;
-use crate::packing::pack;
 use crate::running::{Listing, check, clean, get, list, make, map};
 use clap::ArgMatches;
 use fault_texts::telling::Form;
+use folder_program::extracting::extract;
+use folder_program::packing::pack;
 use program_ends::command_lines::{CLEAN, FILE, GET, JSON, LIST, LONG, MAKE, OUT, PATH};
 use std::process::ExitCode;
 use std::rt::Runtime;
@@ -34,28 +34,26 @@ pub enum Task<'a> {
 impl<'a> Task<'a> {
     /// What a parsed command line asks for; none where it names no command over files.
     pub fn of(matches: &ArgMatches<'a>) -> Option<Task<'a>> {
-        if let Some(made) = matches.subcommand_matches(MAKE) {
-            return making(made);
+        let (name, given) = matches.subcommand()?;
+        if name == MAKE {
+            making(given)
+        } else if name == LIST {
+            listing(given)
+        } else if name == GET {
+            getting(given)
+        } else if name == CLEAN {
+            cleaning(given)
+        } else if name == CHECK {
+            checking(given)
+        } else if name == MAP {
+            mapping(given)
+        } else if name == EXTRACT {
+            extracting(given)
+        } else if name == PACK {
+            packing(given)
+        } else {
+            None
         }
-        if let Some(listed) = matches.subcommand_matches(LIST) {
-            return listing(listed);
-        }
-        if let Some(got) = matches.subcommand_matches(GET) {
-            return getting(got);
-        }
-        if let Some(cleaned) = matches.subcommand_matches(CLEAN) {
-            return cleaning(cleaned);
-        }
-        if let Some(checked) = matches.subcommand_matches(CHECK) {
-            return checking(checked);
-        }
-        if let Some(mapped) = matches.subcommand_matches(MAP) {
-            return mapping(mapped);
-        }
-        if let Some(extracted) = matches.subcommand_matches(EXTRACT) {
-            return extracting(extracted);
-        }
-        packing(matches.subcommand_matches(PACK)?)
     }
 
     /// Does what is asked for, and gives the status to end with.

@@ -73,63 +73,175 @@ Example: olecon clean letter.doc letter.doc";
 const STATUSES: &str =
     "Status: 0, 2 for a command line that is refused, 3 for a file or a line that is refused or a run that stops";
 
-/// An argument that can't be left out: the name by which it is read, the word that the help has for it, and what it is.
-fn required<'a>(alloc: Global, id: &'a str, word: &'a str, help: &'a str) -> Arg<'a> {
-    Arg::new(alloc, id)
+/// How an argument is given.
+#[derive(Clone, Copy)]
+pub enum Kind<'a> {
+    /// It can't be left out. The help has this word for it.
+    Needed(&'a str),
+    /// It is given or not.
+    Flag,
+    /// It is given or not, and never together with the one of this name.
+    FlagWithout(&'a str),
+}
+
+/// An argument: the name by which it is read, what the help says of it, and how it is given.
+#[derive(Clone, Copy)]
+pub struct Argument<'a> {
+    pub name: &'a str,
+    pub help: &'a str,
+    pub kind: Kind<'a>,
+}
+
+/// A command: its name, what the help says of it before its arguments and behind them, and these.
+#[derive(Clone, Copy)]
+pub struct Row<'a> {
+    pub name: &'a str,
+    pub about: &'a str,
+    pub after: &'a str,
+    pub arguments: &'a [Argument<'a>],
+}
+
+/// The file that a command reads.
+pub const FILE_READ: Argument<'static> = Argument {
+    name: FILE,
+    help: "The file to read",
+    kind: Kind::Needed("FILE"),
+};
+
+/// The file that a command makes.
+pub const FILE_MADE: Argument<'static> = Argument {
+    name: FILE,
+    help: "The file to write",
+    kind: Kind::Needed("FILE"),
+};
+
+/// Whether what a command tells is one JSON value.
+pub const AS_JSON: Argument<'static> = Argument {
+    name: JSON,
+    help: "Writes one JSON value",
+    kind: Kind::Flag,
+};
+
+/// The commands that make, list and clean files. What is proved of a command's making is proved once, of any row.
+const ROWS: &[Row<'static>] = &[
+    Row {
+        name: MAKE,
+        about: ABOUT_MAKE,
+        after: LINES,
+        arguments: &[FILE_MADE],
+    },
+    Row {
+        name: LIST,
+        about: ABOUT_LIST,
+        after: LISTED,
+        arguments: &[
+            FILE_READ,
+            AS_JSON,
+            Argument {
+                name: LONG,
+                help: "Writes columns for eyes",
+                kind: Kind::FlagWithout(JSON),
+            },
+        ],
+    },
+    Row {
+        name: GET,
+        about: ABOUT_GET,
+        after: NAMES,
+        arguments: &[
+            FILE_READ,
+            Argument {
+                name: PATH,
+                help: "The stream to write",
+                kind: Kind::Needed("PATH"),
+            },
+        ],
+    },
+    Row {
+        name: CLEAN,
+        about: ABOUT_CLEAN,
+        after: LEFT_BEHIND,
+        arguments: &[
+            FILE_READ,
+            Argument {
+                name: OUT,
+                help: "The file to write",
+                kind: Kind::Needed("OUT"),
+            },
+        ],
+    },
+];
+
+fn needed<'a>(alloc: Global, row: &Argument<'a>, word: &'a str) -> Arg<'a> {
+    Arg::new(alloc, row.name)
         .value_name(word)
-        .help(help)
+        .help(row.help)
         .required(true)
 }
 
-/// A command of this name that reads a file.
-fn reading_command<'a>(
-    alloc: Global,
-    name: &'a str,
-    about: &'a str,
-) -> Result<Command<'a>, AllocError> {
-    Command::new(alloc, name)
-        .about(about)
-        .arg(required(alloc, FILE, "FILE", "The file to read"))
-}
-
-fn make_command<'a>(alloc: Global) -> Result<Command<'a>, AllocError> {
-    Command::new(alloc, MAKE)
-        .about(ABOUT_MAKE)
-        .after_help(LINES)
-        .arg(required(alloc, FILE, "FILE", "The file to write"))
-}
-
-/// An argument that is given or not.
-fn flag<'a>(alloc: Global, id: &'a str, help: &'a str) -> Arg<'a> {
-    Arg::new(alloc, id)
-        .long(id)
-        .help(help)
+fn flag<'a>(alloc: Global, row: &Argument<'a>) -> Arg<'a> {
+    Arg::new(alloc, row.name)
+        .long(row.name)
+        .help(row.help)
         .action(ArgAction::SetTrue)
 }
 
-/// The argument for columns, which isn't given together with that for JSON.
-fn long_flag<'a>(alloc: Global) -> Result<Arg<'a>, AllocError> {
-    flag(alloc, LONG, "Writes columns for eyes").conflicts_with(JSON)
+fn argument_of<'a>(alloc: Global, row: &Argument<'a>) -> Result<Arg<'a>, AllocError> {
+    match row.kind {
+        Kind::Needed(word) => Ok(needed(alloc, row, word)),
+        Kind::Flag => Ok(flag(alloc, row)),
+        Kind::FlagWithout(other) => flag(alloc, row).conflicts_with(other),
+    }
 }
 
-fn list_command<'a>(alloc: Global) -> Result<Command<'a>, AllocError> {
-    let long = long_flag(alloc)?;
-    reading_command(alloc, LIST, ABOUT_LIST)?
-        .after_help(LISTED)
-        .arg(flag(alloc, JSON, "Writes one JSON value"))?
-        .arg(long)
+fn push_argument<'a>(
+    alloc: Global,
+    row: &Argument<'a>,
+    arguments: &mut Vec<Arg<'a>>,
+) -> Result<(), AllocError> {
+    arguments.push(argument_of(alloc, row)?)?;
+    Ok(())
 }
 
-fn get_command<'a>(alloc: Global) -> Result<Command<'a>, AllocError> {
-    reading_command(alloc, GET, ABOUT_GET)?
-        .after_help(NAMES)
-        .arg(required(alloc, PATH, "PATH", "The stream to write"))
+fn arguments_of<'a>(alloc: Global, row: &Row<'a>) -> Result<Vec<Arg<'a>>, AllocError> {
+    let mut arguments = Vec::new(alloc);
+    for argument in row.arguments {
+        push_argument(alloc, argument, &mut arguments)?;
+    }
+    Ok(arguments)
 }
 
-fn clean_command<'a>(alloc: Global) -> Result<Command<'a>, AllocError> {
-    reading_command(alloc, CLEAN, ABOUT_CLEAN)?
-        .after_help(LEFT_BEHIND)
-        .arg(required(alloc, OUT, "OUT", "The file to write"))
+/// The command of a row, with its arguments.
+fn command_of<'a>(
+    alloc: Global,
+    row: &Row<'a>,
+    arguments: Vec<Arg<'a>>,
+) -> Result<Command<'a>, AllocError> {
+    Command::new(alloc, row.name)
+        .about(row.about)
+        .after_help(row.after)
+        .args(arguments)
+}
+
+fn push_command<'a>(
+    alloc: Global,
+    row: &Row<'a>,
+    commands: &mut Vec<Command<'a>>,
+) -> Result<(), AllocError> {
+    let arguments = arguments_of(alloc, row)?;
+    commands.push(command_of(alloc, row, arguments)?)?;
+    Ok(())
+}
+
+fn push_commands<'a>(
+    alloc: Global,
+    rows: &[Row<'a>],
+    commands: &mut Vec<Command<'a>>,
+) -> Result<(), AllocError> {
+    for row in rows {
+        push_command(alloc, row, commands)?;
+    }
+    Ok(())
 }
 
 /// The program with no command yet.
@@ -141,29 +253,13 @@ fn program<'a>(alloc: Global) -> Command<'a> {
         .subcommand_required(true)
 }
 
-/// Adds a command, if that could be made.
-fn push_made<'a>(
-    commands: &mut Vec<Command<'a>>,
-    command: Result<Command<'a>, AllocError>,
-) -> Result<(), AllocError> {
-    commands.push(command?)?;
-    Ok(())
-}
-
-/// Adds the commands over files.
-fn push_commands<'a>(alloc: Global, commands: &mut Vec<Command<'a>>) -> Result<(), AllocError> {
-    push_made(commands, make_command(alloc))?;
-    push_made(commands, list_command(alloc))?;
-    push_made(commands, get_command(alloc))?;
-    push_made(commands, clean_command(alloc))
-}
-
-/// The command line of the program `olecon` with its commands over files: `make`, `list`, `get` and `clean`. A program
-/// with more commands adds them. `Task::of` tells what a parsed one asks for.
+/// The command line of the program `olecon` with `make`, `list`, `get` and `clean`, and the commands of these rows behind
+/// them. A program with more commands adds them.
 ///
 /// Refused for want of memory alone.
-pub fn command_line<'a>(alloc: Global) -> Result<Command<'a>, AllocError> {
+pub fn command_line<'a>(alloc: Global, rows: &[Row<'a>]) -> Result<Command<'a>, AllocError> {
     let mut commands = Vec::new(alloc);
-    push_commands(alloc, &mut commands)?;
+    push_commands(alloc, ROWS, &mut commands)?;
+    push_commands(alloc, rows, &mut commands)?;
     program(alloc).subcommands(commands)
 }

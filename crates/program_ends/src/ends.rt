@@ -1,5 +1,6 @@
 //! How a run of the program ends.
 
+use crate::new_file::NewFile;
 use clap::Error;
 use std::io;
 use std::io::ErrorKind;
@@ -17,6 +18,26 @@ pub const REFUSED: u8 = 3;
 pub fn refuse<R: Runtime>(rt: &R, report: &Report<'_>) -> ExitCode {
     let _ = eprintln!(rt; "{report}");
     ExitCode::from(REFUSED)
+}
+
+/// Keeps a new file of so many bytes, and tells their number.
+pub fn keep<R: Runtime + AllocGlobal>(
+    rt: &R,
+    new: NewFile<'_, R>,
+    path: &str,
+    count: usize,
+) -> ExitCode {
+    match new.keep() {
+        Ok(()) => tell_bytes(rt, count),
+        Err(_) => refuse(rt, &Report::File(path, "Unwritable")),
+    }
+}
+
+fn tell_bytes<R: Runtime>(rt: &R, count: usize) -> ExitCode {
+    match println!(rt; "{count} bytes") {
+        Ok(()) => ExitCode::SUCCESS,
+        Err(_) => refuse(rt, &Report::File(STANDARD, "Unwritable")),
+    }
 }
 
 /// Tells on standard error why a word is no path.

@@ -33,14 +33,10 @@ impl<'a, R: Files + AllocGlobal> DiskFolder<'a, R> {
     fn make_folder(&self, path: &str, is_top: bool) -> Result<(), FolderFault> {
         match fs::create_dir(self.rt, path) {
             Ok(()) => Ok(()),
-            Err(error) if error.kind() == ErrorKind::AlreadyExists => {
-                if self.may_take(path, is_top) {
-                    Ok(())
-                } else {
-                    Err(FolderFault::Exists)
-                }
-            }
-            Err(_) => Err(FolderFault::Unwritable),
+            Err(error) => match fault_of(&error) {
+                FolderFault::Exists if self.may_take(path, is_top) => Ok(()),
+                fault => Err(fault),
+            },
         }
     }
 
@@ -78,16 +74,21 @@ impl<'a, R: Files + AllocGlobal> DiskFolder<'a, R> {
     fn make_file(&self, path: &str, bytes: &[u8]) -> Result<(), FolderFault> {
         self.clear(path);
         match create_new(self.rt, path) {
-            Ok(mut file) => match write(&mut file, bytes) {
-                Ok(()) => Ok(()),
-                Err(_) => {
-                    let _ = fs::remove_file(self.rt, path);
-                    Err(FolderFault::Unwritable)
-                }
-            },
-            Err(error) if error.kind() == ErrorKind::AlreadyExists => Err(FolderFault::Exists),
-            Err(_) => Err(FolderFault::Unwritable),
+            Ok(mut file) => {
+                let done = write(&mut file, bytes);
+                self.remove_unless(path, &done)
+            }
+            Err(error) => Err(fault_of(&error)),
         }
+    }
+
+    /// Removes a new file unless all of it was written.
+    fn remove_unless(&self, path: &str, done: &io::Result<()>) -> Result<(), FolderFault> {
+        if done.is_ok() {
+            return Ok(());
+        }
+        let _ = fs::remove_file(self.rt, path);
+        Err(FolderFault::Unwritable)
     }
 
     /// Removes the file or the link at a path, where what stands there is to be replaced. What can't be removed is met where
@@ -96,6 +97,15 @@ impl<'a, R: Files + AllocGlobal> DiskFolder<'a, R> {
         if self.is_forced {
             let _ = fs::remove_file(self.rt, path);
         }
+    }
+}
+
+/// Why nothing new is made at a path.
+fn fault_of(error: &io::Error) -> FolderFault {
+    if error.kind() == ErrorKind::AlreadyExists {
+        FolderFault::Exists
+    } else {
+        FolderFault::Unwritable
     }
 }
 

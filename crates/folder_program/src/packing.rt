@@ -2,11 +2,10 @@
 
 use crate::disk_folder::path_in;
 use crate::finding::{Refusal, Whole, find_all};
-use crate::running::keep;
 use cfb_names::name::Name;
 use file_folders::path::FolderPath;
 use folder_packing::packing::{PackFault, pack_found};
-use program_ends::ends::refuse;
+use program_ends::ends::{keep, refuse};
 use program_ends::new_file::NewFile;
 use std::alloc::{AllocError, Global};
 use std::process::ExitCode;

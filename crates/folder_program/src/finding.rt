@@ -8,7 +8,7 @@ use folder_packing::notes::read_notes;
 use folder_packing::packing::Found;
 use std::alloc::{AllocError, Global};
 use std::fs::{self, DirEntry};
-use std::io::ErrorKind;
+use std::io::{self, ErrorKind};
 use std::rt::Runtime;
 use storage_tree::bytes::Bytes;
 use storage_tree::class_id::ClassId;
@@ -56,28 +56,43 @@ const UNREADABLE: &str = "Unreadable";
 
 /// All that stands in a folder, each storage before what it holds.
 pub(crate) fn find_all<R: Runtime + AllocGlobal>(rt: &R, folder: &str) -> Result<Whole, Refusal> {
+    match told_of(rt, folder) {
+        Ok((class, state)) => Ok(Whole {
+            class,
+            state,
+            found: find_below(rt, folder)?,
+        }),
+        Err(fault) => Err(refused_at(rt.alloc(), folder, fault)),
+    }
+}
+
+/// All that stands in a folder, but for what it tells of itself.
+fn find_below<R: Runtime + AllocGlobal>(rt: &R, folder: &str) -> Result<Vec<Found>, Refusal> {
     let alloc = rt.alloc();
     let mut search = Search {
         found: Vec::new(alloc),
         pending: Vec::new(alloc),
         bytes: 0,
     };
-    let told = match told_of(rt, folder) {
-        Ok(told) => told,
-        Err(fault) => return Err(refused_at(alloc, folder, fault)),
-    };
-    if begin(alloc, &mut search, folder).is_err() {
+    search_all(rt, folder, &mut search)?;
+    Ok(search.found)
+}
+
+/// Looks into a folder, and into each that is found.
+fn search_all<R: Runtime + AllocGlobal>(
+    rt: &R,
+    folder: &str,
+    search: &mut Search,
+) -> Result<(), Refusal> {
+    let alloc = rt.alloc();
+    if begin(alloc, search, folder).is_err() {
         return Err(refused_at(alloc, folder, NO_MEMORY));
     }
     for _ in 0..MOST_FOLDERS {
         let Some(next) = search.pending.pop() else {
-            return Ok(Whole {
-                class: told.0,
-                state: told.1,
-                found: search.found,
-            });
+            return Ok(());
         };
-        look_into(rt, &mut search, &next)?;
+        look_into(rt, search, &next)?;
     }
     Err(refused_at(alloc, folder, "TooBig"))
 }
@@ -183,35 +198,35 @@ fn take_folder<R: Runtime + AllocGlobal>(
     place: &str,
 ) -> Result<(), &'static str> {
     let (class, state) = told_of(rt, place)?;
-    match add_folder(
-        rt.alloc(),
-        search,
-        path,
-        place,
-        Content::Folder(class, state),
-    ) {
-        Ok(()) => Ok(()),
-        Err(_) => Err(NO_MEMORY),
+    if add_pending(rt.alloc(), search, &path, place).is_err() {
+        return Err(NO_MEMORY);
     }
+    add_found(search, path, Content::Folder(class, state))
 }
 
-fn add_folder(
+/// Adds a folder that is still to be looked into.
+fn add_pending(
     alloc: Global,
     search: &mut Search,
-    path: Vec<Name>,
+    path: &[Name],
     place: &str,
-    content: Content,
 ) -> Result<(), AllocError> {
     let mut names = Vec::new(alloc);
-    for name in &path {
+    for name in path {
         names.push(name.copy())?;
     }
     search.pending.push(Pending {
         path: String::from_str(alloc, place)?,
         names,
     })?;
-    search.found.push(Found { path, content })?;
     Ok(())
+}
+
+fn add_found(search: &mut Search, path: Vec<Name>, content: Content) -> Result<(), &'static str> {
+    match search.found.push(Found { path, content }) {
+        Ok(_) => Ok(()),
+        Err(_) => Err(NO_MEMORY),
+    }
 }
 
 /// Takes a file.
@@ -221,19 +236,23 @@ fn take_file<R: Runtime + AllocGlobal>(
     path: Vec<Name>,
     place: &str,
 ) -> Result<(), &'static str> {
+    let content = content_of(rt, &mut search.bytes, place)?;
+    add_found(search, path, content)
+}
+
+/// What a file holds, whose bytes are counted together with those of the files before it.
+fn content_of<R: Runtime + AllocGlobal>(
+    rt: &R,
+    count: &mut u64,
+    place: &str,
+) -> Result<Content, &'static str> {
     let bytes = bytes_of(rt, place)?;
-    search.bytes = search.bytes.saturating_add(bytes.len() as u64);
-    if search.bytes > MOST_BYTES {
+    *count = count.saturating_add(bytes.len() as u64);
+    if *count > MOST_BYTES {
         return Err("TooBig");
     }
-    let Ok(bytes) = Bytes::from_vec(rt.alloc(), bytes) else {
-        return Err(NO_MEMORY);
-    };
-    match search.found.push(Found {
-        path,
-        content: Content::File(bytes),
-    }) {
-        Ok(()) => Ok(()),
+    match Bytes::from_vec(rt.alloc(), bytes) {
+        Ok(bytes) => Ok(Content::File(bytes)),
         Err(_) => Err(NO_MEMORY),
     }
 }
@@ -252,17 +271,35 @@ fn bytes_of<R: Runtime + AllocGlobal>(rt: &R, place: &str) -> Result<Vec<u8>, &'
 /// The class id and state bits that a folder tells of its storage: zeros where it has no file that does.
 fn told_of<R: Runtime + AllocGlobal>(rt: &R, folder: &str) -> Result<(ClassId, u32), &'static str> {
     let alloc = rt.alloc();
-    let Ok(place) = format!(in alloc; "{folder}/{NOTES}") else {
-        return Err(NO_MEMORY);
-    };
-    match fs::symlink_metadata(rt, place.as_str()) {
-        Ok(_) => match read_notes(&bytes_of(rt, place.as_str())?) {
-            Some(told) => Ok(told),
-            None => Err("Bad"),
-        },
-        Err(error) if error.kind() == ErrorKind::NotFound => {
-            Ok((ClassId::from_bytes([0; 16]), 0))
-        }
-        Err(_) => Err(UNREADABLE),
+    match format!(in alloc; "{folder}/{NOTES}") {
+        Ok(place) => told_at(rt, place.as_str()),
+        Err(_) => Err(NO_MEMORY),
+    }
+}
+
+/// What a file tells of a storage: zeros where there is none.
+fn told_at<R: Runtime + AllocGlobal>(rt: &R, place: &str) -> Result<(ClassId, u32), &'static str> {
+    match fs::symlink_metadata(rt, place) {
+        Ok(_) => read_told(rt, place),
+        Err(error) => told_without(&error),
+    }
+}
+
+fn read_told<R: Runtime + AllocGlobal>(
+    rt: &R,
+    place: &str,
+) -> Result<(ClassId, u32), &'static str> {
+    match read_notes(&bytes_of(rt, place)?) {
+        Some(told) => Ok(told),
+        None => Err("Bad"),
+    }
+}
+
+/// What a folder tells of its storage where its file isn't found for this reason.
+fn told_without(error: &io::Error) -> Result<(ClassId, u32), &'static str> {
+    if error.kind() == ErrorKind::NotFound {
+        Ok((ClassId::from_bytes([0; 16]), 0))
+    } else {
+        Err(UNREADABLE)
     }
 }

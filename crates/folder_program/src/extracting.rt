@@ -40,17 +40,23 @@ fn stopped<R: Runtime + AllocGlobal>(rt: &R, path: &str, folder: &str, stop: &St
         ExtractFault::Input(fault) => refuse(rt, &Report::File(path, fault.name())),
         ExtractFault::Read(fault) => refuse(rt, &Report::File(path, fault.name())),
         ExtractFault::NoMemory => refuse(rt, &Report::File(path, "NoMemory")),
-        ExtractFault::Entry(at, fault) => match path_in(rt.alloc(), folder, at.as_bytes()) {
-            Ok(at) => tell(
-                rt,
-                stop.made,
-                refuse(rt, &Report::File(at.as_str(), fault.name())),
-            ),
-            Err(_) => tell(
-                rt,
-                stop.made,
-                refuse(rt, &Report::File(folder, fault.name())),
-            ),
-        },
+        ExtractFault::Entry(at, fault) => tell(
+            rt,
+            stop.made,
+            refuse_in(rt, folder, at.as_bytes(), fault.name()),
+        ),
+    }
+}
+
+/// Tells why what has this path in a folder isn't made; without memory for its path, that of the folder.
+fn refuse_in<R: Runtime + AllocGlobal>(
+    rt: &R,
+    folder: &str,
+    at: &[u8],
+    fault: &'static str,
+) -> ExitCode {
+    match path_in(rt.alloc(), folder, at) {
+        Ok(place) => refuse(rt, &Report::File(place.as_str(), fault)),
+        Err(_) => refuse(rt, &Report::File(folder, fault)),
     }
 }
