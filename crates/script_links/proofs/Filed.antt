@@ -1,12 +1,11 @@
 -- A file that is saved as bytes that denote the same.
-use Rattle.std.proofs.Common.{◌≡◌, ℕ, List, ◌∷◌, Option, Some, None, Result, Ok, Err, IfOk, IfSome, sym, ap, ◌∙◌, subst}
+use Rattle.std.proofs.Common.{◌≡◌, ℕ, List, ◌∷◌, Option, Some, None, Result, Ok, Err, IfOk, IfSome, ap, ◌∙◌, subst}
 use Rattle.std.proofs.Math.Logic.{∥∥₁_elim, ∥∥₁_prop}
 use Rattle.storage_tree.specs.Tree.{Tree}
 use Rattle.file_model.specs.Denotes.{Denotes}
 use Rattle.file_model.proofs.Unique.{one_tree}
 use Rattle.store_model.specs.declared.disk.Disk.{Ghosts as Disks}
 use Rattle.doc_store.specs.declared.outcome.Outcome.{Outcome}
-use Rattle.doc_store.specs.declared.outcome.Outcome.TheVariants.{Kept, Lost}
 use Rattle.script_model.specs.Events.{Event, Opened, Shut}
 use Rattle.script_model.specs.Saved.{IsAsGiven, IsLostOn, IsSavedOn, IsShutWith, IsShutWithout, IsSince}
 use Rattle.script_links.specs.Told.{IfKept, IfLost, IsAlike, IsFiledOn, IsFiledWith, IsFiledWithout, IsUnfiledOn}

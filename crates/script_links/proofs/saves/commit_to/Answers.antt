@@ -1,4 +1,4 @@
-use Rattle.std.proofs.Common.{◌≡◌, ap, sym, subst, ℕ, List}
+use Rattle.std.proofs.Common.{sym, subst, ℕ, List}
 use Rattle.script_links.specs.Told.{IsAlike}
 use Rattle.script_links.proofs.Filed.{alike_itself, filed_on, unfiled_on}
 use Rattle.script_links.proofs.saves.commit_to.Goals as goal
