@@ -19,6 +19,7 @@ use crate::in_place::{Was, lay_over, put_back};
 use crate::update::overlaid;
 use cfb_bytes::numbers::read_u32;
 use file_model::fault::WriteFault;
+use file_placing::freed::Freed;
 use file_placing::placing::place_over;
 use file_writer::write::{fits, write_file};
 use std::alloc::{AllocError, Global};
@@ -180,13 +181,14 @@ fn change_blocks(
 }
 
 /// Makes a file, which denotes a tree, that of another one, in the sectors that it has, and gives the numbers of the blocks that
-/// change or are new. None where those sectors won't do.
+/// change or are new. What is freed is kept or zeroed. None where those sectors won't do.
 ///
 /// Where that is so, and where memory is wanting, the file stays as it was.
 fn change_in_sectors(
     alloc: Global,
     file: &mut Vec<u8>,
     tree: &Tree,
+    freed: Freed,
 ) -> Result<Option<Vec<u32>>, AllocError>
     ensures denotes { IfOk result (λ numbers. IfSome numbers (λ _. ∥ Denotes file.new.items (kept tree.now).now ∥₁)) }
     ensures changed { IfOk result (λ numbers. IfSome numbers (λ n. n.items ≡ changed_blocks file.old.items file.new.items)) }
@@ -199,7 +201,7 @@ fn change_in_sectors(
         // What denotes a tree isn't refused so.
         Err(_) => return Ok(None),
     };
-    let Some(laid) = place_over(alloc, file, &outline, tree.root())? else {
+    let Some(laid) = place_over(alloc, file, &outline, tree.root(), freed)? else {
         return Ok(None);
     };
     let blocks = laid.blocks(alloc)?;
@@ -227,11 +229,16 @@ fn lay_out_anew(alloc: Global, file: &mut Vec<u8>, tree: &Tree) -> Result<Vec<u3
     }
 }
 
-/// Makes a file, which denotes a tree, that of another one: in its sectors, or else laid out anew. Gives the numbers of the
-/// blocks that change or are new.
+/// Makes a file, which denotes a tree, that of another one: in its sectors, of which those that are freed are kept or zeroed,
+/// or else laid out anew. Gives the numbers of the blocks that change or are new.
 ///
 /// Refused: as `write_file`. Then the file stays as it was.
-fn change_file(alloc: Global, file: &mut Vec<u8>, tree: &Tree) -> Result<Vec<u32>, WriteFault>
+fn change_file(
+    alloc: Global,
+    file: &mut Vec<u8>,
+    tree: &Tree,
+    freed: Freed,
+) -> Result<Vec<u32>, WriteFault>
     ensures denotes { OnOk result (∥ Denotes file.new.items (kept tree.now).now ∥₁) }
     ensures changed { IfOk result (λ numbers. numbers.items ≡ changed_blocks file.old.items file.new.items) }
     ensures refused { IfErr result (Refuses (writable (kept tree.now).now)) }
@@ -239,7 +246,7 @@ fn change_file(alloc: Global, file: &mut Vec<u8>, tree: &Tree) -> Result<Vec<u32
     ensures kept { OnErr result (file.new.items ≡ file.old.items) }
 {
     check_room(tree)?;
-    match change_in_sectors(alloc, file, tree)? {
+    match change_in_sectors(alloc, file, tree, freed)? {
         Some(numbers) => Ok(numbers),
         None => lay_out_anew(alloc, file, tree),
     }
@@ -310,6 +317,18 @@ impl Image {
         ensures allowed { OnOk result (writable (kept tree.now).now ≡ Ok tt) }
         ensures kept { OnErr result (self.new ≡ self.old) }
     {
-        change_file(alloc, &mut self.file, tree)
+        change_file(alloc, &mut self.file, tree, Freed::Kept)
+    }
+
+    /// As `update`, but all that the tree doesn't take becomes zeros: free sectors, free mini sectors and unused entries. So
+    /// nothing of what the image held before can be read in its bytes, and more blocks may change than by `update`.
+    pub fn update_zeroed(&mut self, alloc: Global, tree: &Tree) -> Result<Vec<u32>, WriteFault>
+        ensures denotes { OnOk result (∥ Denotes self.new (kept tree.now).now ∥₁) }
+        ensures changed { IfOk result (λ numbers. numbers.items ≡ changed_blocks self.old self.new) }
+        ensures refused { IfErr result (Refuses (writable (kept tree.now).now)) }
+        ensures allowed { OnOk result (writable (kept tree.now).now ≡ Ok tt) }
+        ensures kept { OnErr result (self.new ≡ self.old) }
+    {
+        change_file(alloc, &mut self.file, tree, Freed::Zeroed)
     }
 }

@@ -4,6 +4,7 @@
 mod entries;
 mod finding;
 mod free;
+pub mod freed;
 mod minis;
 mod parts;
 pub mod placing;

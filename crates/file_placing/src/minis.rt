@@ -57,7 +57,7 @@ fn put_minis(stream: &mut [u8], sectors: &[u32], bytes: &[u8]) {
 }
 
 /// The short ones of these streams in mini sectors, which lie in runs, so many up to the last one of them, in the place of an
-/// older mini stream. What no stream lies in is as it was.
+/// older mini stream. What no stream lies in is as it was there, and zeros behind its end.
 pub(crate) fn minis_in(
     alloc: Global,
     was: Vec<u8>,

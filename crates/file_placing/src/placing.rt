@@ -5,6 +5,7 @@ ghost use Rattle.std.specs.Prelude.{◌≤◌, ◌*◌, IfOk, IfSome};
 
 use crate::entries::{StreamRuns, count_below, directory_of};
 use crate::finding::{Stream, push_streams};
+use crate::freed::Freed;
 use crate::minis::{Minis, minis_in};
 use crate::parts::{Parts, chain_of, parts_of};
 use crate::runs::{MINI_STREAM, Run, STREAMS, fill_runs, sectors_of};
@@ -164,9 +165,23 @@ fn long_streams<'a>(alloc: Global, streams: &[Stream<'a>]) -> Result<Vec<&'a [u8
     Ok(longs)
 }
 
+/// The mini stream that the new one is laid over: the older one, or nothing of it.
+fn minis_kept(
+    alloc: Global,
+    old: &[u8],
+    mini_stream: &[u32],
+    freed: Freed,
+) -> Result<Vec<u8>, AllocError> {
+    match freed {
+        Freed::Kept => joined(alloc, old, mini_stream),
+        Freed::Zeroed => Ok(Vec::new(alloc)),
+    }
+}
+
 /// The file of a tree with this root whose parts have their sectors, and whose streams are these.
 fn laid<'a>(
     alloc: Global,
+    freed: Freed,
     root: &Storage,
     streams: &[Stream<'a>],
     minis: Minis,
@@ -191,14 +206,15 @@ fn laid<'a>(
         mini_fat: number_bytes(alloc, &minis.table(alloc)?)?,
         mini_stream: minis.stream,
         streams: long_streams(alloc, streams)?,
+        filler: freed.filler(alloc)?,
         runs,
     }))
 }
 
 /// The file of a tree with this root in the sectors of an older one, which has this outline. A stream whose number of
 /// sectors and whose table stay has its sectors, and so has a mini stream's; the directory, the mini FAT and the mini stream
-/// keep the front of theirs; each new one is the least free one, and what is freed keeps its bytes. None where that would
-/// pass the limit.
+/// keep the front of theirs; each new one is the least free one. What is freed keeps its bytes, or all that nothing lies in
+/// becomes zeros. None where that would pass the limit.
 ///
 /// Nothing is promised of what it denotes: whoever takes it reads it again.
 pub fn place_over<'a>(
@@ -206,6 +222,7 @@ pub fn place_over<'a>(
     old: &[u8],
     outline: &Outline,
     root: &'a Storage,
+    freed: Freed,
 ) -> Result<Option<Laid<'a>>, AllocError> {
     let Ok(header) = Header::read(old) else {
         return Ok(None);
@@ -218,12 +235,12 @@ pub fn place_over<'a>(
     let Some(count) = fill_runs(alloc, &mut mini_runs)? else {
         return Ok(None);
     };
-    let old_minis = joined(alloc, old, &was.mini_stream)?;
+    let old_minis = minis_kept(alloc, old, &was.mini_stream, freed)?;
     let minis = minis_in(alloc, old_minis, &streams, mini_runs, count)?;
     let entries = count_below(root) as usize + 1;
     let least = least_of(&streams, &minis, entries.div_ceil(4));
     let Some(placed) = place_within(alloc, &was, &streams, least)? else {
         return Ok(None);
     };
-    laid(alloc, root, &streams, minis, placed)
+    laid(alloc, freed, root, &streams, minis, placed)
 }

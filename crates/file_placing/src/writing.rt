@@ -77,6 +77,8 @@ pub struct Laid<'a> {
     pub(crate) mini_stream: Vec<u8>,
     /// The streams that lie in sectors, in the order of their runs.
     pub(crate) streams: Vec<&'a [u8]>,
+    /// What a block is given that nothing lies in.
+    pub(crate) filler: Vec<u8>,
 }
 
 /// Gives a block these bytes, if there is such a block.
@@ -109,13 +111,13 @@ impl Laid<'_> {
     }
 
     /// What each block of 512 bytes is to hold, the header first: at most 512 bytes, with zeros behind them up to 512. One
-    /// that is to hold nothing stays as it was in the older file.
+    /// without bytes stays as it was in the older file: such are those that nothing lies in where what is freed is kept,
+    /// and none where it becomes zeros.
     pub fn blocks(&self, alloc: Global) -> Result<Vec<&[u8]>, AllocError>
         ensures { IfOk result (λ v. length v.items ≤ 1 + 128 * MOST_FAT_SECTORS) }
     {
         let count = 1 + self.count.min(128 * MOST_FAT_SECTORS) as usize;
-        let none: &[u8] = &[];
-        let mut blocks = vec![in alloc; none; count]?;
+        let mut blocks = vec![in alloc; self.filler.as_slice(); count]?;
         self.fill(&mut blocks);
         Ok(blocks)
     }

@@ -10,11 +10,11 @@ use Rattle.doc_store.specs.declared.outcome.Outcome.TheVariants.{Kept, Lost}
 use Rattle.script_model.specs.Saved.{IsAsGiven, IsAsGivenOr, IsLostOn, IsReadOf, IsSavedOn, IsSince}
 use Rattle.script_links.specs.Told.{IfKept, IfLost, IsLeftOn, IsReplacedOn}
 
-kept_then : (o : Outcome) (P Q : Type 0) → (P → Q) → IfKept o P → IfKept o Q
+pub kept_then : (o : Outcome) (P Q : Type 0) → (P → Q) → IfKept o P → IfKept o Q
 kept_then Kept P Q then has = then has
 kept_then (Lost fault) P Q then has = tt
 
-lost_then : (o : Outcome) (P Q : Type 0) → (P → Q) → IfLost o P → IfLost o Q
+pub lost_then : (o : Outcome) (P Q : Type 0) → (P → Q) → IfLost o P → IfLost o Q
 lost_then Kept P Q then has = tt
 lost_then (Lost fault) P Q then has = then has
 
@@ -94,6 +94,13 @@ module _ {D : Type 0} (disks : Disks D) where
   lost_again (Ok o) given mid disk bytes first has = lost_then o (IsLostOn disks mid bytes disk) (IsLostOn disks given bytes disk) (again_left given mid disk bytes first) has
   lost_again (Err e) given mid disk bytes first has = tt
 
+  -- What a store that is opened and read leaves of the disk that it was opened on.
+  pub looked_on_opened : (given mid held disk : D) → disks.may_leave given (disks.reads given) → restored (disks.reads given) ≡ Some (disks.reads mid).document
+      → IsSince disks given mid (IsAsGiven disks given) → IsSince disks mid held (StandsFor (disks.reads mid).document) → disk ≡ held → IsSince disks given disk (IsAsGiven disks given)
+  looked_on_opened given mid held disk left opened first run is =
+      subst (λ (d : D). IsSince disks given d (IsAsGiven disks given)) (sym is)
+      (joined given mid held (IsAsGiven disks given) (StandsFor (disks.reads mid).document) (IsAsGiven disks given) first (λ c stands. stands) run (as_given given (disks.reads mid).document left opened))
+
   read_then : (given mid held disk : D) (bytes : List ℕ) → disks.may_leave given (disks.reads given) → restored (disks.reads given) ≡ Some (disks.reads mid).document
       → IsSince disks given mid (IsAsGiven disks given) → IsSince disks mid held (StandsFor (disks.reads mid).document) → disk ≡ held → disks.reads held ≡ disks.reads mid → bytes ≡ (disks.reads mid).document
       → ((c : Image) → disks.may_leave disk c → StandsFor (disks.reads disk).document c) → IsReadOf disks given bytes disk
@@ -101,8 +108,7 @@ module _ {D : Type 0} (disks : Disks D) where
       let now : (disks.reads disk).document ≡ bytes = ap (λ (d : D). (disks.reads d).document) is ∙ ap (λ (i : Image). i.document) same ∙ sym told in
       record {
         read = opened ∙ ap (λ (d : List ℕ). Some d) (sym told);
-        since = subst (λ (d : D). IsSince disks given d (IsAsGiven disks given)) (sym is)
-            (joined given mid held (IsAsGiven disks given) (StandsFor (disks.reads mid).document) (IsAsGiven disks given) first (λ c stands. stands) run (as_given given (disks.reads mid).document left opened));
+        since = looked_on_opened given mid held disk left opened first run is;
         durable = λ c here. between c here ∙ ap (λ (d : List ℕ). Some d) now;
       }
 

@@ -1,3 +1,4 @@
+pub mod Filed
 pub mod Given
 pub mod Kept
 pub mod Opened

@@ -1,5 +1,6 @@
 -- What a history says of its script's container.
 use Rattle.std.specs.Prelude.{◌≡◌, ◌≤◌, ℕ, List, ◌∷◌, Result, Ok, Err}
+use Rattle.storage_tree.specs.Tree.{Tree}
 use Rattle.file_model.specs.Denotes.{Denotes}
 use Rattle.document_model.specs.DocOf.{DocOf}
 use Rattle.container_model.specs.declared.answer.Part.{Part}
@@ -16,7 +17,7 @@ use Rattle.script_model.specs.Bounds.{AreBounded}
 use Rattle.script_model.specs.Containers.{record_of}
 use Rattle.script_model.specs.Events.{Event, Stepped, running}
 use Rattle.script_model.specs.Origins.{AreHeard}
-use Rattle.script_model.specs.Saved.{AreOpened, AreSaved, IsDurable, IsSince}
+use Rattle.script_model.specs.Saved.{AreOpened, AreSaved, IsDurable, IsLostOn, IsSavedOn, IsShutWith, IsShutWithout, IsSince}
 use Rattle.script_model.specs.Turns.{AreTurns}
 
 -- The container's record is that of the history, all that was sent were its turns, no more was sent, made anew and read than a command may, each message that it was given came on its
@@ -59,3 +60,24 @@ IsReplacedOn disks before document bytes disk = IsSince disks before disk (IsBef
 -- crash now leaves what stands for the document.
 abbrev pub IsLeftOn : {D : Type 0} (disks : Disks D) → D → (document bytes : List ℕ) → D → Type 0
 IsLeftOn disks before document bytes disk = IsSince disks before disk (IsBeforeOrAfter document bytes) × IsDurable disks disk document
+
+-- What a file denotes, the bytes denote.
+abbrev pub IsAlike : (file bytes : List ℕ) → Type 0
+IsAlike file bytes = (t : Tree) → Denotes file t → ∥ Denotes bytes t ∥₁
+
+-- Bytes that denote what a file does were saved on a disk that was given.
+abbrev pub IsFiledOn : {D : Type 0} (disks : Disks D) → D → List ℕ → D → Type 0
+IsFiledOn disks given file disk = (bytes : List ℕ) × IsAlike file bytes × IsSavedOn disks given bytes disk
+
+-- Bytes that denote what a file does were to be saved on a disk that was given, and weren't.
+abbrev pub IsUnfiledOn : {D : Type 0} (disks : Disks D) → D → List ℕ → D → Type 0
+IsUnfiledOn disks given file disk = (bytes : List ℕ) × IsAlike file bytes × IsLostOn disks given bytes disk
+
+-- The last calls gave a disk under this name and gave it back, and in between bytes that denote what a file does were saved on it.
+abbrev pub IsFiledWith : {D : Type 0} (disks : Disks D) → List (Event D) → (name file : List ℕ) → Type 0
+IsFiledWith disks es name file = (bytes : List ℕ) × IsAlike file bytes × IsShutWith disks es name bytes
+
+-- The last calls gave a disk under this name and gave it back, and in between bytes that denote what a file does were to be saved on
+-- it and weren't.
+abbrev pub IsFiledWithout : {D : Type 0} (disks : Disks D) → List (Event D) → (name file : List ℕ) → Type 0
+IsFiledWithout disks es name file = (bytes : List ℕ) × IsAlike file bytes × IsShutWithout disks es name bytes

@@ -1,16 +1,19 @@
 //! Saves: the file of a frame whose commit is asked for goes to a disk of the host, and the container is told what became of it.
+//! It goes into the sectors that the disk's document has, so that few blocks are written; what that frees is zeroed.
 
 ghost use Rattle.container_model.specs.Record.{Record};
 ghost use Rattle.doc_store.specs.Opened.{disk_of, needs_reopen_of};
+ghost use Rattle.file_model.specs.Denotes.{Denotes};
 ghost use Rattle.script_model.specs.Bounds.{pace};
 ghost use Rattle.script_model.specs.Errors.{IsMissing, IsUnopened};
 ghost use Rattle.script_model.specs.Events.{running};
 ghost use Rattle.script_model.specs.Orders.{orders};
 ghost use Rattle.script_model.specs.Origins.{passed};
-ghost use Rattle.script_model.specs.Saved.{IsLost, IsLostOn, IsSavedOn, IsShutWith, IsShutWithout, file_name};
+ghost use Rattle.script_model.specs.Saved.{IsAsGiven, IsLost, IsLostOn, IsSavedOn, IsShutWith, IsShutWithout, IsSince, file_name};
 ghost use Rattle.script_links.specs.Shown.{Shows};
-ghost use Rattle.script_links.specs.Told.{IfKept, IfLost, IsImage, IsLeftOn, IsReplacedOn, IsTold};
-ghost use Rattle.std.specs.Prelude.{◌≡◌, ℕ, IfErr, IfOk, false};
+ghost use Rattle.script_links.specs.Told.{IfKept, IfLost, IsAlike, IsFiledOn, IsFiledWith, IsFiledWithout, IsImage, IsLeftOn, IsReplacedOn, IsTold, IsUnfiledOn};
+ghost use Rattle.std.specs.Prelude.{◌≡◌, ℕ, IfErr, IfOk, IfSome, false};
+ghost use Rattle.storage_tree.specs.Kept.{kept};
 
 use crate::container::{committed, dropped, failed};
 use crate::fault::ScriptFault;
@@ -21,11 +24,14 @@ use container_model::record::Frame;
 use doc_store::outcome::Outcome;
 use doc_store::resolved::commit_resolved;
 use doc_store::store::Store;
+use file_image::image::Image;
 use script_model::answer::Told;
 use script_model::host::Host;
 use std::alloc::{AllocError, Global};
+use storage_tree::tree::Tree;
 use store_model::disk::Disk;
 use store_model::fault::StoreFault;
+use stream_io::read::read_file;
 
 /// The first of what was noticed.
 pub fn first_of(before: Option<Told>, next: Option<Told>) -> Option<Told> {
@@ -88,7 +94,7 @@ fn try_again<D: Disk + Drop>(
 
 /// Makes these bytes the document of a disk. Where it isn't opened, the same disk is tried again: a new one of its name
 /// forgets that a sync failed.
-fn commit_to<D: Disk + Drop>(
+fn commit_on<D: Disk + Drop>(
     alloc: Global,
     disk: D,
     bytes: &[u8],
@@ -99,6 +105,61 @@ fn commit_to<D: Disk + Drop>(
     match Store::open(alloc, disk) {
         Ok(store) => replace(store, bytes),
         Err(refused) => try_again(alloc, refused.disk, bytes, refused.fault),
+    }
+}
+
+/// The document of a disk, if it can be read, and the disk.
+fn read_on<D: Disk + Drop>(alloc: Global, disk: D) -> (Option<Vec<u8>>, D)
+    ensures { D.follows_model → IsSince ⟦<D as Disk>⟧ disk result.1 (IsAsGiven ⟦<D as Disk>⟧ disk) }
+{
+    match Store::open(alloc, disk) {
+        Ok(mut store) => {
+            let document = store.current().ok();
+            (document, store.into_disk())
+        }
+        Err(refused) => (None, refused.disk),
+    }
+}
+
+/// An image made that of a tree. None where memory is wanting, or the tree is too big.
+fn updated(alloc: Global, image: Image, tree: &Tree) -> Option<Image>
+    ensures { IfSome result (λ image. ∥ Denotes image (kept tree.now).now ∥₁) }
+{
+    let mut image = image;
+    match image.update_zeroed(alloc, tree) {
+        Ok(_) => Some(image),
+        Err(_) => None,
+    }
+}
+
+/// A file in the sectors of an older document. None where there is no document, where it is no compound file, as a new one's,
+/// or where memory is wanting.
+fn placed_in(alloc: Global, document: Option<Vec<u8>>, file: &[u8]) -> Option<Image>
+    ensures { IfSome result (λ image. IsAlike file.now image) }
+{
+    let Ok(image) = Image::open(alloc, document?) else {
+        return None;
+    };
+    let Ok(tree) = read_file(alloc, file) else {
+        return None;
+    };
+    updated(alloc, image, &tree)
+}
+
+/// Makes a file the document of a disk: bytes that denote the same, in the sectors that the document has, or where that can't be
+/// done the file itself. So no more memory is needed than for that.
+fn commit_to<D: Disk + Drop>(
+    alloc: Global,
+    disk: D,
+    file: &[u8],
+) -> (Result<Outcome, StoreFault>, D)
+    ensures kept { D.follows_model → IfOk result.0 (λ outcome. IfKept outcome (IsFiledOn ⟦<D as Disk>⟧ disk file.now result.1)) }
+    ensures lost { D.follows_model → IfOk result.0 (λ outcome. IfLost outcome (IsUnfiledOn ⟦<D as Disk>⟧ disk file.now result.1)) }
+{
+    let (document, disk) = read_on(alloc, disk);
+    match placed_in(alloc, document, file) {
+        Some(image) => commit_on(alloc, disk, image.bytes()),
+        None => commit_on(alloc, disk, file),
     }
 }
 
@@ -129,32 +190,32 @@ fn commit_again<H: Host>(
     }
 }
 
-/// Makes these bytes the file.
+/// Makes bytes that denote what a file does the file of a name.
 ///
 /// Refused: where its store can't be opened, also when that is tried again, so that it isn't known what the file is.
 fn commit<H: Host>(
     alloc: Global,
     host: &mut H,
     name: &[u8],
-    bytes: &[u8],
+    file: &[u8],
 ) -> Result<Outcome, StoreFault>
     ensures told { (r : Record) → IsTold ⟦<H::Disk as Disk>⟧ (H.told host.old) r → IsTold ⟦<H::Disk as Disk>⟧ (H.told host.new) r }
     ensures still { (s : ℕ) → running s (H.told host.new) ≡ running s (H.told host.old) }
     ensures quiet { (s : ℕ) → passed s (H.told host.new) ≡ passed s (H.told host.old) }
     ensures paced { (s : ℕ) → pace s (H.told host.new) ≡ pace s (H.told host.old) }
-    ensures shut { H.Disk.follows_model → IfOk result (λ outcome. IfKept outcome (IsShutWith ⟦<H::Disk as Disk>⟧ (H.told host.new) name.now bytes.now)) }
-    ensures left { H.Disk.follows_model → IfOk result (λ outcome. IfLost outcome (IsShutWithout ⟦<H::Disk as Disk>⟧ (H.told host.new) name.now bytes.now)) }
+    ensures shut { H.Disk.follows_model → IfOk result (λ outcome. IfKept outcome (IsFiledWith ⟦<H::Disk as Disk>⟧ (H.told host.new) name.now file.now)) }
+    ensures left { H.Disk.follows_model → IfOk result (λ outcome. IfLost outcome (IsFiledWithout ⟦<H::Disk as Disk>⟧ (H.told host.new) name.now file.now)) }
     ensures ordered { orders (H.told host.new) ≡ orders (H.told host.old) }
     ensures unopened { IfErr result (λ _. IsUnopened name.now (H.told host.new)) }
 {
     let given = host.disk(name);
     match given {
         Ok(disk) => {
-            let (outcome, disk) = commit_to(alloc, disk, bytes);
+            let (outcome, disk) = commit_to(alloc, disk, file);
             host.shut(name, disk);
             outcome
         }
-        Err(fault) => commit_again(alloc, host, name, bytes, fault),
+        Err(fault) => commit_again(alloc, host, name, file, fault),
     }
 }
 

@@ -1,19 +1,22 @@
-use Rattle.doc_store.specs.Opened.{disk_of}
-use Rattle.script_links.proofs.Kept.{lost_again, lost_on_opened, saved_again, saved_on_opened}
+use Rattle.std.proofs.Common.{sym, subst, ℕ, List}
+use Rattle.script_links.specs.Told.{IsAlike}
+use Rattle.script_links.proofs.Filed.{alike_itself, filed_on, unfiled_on}
 use Rattle.script_links.proofs.saves.commit_to.Goals as goal
 
-pub returns-in-Ok-clause-kept : goal.returns-in-Ok-clause-kept
-returns-in-Ok-clause-kept g c = λ m.
-    saved_on_opened g.D.Disk c.replace.result.0 c.args.disk (disk_of c.in-Ok.store) _ (g.D.Disk.reads (disk_of c.in-Ok.store)).document c.args.bytes.now
-    (g.met.D.Disk.reads_are_left c.args.disk) (c.in-Ok.ensures.document m) (c.in-Ok.ensures.any_moment m) (c.replace.ensures.kept m)
+pub returns-in-Some-clause-kept : goal.returns-in-Some-clause-kept
+returns-in-Some-clause-kept g c = λ m.
+    let alike : IsAlike c.args.file.now c.bytes.result.now = subst (λ (bytes : List ℕ). IsAlike c.args.file.now bytes) (sym c.bytes.ensures.value) c.in-Some.ensures in
+    filed_on g.D.Disk c.commit_on.result.0 c.args.disk c.read_on-document.result.1 _ c.args.file.now c.bytes.result.now alike (c.read_on-document.ensures m) (c.commit_on.ensures.kept m)
 
-pub returns-in-Ok-clause-lost : goal.returns-in-Ok-clause-lost
-returns-in-Ok-clause-lost g c = λ m.
-    lost_on_opened g.D.Disk c.replace.result.0 c.args.disk (disk_of c.in-Ok.store) _ (g.D.Disk.reads (disk_of c.in-Ok.store)).document c.args.bytes.now
-    (g.met.D.Disk.reads_are_left c.args.disk) (c.in-Ok.ensures.document m) (c.in-Ok.ensures.any_moment m) (c.replace.ensures.lost m)
+pub returns-in-Some-clause-lost : goal.returns-in-Some-clause-lost
+returns-in-Some-clause-lost g c = λ m.
+    let alike : IsAlike c.args.file.now c.bytes.result.now = subst (λ (bytes : List ℕ). IsAlike c.args.file.now bytes) (sym c.bytes.ensures.value) c.in-Some.ensures in
+    unfiled_on g.D.Disk c.commit_on.result.0 c.args.disk c.read_on-document.result.1 _ c.args.file.now c.bytes.result.now alike (c.read_on-document.ensures m) (c.commit_on.ensures.lost m)
 
-pub returns-in-Err-clause-kept : goal.returns-in-Err-clause-kept
-returns-in-Err-clause-kept g c = λ m. saved_again g.D.Disk c.try_again.result.0 c.args.disk c.in-Err.refused.disk _ c.args.bytes.now (c.in-Err.ensures.any_moment_refused m) (c.try_again.ensures.kept m)
+pub returns-in-None-clause-kept : goal.returns-in-None-clause-kept
+returns-in-None-clause-kept g c = λ m.
+    filed_on g.D.Disk c.commit_on-in-None.result.0 c.args.disk c.read_on-document.result.1 _ c.args.file.now c.args.file.now (alike_itself c.args.file.now) (c.read_on-document.ensures m) (c.commit_on-in-None.ensures.kept m)
 
-pub returns-in-Err-clause-lost : goal.returns-in-Err-clause-lost
-returns-in-Err-clause-lost g c = λ m. lost_again g.D.Disk c.try_again.result.0 c.args.disk c.in-Err.refused.disk _ c.args.bytes.now (c.in-Err.ensures.any_moment_refused m) (c.try_again.ensures.lost m)
+pub returns-in-None-clause-lost : goal.returns-in-None-clause-lost
+returns-in-None-clause-lost g c = λ m.
+    unfiled_on g.D.Disk c.commit_on-in-None.result.0 c.args.disk c.read_on-document.result.1 _ c.args.file.now c.args.file.now (alike_itself c.args.file.now) (c.read_on-document.ensures m) (c.commit_on-in-None.ensures.lost m)
