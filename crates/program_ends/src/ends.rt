@@ -27,13 +27,9 @@ pub fn keep<R: Runtime + AllocGlobal>(
     path: &str,
     count: usize,
 ) -> ExitCode {
-    match new.keep() {
-        Ok(()) => tell_bytes(rt, count),
-        Err(_) => refuse(rt, &Report::File(path, "Unwritable")),
+    if new.keep().is_err() {
+        return refuse(rt, &Report::File(path, "Unwritable"));
     }
-}
-
-fn tell_bytes<R: Runtime>(rt: &R, count: usize) -> ExitCode {
     match println!(rt; "{count} bytes") {
         Ok(()) => ExitCode::SUCCESS,
         Err(_) => refuse(rt, &Report::File(STANDARD, "Unwritable")),

@@ -21,23 +21,15 @@ const NEW_MODE: u32 = 0o666;
 const OWNER_MODE: u32 = 0o600;
 
 /// A new file beside the one that it is to become.
+#[derive(Drop)]
 struct Beside<F: Drop> {
     file: F,
     name: PathBuf,
     target: PathBuf,
 }
 
-// Written out, as is that of a place, so that letting go of one is one call for a proof, whatever it holds.
-impl<F: Drop> Drop for Beside<F> {
-    fn drop(self) {
-        let Beside { file, name, target } = self;
-        drop(file);
-        drop(name);
-        drop(target);
-    }
-}
-
 /// Where bytes go.
+#[derive(Drop)]
 enum Place<F: Drop> {
     /// Nowhere yet.
     Unopened,
@@ -45,16 +37,6 @@ enum Place<F: Drop> {
     Itself(F),
     /// A new file.
     Beside(Beside<F>),
-}
-
-impl<F: Drop> Drop for Place<F> {
-    fn drop(self) {
-        match self {
-            Place::Unopened => {}
-            Place::Itself(file) => drop(file),
-            Place::Beside(new) => drop(new),
-        }
-    }
 }
 
 /// The file of a path, as it is to be. Nothing is opened or made before the first write. From then on a regular file
@@ -134,20 +116,10 @@ impl<'a, R: Files + AllocGlobal> io::Write for NewFile<'a, R> {
 fn open<R: Files + AllocGlobal>(rt: &R, path: &str) -> io::Result<Place<R::File>> {
     match fs::metadata(rt, path) {
         Ok(old) => open_over(rt, path, &old),
-        Err(error) => open_without(rt, path, error),
-    }
-}
-
-/// Where the bytes of a path go at which this error stands in the place of a file.
-fn open_without<R: Files + AllocGlobal>(
-    rt: &R,
-    path: &str,
-    error: io::Error,
-) -> io::Result<Place<R::File>> {
-    if error.kind() == ErrorKind::NotFound {
-        Ok(Place::Beside(open_where_nothing_is(rt, path)?))
-    } else {
-        Err(error)
+        Err(error) if error.kind() == ErrorKind::NotFound => {
+            Ok(Place::Beside(open_where_nothing_is(rt, path)?))
+        }
+        Err(error) => Err(error),
     }
 }
 
@@ -175,17 +147,9 @@ fn open_in_place_of<R: Files + AllocGlobal>(
     old: &Metadata,
 ) -> io::Result<Beside<R::File>> {
     open_to_write(rt, path)?;
-    let new = open_beside_target(rt, path)?;
-    match remove_unless(rt, &new, take_over(rt, &new, old)) {
-        Ok(()) => Ok(new),
-        Err(error) => Err(error),
-    }
-}
-
-/// A new file, the owner's alone as yet, beside the file that a path leads to.
-fn open_beside_target<R: Files + AllocGlobal>(rt: &R, path: &str) -> io::Result<Beside<R::File>> {
-    let target = fs::canonicalize(rt, path)?;
-    open_beside(rt, target, OWNER_MODE)
+    let new = open_beside(rt, fs::canonicalize(rt, path)?, OWNER_MODE)?;
+    remove_unless(rt, &new, take_over(rt, &new, old))?;
+    Ok(new)
 }
 
 /// Removes a new file unless what was done with it is done.
@@ -212,23 +176,15 @@ fn open_where_nothing_is<R: Files + AllocGlobal>(
 ) -> io::Result<Beside<R::File>> {
     let mut target = PathBuf::from_str(rt.alloc(), path)?;
     for _ in 0..MOST_LINKS {
-        if !follow(rt, &mut target)? {
-            return open_beside(rt, target, NEW_MODE);
+        match fs::read_link(rt, &target) {
+            Ok(next) => {
+                target.pop();
+                target.push(next)?;
+            }
+            Err(_) => return open_beside(rt, target, NEW_MODE),
         }
     }
     Err(io::Error::from(ErrorKind::NotFound))
-}
-
-/// Turns a path to a link into the one that the link leads to, and answers whether it was one.
-fn follow<R: Files + AllocGlobal>(rt: &R, target: &mut PathBuf) -> Result<bool, AllocError> {
-    match fs::read_link(rt, &*target) {
-        Ok(next) => {
-            target.pop();
-            target.push(next)?;
-            Ok(true)
-        }
-        Err(_) => Ok(false),
-    }
 }
 
 /// A new file in the folder of a path, of a name that is free.
