@@ -11,3 +11,5 @@ mod trees;
 mod trimming;
 #[cfg(test)]
 mod wide;
+#[cfg(test)]
+mod zeroing;

@@ -13,7 +13,7 @@ use storage_tree::tree::Tree;
 const SIZES: [usize; 12] = [0, 1, 63, 64, 65, 500, 2000, 4095, 4096, 4097, 5200, 9000];
 
 /// The next one of a row of random numbers.
-fn next(seed: &mut u64) -> usize {
+pub(crate) fn next(seed: &mut u64) -> usize {
     *seed = seed
         .wrapping_mul(6_364_136_223_846_793_005)
         .wrapping_add(1_442_695_040_888_963_407);

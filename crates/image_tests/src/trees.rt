@@ -62,14 +62,31 @@ fn are_changed(old: &[u8], new: &[u8], blocks: &[u32]) -> bool {
     at == blocks.len()
 }
 
-/// Updates an image to a tree. It is read again as the tree, and the blocks named are those that differ.
-pub(crate) fn update(rt: &impl Abort, alloc: Global, image: &mut Image, tree: &Tree) -> Vec<u32> {
-    let old = Vec::from_slice(alloc, image.bytes()).expect(rt, "memory");
-    let blocks = image.update(alloc, tree).expect(rt, "an update");
+/// The bytes of an image.
+fn bytes_of(rt: &impl Abort, alloc: Global, image: &Image) -> Vec<u8> {
+    Vec::from_slice(alloc, image.bytes()).expect(rt, "memory")
+}
+
+/// An image that had these bytes is read as the tree, and the blocks named are those that differ.
+fn check(rt: &impl Abort, alloc: Global, old: &[u8], image: &Image, tree: &Tree, blocks: &[u32]) {
     let again = read_file(alloc, image.bytes()).expect(rt, "a tree");
     let laid_out = write_file(alloc, &again).expect(rt, "a file");
     let wanted = write_file(alloc, tree).expect(rt, "a file");
     assert!(rt; laid_out == wanted);
-    assert!(rt; are_changed(&old, image.bytes(), &blocks));
+    assert!(rt; are_changed(old, image.bytes(), blocks));
+}
+
+/// Updates an image to a tree. It is read again as the tree, and the blocks named are those that differ.
+pub(crate) fn update(rt: &impl Abort, alloc: Global, image: &mut Image, tree: &Tree) -> Vec<u32> {
+    let old = bytes_of(rt, alloc, image);
+    let blocks = image.update(alloc, tree).expect(rt, "an update");
+    check(rt, alloc, &old, image, tree, &blocks);
     blocks
+}
+
+/// The same of an update that zeroes what is freed.
+pub(crate) fn update_zeroed(rt: &impl Abort, alloc: Global, image: &mut Image, tree: &Tree) {
+    let old = bytes_of(rt, alloc, image);
+    let blocks = image.update_zeroed(alloc, tree).expect(rt, "an update");
+    check(rt, alloc, &old, image, tree, &blocks);
 }

@@ -1,4 +1,4 @@
-//! Tests of scripts by their public call, over servers in memory whose links fail.
+//! Tests of scripts by their public call, over servers in memory whose links fail, and of what their saves write.
 #![tactic(auto)]
 
 #[cfg(test)]
@@ -7,6 +7,8 @@ mod cuts;
 mod ends;
 #[cfg(test)]
 mod given;
+#[cfg(test)]
+mod saves;
 #[cfg(test)]
 mod server;
 #[cfg(test)]

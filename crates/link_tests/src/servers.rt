@@ -1,4 +1,4 @@
-//! A host whose servers are in memory, and of whose links one call fails as a test says.
+//! A host whose servers are in memory, and of whose links one call fails as a test says. It has one file, or none.
 
 ghost use Rattle.script_model.specs.Histories.{told_in};
 ghost use Rattle.std.specs.Prelude.{◌≡◌, ◌<◌, ◌≤◌, [], IfSome, length};
@@ -37,6 +37,7 @@ pub(crate) struct Servers {
     calls: u64,
     failing: u64,
     arrives: Arrives,
+    disk: Option<MemoryDisk>,
     history: History<MemoryDisk>,
 }
 
@@ -53,8 +54,23 @@ impl Servers {
             calls: 0,
             failing,
             arrives,
+            disk: None,
             history: History::new(),
         }
+    }
+
+    /// A host without servers, of whose links no call fails, and whose file is on this disk.
+    pub(crate) fn with_disk(alloc: Global, tally: Tally, disk: MemoryDisk) -> Servers
+        ensures { ⟦<Servers as Host>⟧.told result ≡ [] }
+    {
+        let mut host = Servers::new(alloc, tally, u64::MAX, Arrives::All);
+        host.disk = Some(disk);
+        host
+    }
+
+    /// The disk of its file as it was left.
+    pub(crate) fn into_disk(self) -> Option<MemoryDisk> {
+        self.disk
     }
 
     /// How many objects were made.
@@ -218,17 +234,34 @@ impl Host for Servers {
     }
 
     fn disk(&mut self, name: &[u8]) -> Result<MemoryDisk, StoreFault> {
-        self.history.opened(name, None);
-        Err(StoreFault::Device)
+        match self.disk.take() {
+            Some(disk) => {
+                self.history.opened(name, Some(&disk));
+                Ok(disk)
+            }
+            None => {
+                self.history.opened(name, None);
+                Err(StoreFault::Device)
+            }
+        }
     }
 
     fn find(&mut self, name: &[u8]) -> Result<Option<MemoryDisk>, StoreFault> {
-        self.history.found(name, None);
-        Ok(None)
+        match self.disk.take() {
+            Some(disk) => {
+                self.history.found(name, Some(&disk));
+                Ok(Some(disk))
+            }
+            None => {
+                self.history.found(name, None);
+                Ok(None)
+            }
+        }
     }
 
     fn shut(&mut self, name: &[u8], disk: MemoryDisk) {
         self.history.shut(name, &disk);
+        self.disk = Some(disk);
     }
 
     fn note(&mut self, step: &Step) {

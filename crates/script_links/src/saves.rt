@@ -121,19 +121,19 @@ fn read_on<D: Disk + Drop>(alloc: Global, disk: D) -> (Option<Vec<u8>>, D)
     }
 }
 
-/// An image made that of a tree. None where memory is wanting, or the tree is too big.
-fn updated(alloc: Global, image: Image, tree: &Tree) -> Option<Image>
+/// An image made that of a tree. None where memory is wanting, the tree is too big, or the file would have more bytes than this.
+fn updated(alloc: Global, image: Image, tree: &Tree, most: usize) -> Option<Image>
     ensures { IfSome result (λ image. ∥ Denotes image (kept tree.now).now ∥₁) }
 {
     let mut image = image;
     match image.update_zeroed(alloc, tree) {
-        Ok(_) => Some(image),
-        Err(_) => None,
+        Ok(_) if image.bytes().len() <= most => Some(image),
+        _ => None,
     }
 }
 
 /// A file in the sectors of an older document. None where there is no document, where it is no compound file, as a new one's,
-/// or where memory is wanting.
+/// where memory is wanting, or where it would be more than twice as long so, as behind a document that had much more in it.
 fn placed_in(alloc: Global, document: Option<Vec<u8>>, file: &[u8]) -> Option<Image>
     ensures { IfSome result (λ image. IsAlike file.now image) }
 {
@@ -143,7 +143,7 @@ fn placed_in(alloc: Global, document: Option<Vec<u8>>, file: &[u8]) -> Option<Im
     let Ok(tree) = read_file(alloc, file) else {
         return None;
     };
-    updated(alloc, image, &tree)
+    updated(alloc, image, &tree, file.len().saturating_mul(2))
 }
 
 /// Makes a file the document of a disk: bytes that denote the same, in the sectors that the document has, or where that can't be
