@@ -4,11 +4,11 @@
 
 use crate::commands::{clean, get, list, make, simulate};
 use crate::ends::{Failing, Full};
-use embed_core::words::number;
 use std::alloc::{AllocError, Global};
 use std::io::{Read, Write};
 use std::process::Abort;
 use std::test::Fail;
+use text_words::words::number;
 
 const ROWS: &str = "make unread => file -: Unreadable
 make 0 => file a.ole: Unwritable

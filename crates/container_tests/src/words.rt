@@ -1,7 +1,7 @@
 //! Words of rows.
 
-use embed_core::words;
 use std::str::SplitWhitespace;
+use text_words::words;
 
 /// What stands before a mark, and what behind it, which is nothing where there is no such mark.
 pub(crate) fn halves<'a>(text: &'a str, mark: &str) -> (&'a str, &'a str) {

@@ -3,8 +3,8 @@ use Rattle.std.proofs.Common.{◌≡◌, ℕ, List, ◌∷◌, None, option_map,
 use Rattle.embed_core.specs.Content.{Cell}
 use Rattle.embed_core.specs.Edits.{insert, set}
 use Rattle.embed_core.specs.Reading.{cell_of, place_and_text, place_and_count, cell_and_text, cell_alone, entry_in}
-use Rattle.embed_core.specs.Words.{words, number_read}
-use Rattle.embed_core.proofs.Cuts.{pieces-joined}
+use Rattle.text_words.specs.Words.{words, number_read}
+use Rattle.text_words.proofs.Cuts.{pieces-joined}
 
 pub place_and_text-rest : (p rest : List ℕ) → place_and_text (p ∷ words rest) ≡ option_map (λ n. insert n rest) (number_read p)
 place_and_text-rest p rest =

@@ -1,8 +1,6 @@
-pub mod Passing
-pub mod Cuts
+pub mod Lines
 pub mod Staying
 pub mod Behind
-pub mod Numerals
 pub mod Spelling
 pub mod Told
 pub mod Storing

@@ -11,9 +11,9 @@ use Rattle.embed_core.specs.Content.{Cell, Shape, box, line, Direction, across, 
 use Rattle.embed_core.specs.Edits.{insert, delete, set, clear, add, remove, raise, spelled, IsSmallShape}
 use Rattle.embed_core.specs.Kinds.{Note, Table, Drawing}
 use Rattle.embed_core.specs.Reading.{SpelledIsRead, edit_of, edit_in, cell_of, direction_of, shape_of, pair_of, with_two, box_of, line_of}
-use Rattle.embed_core.specs.Words.{pieces, words, number_read}
-use Rattle.embed_core.proofs.Passing.{both, first_of_both, second_of_both, le_passes, le_told}
-use Rattle.embed_core.proofs.Numerals.{number_read-decimal, numerals}
+use Rattle.text_words.specs.Words.{pieces, words, number_read}
+use Rattle.text_words.proofs.Passing.{both, first_of_both, second_of_both, le_passes, le_told}
+use Rattle.text_words.proofs.Numerals.{number_read-decimal, numerals}
 use Rattle.embed_core.proofs.Behind.{place_and_text-rest, cell_and_text-rest}
 use Rattle.std.proofs.lemmas.Fmt.{digits_decimal}
 

@@ -9,7 +9,7 @@ use Rattle.embed_core.specs.Content.{Cell, Shape, Content, note, table, drawing,
 use Rattle.object_state.specs.Printable.{is_printable}
 use Rattle.embed_core.specs.Edits.{Edit, insert, delete, set, clear, add, remove, raise, edited, within, with_cell, without_cell, is_at}
 use Rattle.embed_core.specs.Kinds.{kind_of}
-use Rattle.embed_core.proofs.Passing.{both, first_of_both, second_of_both, told_cond, lt_passes, lt_told, le_told_false, eq_told, ne_told, le_passes, le_told}
+use Rattle.text_words.proofs.Passing.{both, first_of_both, second_of_both, told_cond, lt_passes, lt_told, le_told_false, eq_told, ne_told, le_passes, le_told}
 
 pub list_all-take : {A : Type 0} (p : A → Bool) (n : ℕ) (xs : List A) → list_all p xs ≡ true → list_all p (take n xs) ≡ true
 list_all-take p zero xs s = refl

@@ -14,13 +14,13 @@ use Rattle.embed_core.specs.Kinds.{Kind, Note, Table, Drawing, kind_of, empty}
 use Rattle.embed_core.specs.Objects.{StoredIsLoaded, LoadedWasStored, load_told, sole_bytes}
 use Rattle.embed_core.specs.Pictures.{ended_line}
 use Rattle.embed_core.specs.Reading.{text_of, cell_of, content_of, each, entry_in, lines_of, shape_in, whole_lines}
-use Rattle.embed_core.specs.Words.{pieces, words}
+use Rattle.text_words.specs.Words.{pieces, words}
 use Rattle.embed_core.specs.declared.fault.EmbedFault.{EmbedFault}
 use Rattle.embed_core.specs.declared.fault.EmbedFault.TheVariants.{BadContent}
 use Rattle.embed_core.proofs.Behind.{entry_in-rest}
-use Rattle.embed_core.proofs.Cuts.{pieces-known}
+use Rattle.text_words.proofs.Cuts.{pieces-known}
 use Rattle.embed_core.proofs.Spelling.{lacks, pieces-ended, decimal_lacks, cell_lacks, cell_of-cell_bytes, box_words, line_words, box_read, line_read}
-use Rattle.embed_core.proofs.Passing.{both, first_of_both, second_of_both, told_cond, le_told}
+use Rattle.text_words.proofs.Passing.{both, first_of_both, second_of_both, told_cond, le_told}
 use Rattle.embed_core.proofs.Told.{mapped, chained, cell_told, shape_told}
 
 whole_lines-more : (l m : List ℕ) (more : List (List ℕ)) → whole_lines (l ∷ m ∷ more) ≡ option_map (λ ls. l ∷ ls) (whole_lines (m ∷ more))

@@ -7,9 +7,9 @@ use Rattle.embed_core.specs.Content.{Cell, Shape, box, line, Direction, across, 
 use Rattle.embed_core.specs.Edits.{Edit, insert, delete, set, clear, add, remove, raise, spelled}
 use Rattle.embed_core.specs.Kinds.{Kind, Note, Table, Drawing}
 use Rattle.embed_core.specs.Reading.{ReadWasSpelled, text_of, edit_in, edit_by, cell_of, direction_of, shape_of, pair_of, with_two, box_of, line_of, one_number, place_and_text, place_and_count, cell_and_text, cell_alone}
-use Rattle.embed_core.specs.Words.{words, number_read}
-use Rattle.embed_core.proofs.Passing.{told_cond, eq_told, le_told}
-use Rattle.embed_core.proofs.Numerals.{number_told}
+use Rattle.text_words.specs.Words.{words, number_read}
+use Rattle.text_words.proofs.Passing.{told_cond, eq_told, le_told}
+use Rattle.text_words.proofs.Numerals.{number_told}
 
 pub record Mapped {A B : Type 0} (f : A → B) (o : Option A) (b : B) : Type 0 where
   pub value : A

@@ -1,4 +1,3 @@
-pub mod Words
 pub mod Content
 pub mod Kinds
 pub mod Edits

@@ -1,7 +1,7 @@
 -- What objects look like: lines of printable characters.
 use Rattle.std.specs.Prelude.{◌+◌, ◌&&◌, ◌||◌, ℕ, Bool, List, [], ◌∷◌, ◌++◌, length, map, take, nat_le, nat_eq, nat_lt, cond}
 use Rattle.std.specs.List.{flat_map, range_with_len}
-use Rattle.embed_core.specs.Words.{pieces}
+use Rattle.text_words.specs.Words.{pieces}
 use Rattle.embed_core.specs.Content.{Cell, Shape, box, line, across, down, Content, note, table, drawing, cell_bytes}
 
 -- the pieces of a text that line feeds end, and a last one if it isn't empty

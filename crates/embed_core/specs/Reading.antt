@@ -1,7 +1,7 @@
 -- Reading edits and contents from bytes: what is read is what was spelled.
 use Rattle.std.specs.Prelude.{◌≡◌, ◌-◌, ℕ, List, [], ◌∷◌, cond, nat_eq, nat_le, Option, Some, None, option_map, option_and_then}
 use Rattle.std.specs.List.{join_with_byte}
-use Rattle.embed_core.specs.Words.{pieces, words, number_read}
+use Rattle.text_words.specs.Words.{pieces, words, number_read}
 use Rattle.embed_core.specs.Content.{Cell, Shape, box, line, Direction, across, down, Content, note, table, drawing}
 use Rattle.embed_core.specs.Kinds.{Kind, Note, Table, Drawing}
 use Rattle.embed_core.specs.Edits.{Edit, insert, delete, set, clear, add, remove, raise, spelled, IsSmall, kind_edited}

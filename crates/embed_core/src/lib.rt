@@ -10,7 +10,6 @@ pub mod picture;
 pub mod sole_stream;
 pub mod stream_names;
 pub mod tally;
-pub mod words;
 
 pub use object_state::Menus;
 pub use storage_tree::bytes::Bytes;

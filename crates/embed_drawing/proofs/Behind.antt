@@ -2,8 +2,8 @@
 use Rattle.std.proofs.Common.{◌≡◌, ℕ, List, ◌∷◌, None, refl}
 use Rattle.embed_core.specs.Edits.{Edit}
 use Rattle.embed_core.specs.Reading.{one_number, shape_of}
-use Rattle.embed_core.specs.Words.{words}
-use Rattle.embed_core.proofs.Cuts.{pieces-known}
+use Rattle.text_words.specs.Words.{words}
+use Rattle.text_words.proofs.Cuts.{pieces-known}
 
 -- a shape has no fifth word
 pub shape_of-more : (letter : ℕ) (a b c d rest : List ℕ) → shape_of letter (a ∷ b ∷ c ∷ d ∷ words rest) ≡ None

@@ -8,10 +8,10 @@ use Rattle.embed_core.specs.Content.{Shape, Content, drawing, is_shape}
 use Rattle.embed_core.specs.Kinds.{Drawing}
 use Rattle.embed_core.specs.Objects.{load_told}
 use Rattle.embed_core.specs.Reading.{content_of, each, lines_of, shape_in, whole_lines}
-use Rattle.embed_core.specs.Words.{pieces, words}
+use Rattle.text_words.specs.Words.{pieces, words}
 use Rattle.embed_core.specs.declared.fault.EmbedFault.{EmbedFault}
 use Rattle.embed_core.specs.declared.fault.EmbedFault.TheVariants.{BadContent}
-use Rattle.embed_core.proofs.Cuts.{pieces-known}
+use Rattle.text_words.proofs.Cuts.{pieces-known}
 use Rattle.embed_drawing.specs.Lines.{in_range, shape_on, shapes_on}
 
 -- whether shapes behind so many others are there, and no more than a drawing has

@@ -2,7 +2,7 @@
 use Rattle.std.specs.Prelude.{List, ℕ, Option, Some, None, cond, option_and_then}
 use Rattle.embed_core.specs.Content.{Shape, is_shape}
 use Rattle.embed_core.specs.Reading.{each, lines_of, shape_in}
-use Rattle.embed_core.specs.Words.{words}
+use Rattle.text_words.specs.Words.{words}
 
 -- the shape that a line spells, where it is in range
 abbrev pub in_range : Option Shape → Option Shape

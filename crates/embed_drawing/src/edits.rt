@@ -3,13 +3,13 @@
 ghost use Rattle.embed_core.specs.Kinds.{Drawing};
 ghost use Rattle.embed_core.specs.Edits.{Edit};
 ghost use Rattle.embed_core.specs.Reading.{edit_of, one_number};
-ghost use Rattle.embed_core.specs.Words.{words};
+ghost use Rattle.text_words.specs.Words.{words};
 ghost use Rattle.embed_drawing.specs.Drawn.{edit_told};
 ghost use Rattle.std.specs.Option.{option_map};
 ghost use Rattle.std.specs.Prelude.{◌≡◌, ℕ};
 
 use crate::shapes::{self, Figure};
-use embed_core::words::{cut, number};
+use text_words::words::{cut, number};
 
 /// An edit of a drawing.
 #[derive(Clone, Copy)]

@@ -2,14 +2,14 @@
 
 ghost use Rattle.embed_core.specs.Content.{is_shape, shape_line};
 ghost use Rattle.embed_core.specs.Reading.{box_of, line_of, direction_of, pair_of, shape_in, shape_of};
-ghost use Rattle.embed_core.specs.Words.{number_read, words};
+ghost use Rattle.text_words.specs.Words.{number_read, words};
 ghost use Rattle.embed_drawing.specs.Drawn.{direction_told, shape_told};
 ghost use Rattle.std.specs.Option.{option_map};
 ghost use Rattle.std.specs.Prelude.{[], ◌∷◌, ◌++◌, ◌≡◌, ℕ, MatchOption, None, OnOk};
 ghost use Rattle.std.specs.String.{string_bytes};
 
-use embed_core::words::{cut, number};
 use std::alloc::AllocError;
+use text_words::words::{cut, number};
 
 /// The last column and the last line in which a shape begins.
 const LAST_START: u32 = 99;

@@ -12,8 +12,8 @@ ghost use Rattle.std.specs.Prelude.{[], ◌∷◌, ◌≡◌, ◌<◌, IfErr, If
 
 use crate::shapes::{self, Figure};
 use embed_core::fault::EmbedFault;
-use embed_core::words::cut;
 use std::alloc::{AllocError, Global};
+use text_words::words::cut;
 
 /// The most shapes that a drawing has.
 pub const SIZE: usize = 256;

@@ -2,12 +2,12 @@
 
 ghost use Rattle.embed_core.specs.Kinds.{Note};
 ghost use Rattle.embed_core.specs.Reading.{edit_of, place_and_count, place_and_text};
-ghost use Rattle.embed_core.specs.Words.{words};
+ghost use Rattle.text_words.specs.Words.{words};
 ghost use Rattle.embed_note.specs.Noted.{edit_told};
 ghost use Rattle.std.specs.Option.{option_map};
 ghost use Rattle.std.specs.Prelude.{◌≡◌};
 
-use embed_core::words::{cut, number};
+use text_words::words::{cut, number};
 
 /// An edit of a note.
 #[derive(Clone, Copy)]

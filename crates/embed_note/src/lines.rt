@@ -3,8 +3,8 @@
 ghost use Rattle.embed_core.specs.Pictures.{text_lines};
 ghost use Rattle.std.specs.Prelude.{[], ◌∷◌, ◌≡◌, MatchOption};
 
-use embed_core::words::cut;
 use std::marker::Model;
+use text_words::words::cut;
 
 /// The lines of a text, the first of them first. A line feed ends a line; a last one needs none unless it is empty.
 #[derive(Drop)]

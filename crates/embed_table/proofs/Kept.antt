@@ -17,7 +17,7 @@ use Rattle.embed_core.specs.Edits.{set, clear, edited, with_cell, within, withou
 use Rattle.embed_core.specs.declared.fault.EmbedFault.{EmbedFault}
 use Rattle.embed_core.specs.declared.fault.EmbedFault.TheVariants.{BadEdit, TooBig}
 use Rattle.embed_core.proofs.Staying.{places, table-set, table-clear}
-use Rattle.embed_core.proofs.Passing.{both, first_of_both, second_of_both, told_cond, lt_told, le_told, le_passes, eq_told}
+use Rattle.text_words.proofs.Passing.{both, first_of_both, second_of_both, told_cond, lt_told, le_told, le_passes, eq_told}
 use Rattle.embed_table.specs.Placed.{cell_at, entry_at, entries_at, place_of}
 
 abbrev pub Entries : Type 0

@@ -13,12 +13,12 @@ use Rattle.embed_core.specs.Content.{Cell, Content, table, is_content, is_entry,
 use Rattle.embed_core.specs.Kinds.{Table}
 use Rattle.embed_core.specs.Objects.{load_told}
 use Rattle.embed_core.specs.Reading.{content_of, each, entry_in, lines_of, whole_lines}
-use Rattle.embed_core.specs.Words.{pieces, words}
+use Rattle.text_words.specs.Words.{pieces, words}
 use Rattle.embed_core.specs.declared.fault.EmbedFault.{EmbedFault}
 use Rattle.embed_core.specs.declared.fault.EmbedFault.TheVariants.{BadContent}
-use Rattle.embed_core.proofs.Cuts.{pieces-known}
+use Rattle.text_words.proofs.Cuts.{pieces-known}
 use Rattle.embed_core.proofs.Staying.{places}
-use Rattle.embed_core.proofs.Passing.{both, first_of_both, second_of_both, told_cond, lt_passes, lt_told, le_passes, le_told}
+use Rattle.text_words.proofs.Passing.{both, first_of_both, second_of_both, told_cond, lt_passes, lt_told, le_passes, le_told}
 use Rattle.embed_table.specs.Listed.{behind, entries_of, sound}
 use Rattle.embed_table.specs.Placed.{cell_at, entry_at, entries_at, place_of}
 use Rattle.embed_table.proofs.Kept.{Entries, Listing, placed, cell-placed, place-at, put-last}

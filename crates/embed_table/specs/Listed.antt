@@ -3,7 +3,7 @@ use Rattle.std.specs.Prelude.{◌&&◌, ℕ, List, ◌∷◌, [], ◌++◌, Opti
 use Rattle.std.specs.List.{list_all}
 use Rattle.embed_core.specs.Content.{Cell, is_entry, is_rising, cell_place, cell_bytes}
 use Rattle.embed_core.specs.Reading.{each, entry_in, lines_of}
-use Rattle.embed_core.specs.Words.{words}
+use Rattle.text_words.specs.Words.{words}
 
 -- a cell, a byte behind it, a text and a line feed
 abbrev pub line_with : ℕ → Cell → List ℕ → List ℕ

@@ -5,7 +5,7 @@ ghost use Rattle.embed_table.specs.Placed.{named, place_of};
 ghost use Rattle.std.specs.Option.{option_map};
 ghost use Rattle.std.specs.Prelude.{◌≡◌};
 
-use embed_core::words::number;
+use text_words::words::number;
 
 /// How many columns a table has, A to Z.
 pub const COLUMNS: u16 = 26;

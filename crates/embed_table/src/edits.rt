@@ -2,13 +2,13 @@
 
 ghost use Rattle.embed_core.specs.Kinds.{Table};
 ghost use Rattle.embed_core.specs.Reading.{cell_alone, cell_and_text, edit_of};
-ghost use Rattle.embed_core.specs.Words.{words};
+ghost use Rattle.text_words.specs.Words.{words};
 ghost use Rattle.embed_table.specs.Placed.{edit_told};
 ghost use Rattle.std.specs.Option.{option_map};
 ghost use Rattle.std.specs.Prelude.{◌≡◌};
 
 use crate::cell_name::{self, CellName};
-use embed_core::words::cut;
+use text_words::words::cut;
 
 /// An edit of a table.
 #[derive(Clone, Copy)]

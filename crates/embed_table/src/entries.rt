@@ -4,7 +4,7 @@ ghost use Rattle.embed_core.specs.Content.{table};
 ghost use Rattle.embed_core.specs.Kinds.{Table};
 ghost use Rattle.embed_core.specs.Objects.{Refuses, load_told};
 ghost use Rattle.embed_core.specs.Reading.{content_of, entry_in};
-ghost use Rattle.embed_core.specs.Words.{words};
+ghost use Rattle.text_words.specs.Words.{words};
 ghost use Rattle.embed_table.specs.Listed.{behind, entries_of, sound};
 ghost use Rattle.embed_table.specs.Placed.{cell_at, entries_at, named};
 ghost use Rattle.std.specs.Option.{is_some, option_map};
@@ -13,9 +13,9 @@ ghost use Rattle.std.specs.Prelude.{◌<◌, ◌≡◌, ◌∷◌, IfErr, IfOk, 
 use crate::cell_name::{self, CellName};
 use crate::text;
 use embed_core::fault::EmbedFault;
-use embed_core::words::cut;
 use std::alloc::Global;
 use std::collections::BTreeMap;
+use text_words::words::cut;
 
 /// The first of the entries that a stream holds, and what is behind it.
 #[derive(Clone, Copy)]

@@ -1,6 +1,6 @@
 -- Want of memory at a line behind lines that spell events.
 use Rattle.std.proofs.Common.{◌≡◌, ◌+◌, ◌-◌, ◌||◌, ℕ, Bool, List, ◌∷◌, Option, Some, None, Result, Ok, false, drop, take, is_some, slice_get, IsOk, IsTrue, refl, sym, ap, ◌∙◌, subst, arith}
-use Rattle.embed_core.specs.Words.{lines, words}
+use Rattle.text_words.specs.Words.{lines, words}
 use Rattle.texts.specs.Lines.{is_skipped, lines_read}
 use Rattle.texts.specs.declared.lines.SyntaxFault.{SyntaxFault}
 use Rattle.texts.proofs.LineByLine.{Stands, stands}

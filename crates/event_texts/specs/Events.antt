@@ -2,7 +2,7 @@
 use Rattle.std.specs.Prelude.{◌≡◌, ◌-◌, ◌&&◌, ◌||◌, ℕ, ℤ, pos, negsuc, zero, suc, Bool, true, false, not, List, [], ◌∷◌, length, nat_le, nat_eq, cond, codes, if◌then◌else◌, Option, Some, None, option_map, is_some, slice_get, take, Result, Err, IsOk, IsTrue}
 use Rattle.std.specs.List.{ends_with, join_with_byte, list_all}
 use Rattle.std.specs.Str.{bytes_eq}
-use Rattle.embed_core.specs.Words.{lines, words, number_read}
+use Rattle.text_words.specs.Words.{lines, words, number_read}
 use Rattle.object_parts.specs.declared.area.Area.{Area}
 use Rattle.object_state.specs.declared.operations.CloseOption.{CloseOption}
 use Rattle.object_state.specs.declared.operations.CloseOption.TheVariants.{SaveIfDirty, NoSave}

@@ -1,17 +1,17 @@
 //! Lines of events.
 
 ghost use Rattle.event_texts.specs.Events.{area_of, close_read, commit_named, edit_read, end_named, event_named, event_read, insert_read, is_file_name, kind_read, new_read, numbers_named, object_named, open_in, open_named, open_read, option_read, outcome_read, pair_read, resolve_read, save_as_read, short_read, signed_read, sized_read, sole_number, takes_memory, verb_read};
-ghost use Rattle.embed_core.specs.Words.{words};
+ghost use Rattle.text_words.specs.Words.{words};
 ghost use Rattle.std.specs.List.{list_all};
 ghost use Rattle.std.specs.Prelude.{◌≡◌, [], IfErr, IfOk, IsSome, IsTrue};
 ghost use Rattle.texts.specs.Words.{is_visible};
 
 use container_model::command::{Command, ObjectKind};
-use embed_core::words::{Pieces, cut, number};
 use object_parts::area::Area;
 use object_state::CloseOption;
 use std::alloc::{AllocError, Global};
 use storage_tree::bytes::Bytes;
+use text_words::words::{Pieces, cut, number};
 use texts::words::is_visible;
 use world_model::event::Event;
 

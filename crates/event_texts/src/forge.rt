@@ -1,6 +1,6 @@
 //! Lines of forged messages.
 
-ghost use Rattle.embed_core.specs.Words.{words};
+ghost use Rattle.text_words.specs.Words.{words};
 ghost use Rattle.event_texts.specs.Events.{forge_in, forge_named, forge_read, forge_spelled, forge_tells, is_forge, message_told};
 ghost use Rattle.event_texts.specs.Forged.{IsForm, frame_in, framed, message_in};
 ghost use Rattle.message_model.specs.Frames.{MOST_BODY};
@@ -8,11 +8,11 @@ ghost use Rattle.message_model.specs.Spelling.{head};
 ghost use Rattle.std.specs.Prelude.{◌≡◌, ◌≤◌, drop, length, IfErr, IfOk, IfSome, IsSome, IsTrue};
 ghost use Rattle.texts.specs.Words.{content_read};
 
-use embed_core::words::{Pieces, cut, number};
 use message_bodies::body::{BodyFault, read_body};
 use message_model::codes::{Kind, kind_of};
 use message_model::frame::Frame;
 use std::alloc::{AllocError, Global};
+use text_words::words::{Pieces, cut, number};
 use texts::words::content;
 use wire_msgs::message::Message;
 use world_model::event::Event;

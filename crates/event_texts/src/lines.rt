@@ -6,8 +6,8 @@ ghost use Rattle.texts.specs.Lines.{is_skipped};
 
 use crate::events::{parse, parse_open};
 use crate::forge::parse_forge;
-use embed_core::words::Pieces;
 use std::alloc::{AllocError, Global};
+use text_words::words::Pieces;
 use texts::lines::SyntaxFault;
 use world_model::event::Event;
 

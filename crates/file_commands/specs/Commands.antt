@@ -2,7 +2,7 @@
 use Rattle.std.specs.Prelude.{ℕ, Option, Some, None, List, [], ◌∷◌, cond, codes, Result}
 use Rattle.std.specs.Option.{option_map}
 use Rattle.std.specs.Str.{bytes_eq}
-use Rattle.embed_core.specs.Words.{words, number_read}
+use Rattle.text_words.specs.Words.{words, number_read}
 use Rattle.texts.specs.Words.{byte_read, content_read}
 use Rattle.texts.specs.Paths.{path_read}
 use Rattle.file_commands.specs.declared.command.Command.{Command}

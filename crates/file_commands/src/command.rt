@@ -5,9 +5,9 @@ ghost use Rattle.std.specs.Prelude.{◌≡◌, IfErr, IfOk, IsSome};
 ghost use Rattle.texts.specs.Paths.{path_read};
 ghost use Rattle.texts.specs.Words.{content_read};
 
-use embed_core::words::{Pieces, number};
 use std::alloc::{AllocError, Global};
 use storage_tree::bytes::Bytes;
+use text_words::words::{Pieces, number};
 use texts::lines::Grammar;
 use texts::path::{Path, is_path};
 use texts::words::{byte, content, is_content};

@@ -1,6 +1,6 @@
 -- What a folder tells of its storage, as it is read.
 use Rattle.std.specs.Prelude.{ℕ, Option, Some, None, List, [], ◌∷◌}
-use Rattle.embed_core.specs.Words.{lines, number_read, words}
+use Rattle.text_words.specs.Words.{lines, number_read, words}
 use Rattle.uuid.specs.Parts.{swap_fields}
 use Rattle.uuid.specs.Text.{parsed}
 

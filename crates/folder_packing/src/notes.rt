@@ -4,8 +4,8 @@ ghost use Rattle.folder_packing.specs.Notes.{line_read, notes_read};
 ghost use Rattle.std.specs.Prelude.{◌≡◌};
 ghost use Rattle.uuid.specs.Text.{parsed};
 
-use embed_core::words::{Pieces, number};
 use storage_tree::class_id::ClassId;
+use text_words::words::{Pieces, number};
 use uuid::Uuid;
 
 /// The class id and the state bits that the file of a folder tells of its storage; none where it is no such file.

@@ -1,13 +1,13 @@
 //! A folder in memory.
 
 use cfb_names::name::Name;
-use embed_core::words::Pieces;
 use file_folders::folder::{Folder, FolderFault};
 use file_folders::plan::{Content, Entry};
 use folder_packing::names::read_component;
 use folder_packing::packing::Found;
 use std::alloc::{AllocError, Global};
 use storage_tree::class_id::ClassId;
+use text_words::words::Pieces;
 
 /// A folder in memory, which takes so many entries and then is full.
 #[derive(Drop)]

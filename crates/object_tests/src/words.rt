@@ -2,10 +2,10 @@
 
 use crate::texts::halves;
 use cfb_names::name::Name;
-use embed_core::words::{Pieces, cut, number};
 use embed_core::{Streams, picture, sole_stream, stream_names};
 use std::alloc::Global;
 use std::process::Abort;
+use text_words::words::{Pieces, cut, number};
 
 fn is_found(streams: &Streams, name: &Name, bytes: &[u8]) -> bool {
     match sole_stream::bytes(streams, name) {

@@ -3,7 +3,7 @@ use Rattle.std.proofs.Common.{◌≡◌, ℕ, List, [], ◌∷◌, Bool, true, f
 use Rattle.std.specs.Prelude.{◌||◌, is_some}
 use Rattle.std.specs.Str.{bytes_eq}
 use Rattle.std.proofs.lemmas.Slice.Eq.{bytes_eq-Decides}
-use Rattle.embed_core.specs.Words.{words}
+use Rattle.text_words.specs.Words.{words}
 use Rattle.event_texts.specs.Events.{Sized, event_in, event_of, forge_in, is_forge, may_want, open_in, open_of, open_read, or_else as either, sized_read, takes_memory}
 use Rattle.script_model.specs.declared.command.ScriptCommand.{ScriptCommand}
 use Rattle.script_texts.specs.Commands.{command_in, command_of, is_open, or_else}

@@ -9,9 +9,9 @@ use Rattle.std.proofs.lemmas.Fmt.{digits_decimal}
 use Rattle.object_state.specs.Printable.{is_printable}
 use Rattle.embed_core.specs.Content.{Cell, Shape, box, line, across, down, Content, note, table, drawing, is_content, is_note_text, is_cell, is_cell_text, is_entry, is_rising, cell_bytes, cell_place, CELL_SIZE, NOTE_SIZE}
 use Rattle.embed_core.specs.Pictures.{ended, text_lines, cell_line, is_within, is_end, painted, glyph_over, glyph, drawn_line, picture, ended_line, picture_bytes}
-use Rattle.embed_core.specs.Words.{pieces}
-use Rattle.embed_core.proofs.Numerals.{numerals}
-use Rattle.embed_core.proofs.Passing.{both, first_of_both, second_of_both, told_cond, le_told, lt_told}
+use Rattle.text_words.specs.Words.{pieces}
+use Rattle.text_words.proofs.Numerals.{numerals}
+use Rattle.text_words.proofs.Passing.{both, first_of_both, second_of_both, told_cond, le_told, lt_told}
 use Rattle.embed_core.proofs.Staying.{list_all-take, list_all-joined}
 use Rattle.ole_parts.specs.Presentations.{is_line_byte, are_lines}
 use Rattle.ole_parts.proofs.Again.{at-end}

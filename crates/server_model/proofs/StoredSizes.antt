@@ -8,7 +8,7 @@ use Rattle.object_state.specs.Printable.{is_printable}
 use Rattle.object_parts.specs.Limits.{MOST_BYTES, has_ole_name, total}
 use Rattle.embed_core.specs.Content.{Cell, Shape, box, line, Content, note, table, drawing, is_content, is_cell, is_cell_text, is_entry, is_rising, is_shape, cell_place, entry_bytes, shape_line, stream_bytes, stored, CELL_SIZE, DRAWING_SIZE}
 use Rattle.embed_core.specs.Pictures.{text_lines, cell_line, picture, ended_line, picture_bytes}
-use Rattle.embed_core.proofs.Passing.{both, first_of_both, second_of_both, le_told, lt_told, le_passes, lt_passes}
+use Rattle.text_words.proofs.Passing.{both, first_of_both, second_of_both, le_told, lt_told, le_passes, lt_passes}
 use Rattle.embed_core.proofs.Staying.{places, note-size, drawing-size, list_all-take}
 use Rattle.ole_parts.specs.Presentations.{presentation_bytes, lines_written, are_lines, PAST_DATA}
 use Rattle.server_model.specs.Pictures.{presented, picture_of}

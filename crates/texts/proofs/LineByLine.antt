@@ -4,7 +4,7 @@ use Rattle.std.specs.Prelude.{IsOk, IsSome}
 use Rattle.std.proofs.lemmas.List.{take-append-drop, length-take}
 use Rattle.std.proofs.lemmas.List.Splits.{length-slice_split}
 use Rattle.std.proofs.lemmas.List.Sums.{count_by-le-length}
-use Rattle.embed_core.specs.Words.{pieces, lines}
+use Rattle.text_words.specs.Words.{pieces, lines}
 use Rattle.texts.specs.Lines.{is_skipped, put_first, lines_read, MayLackMemory}
 use Rattle.texts.specs.declared.lines.SyntaxFault.{SyntaxFault}
 use Rattle.texts.specs.declared.lines.SyntaxFault.TheVariants.{Bad}

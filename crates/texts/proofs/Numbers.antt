@@ -6,7 +6,7 @@ use Rattle.std.proofs.lemmas.Fmt.{decimal_by_steps, decimal_nonempty, first_deci
 use Rattle.std.specs.Char.{is_ascii_digit}
 use Rattle.std.specs.Fmt.{decimal}
 use Rattle.std.specs.Option.{option_and_then}
-use Rattle.embed_core.specs.Words.{digits_read, number_read}
+use Rattle.text_words.specs.Words.{digits_read, number_read}
 
 -- one more digit behind a number
 abbrev digit_behind : ℕ → ℕ → Option ℕ

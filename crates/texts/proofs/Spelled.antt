@@ -5,7 +5,7 @@ use Rattle.std.specs.List.{AllByRecursion, list_any, All}
 use Rattle.std.proofs.lemmas.List.Elements.{All-cons, All-nil}
 use Rattle.std.proofs.lemmas.List.Splits.{slice_split_at, slice_split_none}
 use Rattle.cfb_names.specs.Names.{IsName, is_forbidden, name_read as taken_name}
-use Rattle.embed_core.specs.Words.{pieces}
+use Rattle.text_words.specs.Words.{pieces}
 use Rattle.std.specs.Option.{option_map}
 use Rattle.texts.specs.Words.{is_hidden, lower_digit, onto}
 use Rattle.texts.specs.Written.{digit_text}

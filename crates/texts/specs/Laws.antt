@@ -3,7 +3,7 @@ use Rattle.std.specs.Prelude.{◌≡◌, ◌≢◌, ◌<◌, ◌^◌, ℕ, List,
 use Rattle.std.specs.List.{AllByRecursion}
 use Rattle.std.specs.Fmt.{decimal}
 use Rattle.cfb_names.specs.Names.{IsName}
-use Rattle.embed_core.specs.Words.{number_read}
+use Rattle.text_words.specs.Words.{number_read}
 use Rattle.texts.specs.Paths.{path_text, path_read}
 
 -- what spells a path of names that a directory takes is read as that path

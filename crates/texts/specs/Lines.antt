@@ -1,6 +1,6 @@
 -- Texts whose lines ask for one thing each.
 use Rattle.std.specs.Prelude.{◌≡◌, ◌+◌, ◌-◌, ℕ, Bool, true, false, Option, Some, None, List, [], ◌∷◌, nat_eq, cond, take, slice_get, Result, Ok, Err, IsOk}
-use Rattle.embed_core.specs.Words.{lines}
+use Rattle.text_words.specs.Words.{lines}
 use Rattle.texts.specs.declared.lines.SyntaxFault.{SyntaxFault}
 use Rattle.texts.specs.declared.lines.SyntaxFault.TheVariants.{Bad, NoMemory}
 

@@ -4,7 +4,7 @@ use Rattle.std.specs.List.{join_with_byte}
 use Rattle.std.specs.Option.{option_map}
 use Rattle.cfb_names.specs.Names.{name_read as taken_name}
 use Rattle.cfb_names.specs.declared.fault.DirFault.{DirFault}
-use Rattle.embed_core.specs.Words.{pieces}
+use Rattle.text_words.specs.Words.{pieces}
 use Rattle.texts.specs.Words.{is_hidden, lower_digit, pair_value, onto}
 pub use Rattle.text_model.specs.Spelled.{byte_text, name_text}
 

@@ -1,11 +1,11 @@
 //! Texts whose lines ask for one thing each.
 
-ghost use Rattle.embed_core.specs.Words.{lines};
+ghost use Rattle.text_words.specs.Words.{lines};
 ghost use Rattle.std.specs.Prelude.{◌≡◌, ◌<◌, ◌^◌, Ok, length, IfErr, IfOk, IsSome, ℕ, List, Option};
 ghost use Rattle.texts.specs.Lines.{RefusesText, is_skipped, text_read};
 
-use embed_core::words::Pieces;
 use std::alloc::{AllocError, Global};
+use text_words::words::Pieces;
 use thiserror::Error;
 
 /// Why the lines of a text aren't read.

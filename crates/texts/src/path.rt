@@ -10,9 +10,9 @@ ghost use Rattle.texts.specs.Words.{onto};
 use crate::words::{is_hidden, lower_digit};
 use cfb_names::fault::DirFault;
 use cfb_names::name::Name;
-use embed_core::words::Pieces;
 use std::alloc::{AllocError, Global};
 use std::marker::Model;
+use text_words::words::Pieces;
 
 /// The names of a path, or why a directory doesn't take one of them.
 #[derive(Drop)]

@@ -1,7 +1,7 @@
 //! Words of rows.
 
-use embed_core::words;
 use std::str::SplitWhitespace;
+use text_words::words;
 
 /// The next word of a row, and none at its end.
 pub(crate) fn word<'a>(words: &mut SplitWhitespace<'a>) -> &'a str {

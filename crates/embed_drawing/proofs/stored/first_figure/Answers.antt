@@ -1,6 +1,6 @@
 use Rattle.std.proofs.Common.{◌∷◌, None, Some, ap, ◌∙◌}
 use Rattle.std.specs.Option.{option_copied}
-use Rattle.embed_core.specs.Words.{further}
+use Rattle.text_words.specs.Words.{further}
 use Rattle.embed_drawing.specs.Drawn.{shape_told}
 use Rattle.embed_drawing.proofs.Listed.{shapes_on-first, shapes_on-unended}
 use Rattle.embed_drawing.proofs.stored.first_figure.Goals as goal

@@ -1,7 +1,7 @@
 use Rattle.std.proofs.Common.{sym}
 use Rattle.embed_table.specs.Placed.{named}
 use Rattle.embed_core.specs.Reading.{entry_in}
-use Rattle.embed_core.specs.Words.{words}
+use Rattle.text_words.specs.Words.{words}
 use Rattle.embed_table.proofs.Loading.{entry-sound, text-unsound}
 use Rattle.embed_table.proofs.entries.entry.Goals as goal
 

@@ -1,6 +1,6 @@
 use Rattle.std.proofs.Common.{ap, ◌∙◌, ◌∷◌, ◌≡◌}
 use Rattle.std.specs.Option.{option_copied}
-use Rattle.embed_core.specs.Words.{pieces, further}
+use Rattle.text_words.specs.Words.{pieces, further}
 use Rattle.embed_table.proofs.Loading.{entries-last, first-bad, first-early, first-read}
 use Rattle.embed_table.proofs.entries.first.Goals as goal
 

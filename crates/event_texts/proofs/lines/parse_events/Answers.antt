@@ -1,5 +1,5 @@
 use Rattle.std.proofs.Common.{◌≡◌, ◌∷◌, Ok, drop, ap, sym, ◌∙◌, length, arith}
-use Rattle.embed_core.specs.Words.{lines}
+use Rattle.text_words.specs.Words.{lines}
 use Rattle.event_texts.specs.Events.{line_read}
 use Rattle.texts.proofs.LineByLine.{stands, skipped, read_more, bad, length-pieces}
 use Rattle.event_texts.proofs.Wanting.{spelled_wants, wanting}

@@ -1,5 +1,5 @@
 use Rattle.std.proofs.Common.{◌≡◌, ◌≤◌, ◌+◌, length, take, drop, Ok}
-use Rattle.embed_core.specs.Words.{lines}
+use Rattle.text_words.specs.Words.{lines}
 use Rattle.event_texts.specs.Events.{line_read}
 use Rattle.texts.specs.Lines.{lines_read}
 use Rattle.event_texts.proofs.lines.parse_events.Given as goal

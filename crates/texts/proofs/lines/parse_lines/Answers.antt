@@ -1,5 +1,5 @@
 use Rattle.std.proofs.Common.{◌≡◌, ◌+◌, ◌∷◌, Ok, drop, ap, sym, ◌∙◌, length, arith}
-use Rattle.embed_core.specs.Words.{lines}
+use Rattle.text_words.specs.Words.{lines}
 use Rattle.texts.proofs.LineByLine.{stands, skipped, read_more, bad, lacking, some_is, length-pieces}
 use Rattle.texts.proofs.lines.parse_lines.Goals as goal
 

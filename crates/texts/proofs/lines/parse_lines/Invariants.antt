@@ -1,5 +1,5 @@
 use Rattle.std.proofs.Common.{◌≡◌, ◌≤◌, ◌+◌, length, take, drop, Ok}
-use Rattle.embed_core.specs.Words.{lines}
+use Rattle.text_words.specs.Words.{lines}
 use Rattle.texts.specs.Lines.{lines_read}
 use Rattle.texts.proofs.lines.parse_lines.Given as goal
 

@@ -2,8 +2,8 @@ use Rattle.std.proofs.Common.{arith, ap, sym, ◌∙◌, ◌∷◌, ◌<◌, ◌
 use Rattle.std.proofs.lemmas.Bool.Decides.{nat_tests}
 use Rattle.std.specs.Option.{option_copied}
 use Rattle.embed_core.specs.Pictures.{text_lines}
-use Rattle.embed_core.specs.Words.{further}
-use Rattle.embed_core.proofs.Cuts.{text_lines-cut, text_lines-last}
+use Rattle.text_words.specs.Words.{further}
+use Rattle.embed_core.proofs.Lines.{text_lines-cut, text_lines-last}
 use Rattle.embed_note.proofs.lines.Lines.next_line.Goals.{in-Some, in-None}
 use Rattle.embed_note.proofs.lines.Lines.next_line.Goals as goal
 

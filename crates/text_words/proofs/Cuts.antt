@@ -4,8 +4,7 @@ use Rattle.std.proofs.lemmas.Bool.{ne_eqb}
 use Rattle.std.specs.List.{onto_first, join_with_byte}
 use Rattle.std.proofs.lemmas.List.Splits.{slice_split-cons_yes, slice_split-cons_no, join_with_byte-slice_split}
 use Rattle.memchr.specs.Find.{IsFirstByte, is_byte}
-use Rattle.embed_core.specs.Words.{pieces}
-use Rattle.embed_core.specs.Pictures.{ended, text_lines}
+use Rattle.text_words.specs.Words.{pieces}
 
 -- the first such byte stands at i
 pieces-cut : (c : ℕ) (xs : List ℕ) (i : ℕ) → i < length xs → get_or xs i 0 ≡ c → ((k : ℕ) → k < i → get_or xs k 0 ≡ c → ⊥)
@@ -61,19 +60,3 @@ pub pieces-joined : {A : Type 0} (c : ℕ) (xs : List ℕ) (f : List (List ℕ) 
     → ((p : List ℕ) (ps : List (List ℕ)) → join_with_byte c (p ∷ ps) ≡ xs → f (p ∷ ps) ≡ a) → f (pieces c xs) ≡ a
 pieces-joined c xs f a read =
     pieces-known c xs f a (λ p ps e. read p ps (ap (join_with_byte c) (sym e) ∙ join_with_byte-slice_split c xs))
-
--- The lines of a text whose first one was cut off.
-pub text_lines-cut : (xs l rest : List ℕ) → pieces 10 xs ≡ l ∷ pieces 10 rest → text_lines xs ≡ l ∷ text_lines rest
-text_lines-cut xs l rest cut =
-    ap ended cut ∙ pieces-known 10 rest (λ ls. ended (l ∷ ls)) (l ∷ text_lines rest) (λ p ps e. ap (λ ls. l ∷ ended ls) (sym e))
-
-some_line : (l : List ℕ) → 0 < length l → ended (l ∷ []) ≡ l ∷ []
-some_line [] h = absurd (omega arith)
-some_line (x ∷ l) h = ap (λ b. cond b [] ((x ∷ l) ∷ [])) (ne_eqb (suc (length l)) 0 (λ e. omega arith))
-
--- The lines of a text that has something, but no line feed.
-pub text_lines-last : (xs l : List ℕ) → 0 < length xs → pieces 10 xs ≡ l ∷ [] → text_lines xs ≡ l ∷ []
-text_lines-last xs l h cut =
-    let whole : l ≡ xs = sym (ap (join_with_byte 10) cut) ∙ join_with_byte-slice_split 10 xs in
-    let P : List ℕ → Type 0 = λ t. 0 < length t in
-    ap ended cut ∙ some_line l (subst P (sym whole) h)

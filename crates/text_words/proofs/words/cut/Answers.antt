@@ -1,9 +1,9 @@
 use Rattle.std.proofs.Common.{take, ap, ◌∙◌, ◌∷◌, ◌+◌, sym, subst}
 use Rattle.std.proofs.lemmas.List.{take_rest}
 use Rattle.memchr.specs.Find.{IsFirstByte, is_byte}
-use Rattle.embed_core.specs.Words.{pieces}
-use Rattle.embed_core.proofs.Cuts.{pieces-found, pieces-missed}
-use Rattle.embed_core.proofs.words.cut.Goals as goal
+use Rattle.text_words.specs.Words.{pieces}
+use Rattle.text_words.proofs.Cuts.{pieces-found, pieces-missed}
+use Rattle.text_words.proofs.words.cut.Goals as goal
 
 pub returns-in-Some-clause-pieces : goal.returns-in-Some-clause-pieces
 returns-in-Some-clause-pieces c =

@@ -1,6 +1,6 @@
 use Rattle.std.proofs.Common.{◌≡◌, ◌≤◌, drop}
-use Rattle.embed_core.specs.Words.{digits_read}
-use Rattle.embed_core.proofs.words.digits.Given as goal
+use Rattle.text_words.specs.Words.{digits_read}
+use Rattle.text_words.proofs.words.digits.Given as goal
 
 abbrev pub invariant-loop-digit : goal.invariant-loop-digit
 invariant-loop-digit l = record {

@@ -1,6 +1,6 @@
 //! Words and numbers of texts.
 
-ghost use Rattle.embed_core.specs.Words.{digits_read, further, number_read, pieces};
+ghost use Rattle.text_words.specs.Words.{digits_read, further, number_read, pieces};
 ghost use Rattle.std.specs.Option.{option_copied};
 ghost use Rattle.std.specs.Prelude.{◌≡◌, ◌<◌, [], ◌∷◌, length, IfSome, MatchOption};
 
@@ -28,7 +28,7 @@ pub struct Pieces<'a> {
 impl<'a> Model for Pieces<'a> {
     ghost use Rattle.std.specs.Prelude.{List, ℕ};
     ghost use Rattle.std.specs.Option.{option_copied};
-    ghost use Rattle.embed_core.specs.Words.{further};
+    ghost use Rattle.text_words.specs.Words.{further};
 
     ghost Value = { List (List ℕ) };
 

@@ -6,8 +6,8 @@ use Rattle.std.specs.Str.{all_ascii_digits}
 use Rattle.std.specs.Fmt.{decimal}
 use Rattle.std.proofs.lemmas.Fmt.{digits_decimal, digits_value-decimal, decimal-digits_value, decimal_nonempty, first_decimal, decimal_digit}
 use Rattle.std.proofs.lemmas.Str.Parse.{IsNumeralModel, numerals_by_fold}
-use Rattle.embed_core.specs.Words.{digits_read, number_read}
-use Rattle.embed_core.proofs.Passing.{both, first_of_both, second_of_both, told_cond, le_told, le_passes, ne_told, eq_told}
+use Rattle.text_words.specs.Words.{digits_read, number_read}
+use Rattle.text_words.proofs.Passing.{both, first_of_both, second_of_both, told_cond, le_told, le_passes, ne_told, eq_told}
 
 -- the value of digits behind a number
 abbrev pub read_on : ℕ → List ℕ → ℕ

@@ -1,0 +1,3 @@
+pub mod Passing
+pub mod Cuts
+pub mod Numerals
