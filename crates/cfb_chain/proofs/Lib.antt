@@ -1,7 +1,7 @@
-pub mod Marks
-pub mod Chains
-pub mod Blocks
-pub mod Results
-pub mod Tables
-pub mod Followed
-pub mod Runs
+pub use Rattle.chain_model.proofs.Marks
+pub use Rattle.chain_model.proofs.Chains
+pub use Rattle.chain_model.proofs.Blocks
+pub use Rattle.chain_model.proofs.Results
+pub use Rattle.chain_model.proofs.Tables
+pub use Rattle.chain_model.proofs.Followed
+pub use Rattle.chain_model.proofs.Runs

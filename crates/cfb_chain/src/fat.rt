@@ -20,8 +20,7 @@ use cfb_places::places::Places;
 use std::alloc::{AllocError, Global};
 use std::marker::Model;
 
-/// The value of a sector that isn't used.
-pub const FREE_SECTOR: u32 = 0xffff_ffff;
+pub use chain_model::sector::FREE_SECTOR;
 
 /// A table of sectors over their bytes, which marks those that are used: the FAT over a file, or the mini FAT over
 /// the mini stream.

@@ -109,7 +109,7 @@ pub(crate) fn run_of<'a>(
 }
 
 /// Number k of four bytes each, 0 past the end.
-#[tactic(auto, using(crate::proofs::Blocks::u32_at_past))]
+#[tactic(auto, using(chain_model::proofs::Blocks::u32_at_past))]
 fn number(bytes: &[u8], k: usize) -> u32
     requires whole { (m : ℕ) × (length bytes.now ≡ 4 * m) }
     requires fits { k < 2 ^ 60 }

@@ -3,8 +3,8 @@ use Rattle.std.proofs.Common.{◌≡◌, ◌<◌, ◌*◌, ℕ, suc, List, ◌++
 use Rattle.std.proofs.lemmas.List.Elements.{All-take}
 use Rattle.std.specs.List.{Contains}
 use Rattle.cfb_header.specs.Bytes.{sector}
-use Rattle.cfb_chain.specs.Chain.{AreDistinct, IsChain, IsChainOf, IsPresent}
-use Rattle.cfb_chain.specs.Fat.{mini_sectors_of, sectors_of}
+use Rattle.chain_model.specs.Chain.{AreDistinct, IsChain, IsChainOf, IsPresent}
+use Rattle.chain_model.specs.Fat.{mini_sectors_of, sectors_of}
 use Rattle.cfb_header.specs.Header.{HeaderValue, difat, difat_by, fat_count, first_directory, first_mini_fat, header_of, listed, mini_fat_count}
 use Rattle.cfb_header.specs.declared.fault.ChainFault.{ChainFault}
 use Rattle.cfb_header.specs.declared.fault.ChainFault.TheVariants as chain

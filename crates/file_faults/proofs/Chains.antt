@@ -3,10 +3,10 @@ use Rattle.std.proofs.Common.{◌≡◌, ◌<◌, ◌≤◌, ◌*◌, ◌⊎◌,
 use Rattle.std.proofs.lemmas.List.{append-nil}
 use Rattle.std.proofs.lemmas.List.Elements.{All-head, All-tail}
 use Rattle.std.specs.List.{All, Contains}
-use Rattle.cfb_chain.specs.Chain.{IsChainOf, Leads, Store}
-use Rattle.cfb_chain.specs.Fat.{AreFree, AreSame, FatValue, IsFound, IsFree, IsMiniFound, IsTableOf, MayRefuse, MayRefuseChain, MayRefuseFat, MayRefuseMini, marked, sectors_of, store_of}
-use Rattle.cfb_chain.proofs.Chains.{chain_of_same}
-use Rattle.cfb_chain.proofs.Marks.{Marks, marks_load, marks_more}
+use Rattle.chain_model.specs.Chain.{IsChainOf, Leads, Store}
+use Rattle.chain_model.specs.Fat.{AreFree, AreSame, FatValue, IsFound, IsFree, IsMiniFound, IsTableOf, MayRefuse, MayRefuseChain, MayRefuseFat, MayRefuseMini, marked, sectors_of, store_of}
+use Rattle.chain_model.proofs.Chains.{chain_of_same}
+use Rattle.chain_model.proofs.Marks.{Marks, marks_load, marks_more}
 use Rattle.cfb_directory.specs.Entries.{entry_at, first_of, size_of}
 use Rattle.cfb_header.specs.Header.{HeaderValue, difat, first_directory, first_mini_fat, header_of, listed, mini_fat_count}
 use Rattle.cfb_header.specs.declared.fault.ChainFault.{ChainFault}

@@ -7,7 +7,7 @@ use Rattle.std.specs.List.{All, Contains}
 use Rattle.std.specs.List.Sorted.{IsStrictlySortedBy}
 use Rattle.std.specs.Ordering.{ordering_reverse}
 use Rattle.std.specs.declared.cmp.Ordering.TheVariants.{Less}
-use Rattle.cfb_chain.specs.Chain.{AreDistinct}
+use Rattle.chain_model.specs.Chain.{AreDistinct}
 use Rattle.cfb_names.specs.Names.{IsName, key_cmp}
 use Rattle.cfb_directory.specs.Entries.{AreFree, EntriesValue, IsKindOf, IsNamed, MayRefuseEntry, entry_at, kind}
 use Rattle.cfb_names.specs.declared.fault.DirFault.{DirFault}

@@ -3,7 +3,7 @@ use Rattle.std.proofs.Common.{◌≢◌, ℕ, suc, List, [], ◌∷◌, get_or, 
 use Rattle.std.proofs.lemmas.List.Elements.{Contains-get_or}
 use Rattle.std.proofs.lemmas.List.Kept.{AllPairs-cons}
 use Rattle.std.specs.List.{All, Contains}
-use Rattle.cfb_chain.specs.Chain.{AreDistinct}
+use Rattle.chain_model.specs.Chain.{AreDistinct}
 
 pub contains-none : {X : Type 0} (x : X) → Contains [] x → ⊥
 contains-none x (k, lt, is) = omega arith

@@ -3,14 +3,14 @@ use Rattle.std.proofs.Common.{◌≡◌, ◌<◌, ◌*◌, ℕ, List, [], ◌++�
 use Rattle.std.proofs.lemmas.List.Elements.{All-take}
 use Rattle.std.specs.List.{All}
 use Rattle.cfb_header.specs.Bytes.{joined, sector}
-use Rattle.cfb_chain.specs.Chain.{IsChain, IsChainOf, Store}
-use Rattle.cfb_chain.specs.Fat.{AreFree, AreSame, FatValue, IsFat, IsMiniFound, IsMiniTable, IsTableOf, marked, sectors_of, store_of}
+use Rattle.chain_model.specs.Chain.{IsChain, IsChainOf, Store}
+use Rattle.chain_model.specs.Fat.{AreFree, AreSame, FatValue, IsFat, IsMiniFound, IsMiniTable, IsTableOf, marked, sectors_of, store_of}
 use Rattle.cfb_header.specs.Header.{HeaderValue, IsHeader, difat, first_directory, first_mini_fat, header_of, header_read, listed, mini_fat_count}
 use Rattle.cfb_header.specs.declared.fault.ChainFault.{ChainFault}
-use Rattle.cfb_chain.proofs.Chains.{chain_below, chain_of_same, chain_same, joined_same}
+use Rattle.chain_model.proofs.Chains.{chain_below, chain_of_same, chain_same, joined_same}
 use Rattle.cfb_header.proofs.Headers.{read_whole}
-use Rattle.cfb_chain.proofs.Marks.{Marks, marks_load, marks_more, marks_none}
-use Rattle.cfb_chain.proofs.Tables.{mini_same}
+use Rattle.chain_model.proofs.Marks.{Marks, marks_load, marks_more, marks_none}
+use Rattle.chain_model.proofs.Tables.{mini_same}
 use Rattle.cfb_directory.specs.Entries.{entry_at, first_of, size_of}
 use Rattle.file_model.specs.Denotes.{IsLaidOut, Layout, directory_of, minis, root_of, sectors}
 

@@ -2,10 +2,10 @@
 use Rattle.std.proofs.Common.{◌≡◌, ℕ, Bool, true, false, List, [], ◌∷◌, ◌++◌, refl, sym, subst, if◌then◌else◌}
 use Rattle.std.proofs.lemmas.List.{append-nil}
 use Rattle.cfb_header.specs.Bytes.{joined}
-use Rattle.cfb_chain.specs.Chain.{AreDistinct, IsChainOf, Store}
-use Rattle.cfb_chain.specs.Fat.{AreFree, AreSame, FatValue, IsFound, marked, store_of}
-use Rattle.cfb_chain.proofs.Chains.{chain_below, chain_of_same, joined_same, same_back}
-use Rattle.cfb_chain.proofs.Marks.{Marks, free_when, marks_more}
+use Rattle.chain_model.specs.Chain.{AreDistinct, IsChainOf, Store}
+use Rattle.chain_model.specs.Fat.{AreFree, AreSame, FatValue, IsFound, marked, store_of}
+use Rattle.chain_model.proofs.Chains.{chain_below, chain_of_same, joined_same, same_back}
+use Rattle.chain_model.proofs.Marks.{Marks, free_when, marks_more}
 use Rattle.file_model.specs.Denotes.{Used}
 
 -- ---- one stream, whose bytes lie in mini sectors where the test is true

@@ -4,14 +4,14 @@ use Rattle.std.proofs.lemmas.List.{get_or-replicate}
 use Rattle.std.proofs.lemmas.List.Elements.{All-append}
 use Rattle.std.specs.List.{All}
 use Rattle.cfb_header.specs.Bytes.{joined, sector}
-use Rattle.cfb_chain.specs.Chain.{AreDistinct, IsChain, IsChainOf}
-use Rattle.cfb_chain.specs.Fat.{AreFree, AreSame, FatValue, IsFat, IsMiniFound, IsTableOf, sectors_of, store_of}
+use Rattle.chain_model.specs.Chain.{AreDistinct, IsChain, IsChainOf}
+use Rattle.chain_model.specs.Fat.{AreFree, AreSame, FatValue, IsFat, IsMiniFound, IsTableOf, sectors_of, store_of}
 use Rattle.cfb_header.specs.Header.{HeaderValue, difat, first_directory, first_mini_fat, header_of, listed, mini_fat_count}
-use Rattle.cfb_chain.proofs.Blocks.{length_block, length_joined}
-use Rattle.cfb_chain.proofs.Chains.{chain_below, chain_of_same, chain_same, same_back}
-use Rattle.cfb_chain.proofs.Marks.{distinct_left, free_when, marks_load}
+use Rattle.chain_model.proofs.Blocks.{length_block, length_joined}
+use Rattle.chain_model.proofs.Chains.{chain_below, chain_of_same, chain_same, same_back}
+use Rattle.chain_model.proofs.Marks.{distinct_left, free_when, marks_load}
 use Rattle.cfb_directory.specs.Entries.{EntriesValue, MayRefuseEntry, MayRefuseLoad, entry_at, first_of, kind, size_of}
-use Rattle.cfb_chain.specs.Fat.{set_all}
+use Rattle.chain_model.specs.Fat.{set_all}
 use Rattle.cfb_names.specs.declared.fault.DirFault.{DirFault}
 use Rattle.cfb_names.specs.declared.fault.DirFault.TheVariants.{NameEmpty, NameTooLong, NameNotAscii, NameForbidden, DuplicateName, BadEntry, TreeCycle, TooNested, NoMemory}
 use Rattle.cfb_directory.proofs.Marks.{set_all-there}

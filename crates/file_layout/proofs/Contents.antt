@@ -1,8 +1,8 @@
 -- A file in which all parts of a tree lie denotes the tree.
 use Rattle.std.proofs.Common.{◌≡◌, ◌<◌, ◌+◌, ◌-◌, ◌*◌, ◌^◌, ℕ, zero, suc, List, [], ◌∷◌, ◌++◌, length, replicate, refl, sym, ◌∙◌, ap, subst, arith, length-append, lit<, lit≤, append-nil}
 use Rattle.std.specs.List.{concat, range_with_len, sum}
-use Rattle.cfb_chain.specs.Chain.{AreDistinct}
-use Rattle.cfb_chain.specs.Fat.{mini_sectors_of, sectors_of}
+use Rattle.chain_model.specs.Chain.{AreDistinct}
+use Rattle.chain_model.specs.Fat.{mini_sectors_of, sectors_of}
 use Rattle.cfb_directory.specs.Entries.{entry_at, root_name}
 use Rattle.cfb_directory.specs.Written.{entry_bytes, free_entry_bytes}
 use Rattle.cfb_directory.specs.declared.write.EntryFields.{EntryFields}

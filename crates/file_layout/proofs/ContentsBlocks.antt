@@ -4,7 +4,7 @@ use Rattle.std.proofs.lemmas.List.{drop-append-le, take-append-le, take_at, take
 use Rattle.std.proofs.lemmas.List.FromFn.{length-range_with_len, get_or-range_with_len}
 use Rattle.std.specs.List.{flat_map, range_with_len, All}
 use Rattle.cfb_header.specs.Bytes.{block}
-use Rattle.cfb_chain.specs.Chain.{Store, IsPresent}
+use Rattle.chain_model.specs.Chain.{Store, IsPresent}
 use Rattle.file_model.specs.Need.{pieces}
 use Rattle.file_layout.specs.Image.{padded}
 

@@ -3,7 +3,7 @@ use Rattle.std.proofs.Common.{◌<◌, ◌≤◌, ◌+◌, ◌↔◌, inl, inr, 
 use Rattle.std.proofs.Math.Nat.{eq-or-lt_of_le}
 use Rattle.std.proofs.lemmas.List.Elements.{Contains-append_cases}
 use Rattle.std.specs.List.{Contains, range_with_len}
-use Rattle.cfb_chain.specs.Chain.{AreDistinct}
+use Rattle.chain_model.specs.Chain.{AreDistinct}
 use Rattle.file_model.proofs.Lists.{Contains-cons_cases, Contains-front, Contains-behind}
 
 pub distinct-nil : AreDistinct []

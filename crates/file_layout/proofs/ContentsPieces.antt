@@ -7,7 +7,7 @@ use Rattle.std.proofs.Math.Nat.{mul-le-mul_left}
 use Rattle.std.proofs.Math.ListN.{get_or-append}
 use Rattle.std.specs.List.{range_with_len, sum}
 use Rattle.cfb_header.specs.Bytes.{block, joined}
-use Rattle.cfb_chain.specs.Chain.{Store, IsChainOf}
+use Rattle.chain_model.specs.Chain.{Store, IsChainOf}
 use Rattle.file_model.specs.Need.{pieces}
 use Rattle.file_layout.specs.Image.{run, runs, start, padded, pieces_of, whole_pieces}
 use Rattle.file_layout.proofs.ContentsBlocks.{block-drop, block-append, joined_blocks, take-padded, present_range}

@@ -5,7 +5,7 @@ use Rattle.std.specs.Prelude.{if◌then◌else◌}
 use Rattle.std.specs.List.{range_with_len}
 use Rattle.std.specs.List.Sorted.{IsStrictlySortedBy}
 use Rattle.cfb_header.specs.Bytes.{joined}
-use Rattle.cfb_chain.specs.Chain.{Store, IsChainOf}
+use Rattle.chain_model.specs.Chain.{Store, IsChainOf}
 use Rattle.cfb_names.specs.Names.{key, key_cmp}
 use Rattle.cfb_directory.specs.Entries.{entry_at, left, right, child, class_of, state_of, first_of, size_of, name_of, AreLinked, NO_STREAM}
 use Rattle.cfb_directory.proofs.Trees.{Reached, tree_reaches}

@@ -9,9 +9,9 @@ use Rattle.std.proofs.lemmas.List.FromFn.{length-range_with_len}
 use Rattle.std.specs.Int.{w32, to_le_bytes}
 use Rattle.std.specs.List.{All, flat_map, range_with_len}
 use Rattle.cfb_header.specs.Bytes.{joined, sector, u32_at}
-use Rattle.cfb_chain.specs.Chain.{FREE_SECTOR}
+use Rattle.chain_model.specs.Chain.{FREE_SECTOR}
 use Rattle.cfb_header.specs.Header.{difat_from, named_in}
-use Rattle.cfb_chain.proofs.Blocks.{length_block}
+use Rattle.chain_model.proofs.Blocks.{length_block}
 use Rattle.cfb_header.proofs.Headers.{take_by_index}
 use Rattle.file_layout.specs.Image.{difat_numbers, names, start}
 use Rattle.file_layout.proofs.Tables.{IsWord, length-numbers_bytes, numbers_bytes, range-append, u32_at_number, words_in_range}

@@ -6,9 +6,9 @@ use Rattle.std.proofs.lemmas.List.FromFn.{length-range_with_len}
 use Rattle.std.proofs.lemmas.List.Sums.{sum_by-cons}
 use Rattle.std.specs.List.{flat_map, range_with_len, sum, All}
 use Rattle.cfb_header.specs.Bytes.{u32_at, block}
-use Rattle.cfb_chain.specs.Chain.{Store, IsPresent, IsChain, IsChainOf, AreDistinct, DIFAT_SECTOR, FAT_SECTOR}
+use Rattle.chain_model.specs.Chain.{Store, IsPresent, IsChain, IsChainOf, AreDistinct, DIFAT_SECTOR, FAT_SECTOR}
 use Rattle.cfb_header.specs.Header.{HeaderValue, FitsHeader, IsHeader, named_in, difat, difat_by, fat_by, listed, header_of, header_bytes, first_directory, first_mini_fat, mini_fat_count}
-use Rattle.cfb_chain.specs.Fat.{IsFat, sectors_of, mini_sectors_of}
+use Rattle.chain_model.specs.Fat.{IsFat, sectors_of, mini_sectors_of}
 use Rattle.cfb_header.proofs.Written.{written_is_header, written_header, length_written}
 use Rattle.cfb_directory.specs.Entries.{entry_at, first_of, size_of}
 use Rattle.file_model.specs.Need.{difat_sectors, pieces}

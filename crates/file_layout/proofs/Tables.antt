@@ -11,7 +11,7 @@ use Rattle.std.proofs.lemmas.Nat.{from_le_bytes-to_le_bytes_4}
 use Rattle.std.specs.List.{concat, flat_map, range_with_len, sum, All}
 use Rattle.std.specs.Int.{w32, to_le_bytes}
 use Rattle.cfb_header.specs.Bytes.{u32_at}
-use Rattle.cfb_chain.specs.Chain.{Store, Leads, IsPresent, IsChain, IsChainOf, AreDistinct, END_OF_CHAIN, FREE_SECTOR}
+use Rattle.chain_model.specs.Chain.{Store, Leads, IsPresent, IsChain, IsChainOf, AreDistinct, END_OF_CHAIN, FREE_SECTOR}
 use Rattle.file_layout.specs.Image.{run, runs, start, table_bytes}
 
 -- a number that four bytes hold

@@ -3,7 +3,7 @@
 use Rattle.std.specs.Prelude.{◌+◌, ◌-◌, ◌*◌, ℕ, zero, suc, List, [], ◌∷◌, ◌++◌, length, map, min, replicate}
 use Rattle.std.specs.List.{flat_map, range_with_len}
 use Rattle.std.specs.Int.{w32, to_le_bytes}
-use Rattle.cfb_chain.specs.Chain.{DIFAT_SECTOR, END_OF_CHAIN, FREE_SECTOR, FAT_SECTOR}
+use Rattle.chain_model.specs.Chain.{DIFAT_SECTOR, END_OF_CHAIN, FREE_SECTOR, FAT_SECTOR}
 use Rattle.cfb_header.specs.Header.{header_bytes}
 use Rattle.file_model.specs.Limits.{LISTED, NAMED}
 use Rattle.file_model.specs.Need.{difat_sectors, pieces}

@@ -2,7 +2,7 @@
 use Rattle.std.specs.Prelude.{◌≡◌, ◌<◌, ◌≤◌, ◌+◌, ◌*◌, ℕ, List, ◌++◌, length, slice_index}
 use Rattle.std.specs.List.{range_with_len, sum}
 use Rattle.cfb_header.specs.Bytes.{block}
-use Rattle.cfb_chain.specs.Chain.{AreDistinct}
+use Rattle.chain_model.specs.Chain.{AreDistinct}
 use Rattle.cfb_header.specs.Header.{IsHeader}
 use Rattle.cfb_directory.specs.Entries.{entry_at, first_of, size_of}
 use Rattle.file_model.specs.Limits.{MOST_FAT_SECTORS}

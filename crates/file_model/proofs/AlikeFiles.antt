@@ -3,8 +3,8 @@ use Rattle.std.proofs.Common.{◌≡◌, ◌*◌, ℕ, List, ◌++◌, Bool, tru
 use Rattle.std.proofs.lemmas.List.Elements.{All-take}
 use Rattle.cfb_header.specs.Bytes.{sector}
 use Rattle.std.specs.List.{All}
-use Rattle.cfb_chain.specs.Chain.{AreDistinct, IsChain, IsChainOf, IsPresent, Store}
-use Rattle.cfb_chain.specs.Fat.{IsFat, mini_sectors_of, sectors_of}
+use Rattle.chain_model.specs.Chain.{AreDistinct, IsChain, IsChainOf, IsPresent, Store}
+use Rattle.chain_model.specs.Fat.{IsFat, mini_sectors_of, sectors_of}
 use Rattle.cfb_header.specs.Header.{HeaderValue, IsHeader, difat, difat_by, fat_by, first_directory, first_mini_fat, header_of, listed, mini_fat_count}
 use Rattle.cfb_directory.specs.Entries.{entry_at, first_of, kind, size_of}
 use Rattle.storage_tree.specs.Tree.{Tree}

@@ -3,8 +3,8 @@ use Rattle.std.proofs.Common.{◌≡◌, ◌<◌, ◌≤◌, ◌+◌, ◌-◌, �
 use Rattle.std.proofs.lemmas.List.Elements.{All-head, All-tail}
 use Rattle.std.specs.List.{All, flat_map, range_with_len}
 use Rattle.cfb_header.specs.Bytes.{joined, sector, u32_at}
-use Rattle.cfb_chain.specs.Chain.{END_OF_CHAIN, IsChain, IsChainOf, IsPresent, Leads, Store}
-use Rattle.cfb_chain.specs.Fat.{mini_sectors_of, sectors_of}
+use Rattle.chain_model.specs.Chain.{END_OF_CHAIN, IsChain, IsChainOf, IsPresent, Leads, Store}
+use Rattle.chain_model.specs.Fat.{mini_sectors_of, sectors_of}
 use Rattle.cfb_header.specs.Header.{HeaderValue, difat_by, difat_from, fat_by, named_in}
 use Rattle.file_model.specs.Alike.{AgreeOn}
 

@@ -3,10 +3,10 @@ use Rattle.std.proofs.Common.{◌≡◌, ◌≤◌, ◌*◌, ℕ, zero, suc, Lis
 use Rattle.std.proofs.lemmas.List.{length-take-le}
 use Rattle.std.specs.List.Sorted.{IsStrictlySortedBy}
 use Rattle.cfb_header.specs.Bytes.{joined}
-use Rattle.cfb_chain.specs.Chain.{IsChainOf, Store}
-use Rattle.cfb_chain.specs.Fat.{mini_sectors_of, sectors_of}
-use Rattle.cfb_chain.proofs.Blocks.{length_block, length_joined}
-use Rattle.cfb_chain.proofs.Chains.{chain_room}
+use Rattle.chain_model.specs.Chain.{IsChainOf, Store}
+use Rattle.chain_model.specs.Fat.{mini_sectors_of, sectors_of}
+use Rattle.chain_model.proofs.Blocks.{length_block, length_joined}
+use Rattle.chain_model.proofs.Chains.{chain_room}
 use Rattle.cfb_names.specs.Names.{key, key_cmp}
 use Rattle.cfb_directory.specs.Entries.{AreLinked, IsNamed, child, class_of, entry_at, first_of, kind, name_of, size_of, state_of}
 use Rattle.storage_tree.specs.Tree.{Tree, Children, tree, none, stream, storage}

@@ -3,9 +3,9 @@ use Rattle.std.proofs.Common.{◌≡◌, ◌*◌, ℕ, zero, suc, List, [], ◌�
 use Rattle.std.proofs.lemmas.Cmp.{nat_list_cmp_total}
 use Rattle.std.specs.List.{All, Contains}
 use Rattle.cfb_header.specs.Bytes.{joined, sector}
-use Rattle.cfb_chain.specs.Chain.{Store, IsPresent, IsChain, IsChainOf, Leads, END_OF_CHAIN}
+use Rattle.chain_model.specs.Chain.{Store, IsPresent, IsChain, IsChainOf, Leads, END_OF_CHAIN}
 use Rattle.cfb_header.specs.Header.{first_directory, first_mini_fat, mini_fat_count}
-use Rattle.cfb_chain.specs.Fat.{sectors_of}
+use Rattle.chain_model.specs.Fat.{sectors_of}
 use Rattle.cfb_names.specs.Names.{key, key_cmp}
 use Rattle.cfb_directory.specs.Entries.{AreLinked, nobody, around, entry_at, left, right, first_of, size_of, child, name_of}
 use Rattle.storage_tree.specs.Tree.{Tree, Children, tree, none, stream, storage}

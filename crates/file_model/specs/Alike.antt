@@ -2,8 +2,8 @@
 use Rattle.std.specs.Prelude.{◌≡◌, ◌*◌, ℕ, List, length, take}
 use Rattle.std.specs.List.{All}
 use Rattle.cfb_header.specs.Bytes.{sector}
-use Rattle.cfb_chain.specs.Chain.{IsChain, IsChainOf}
-use Rattle.cfb_chain.specs.Fat.{sectors_of}
+use Rattle.chain_model.specs.Chain.{IsChain, IsChainOf}
+use Rattle.chain_model.specs.Fat.{sectors_of}
 use Rattle.cfb_header.specs.Header.{IsHeader, difat, first_directory, first_mini_fat, listed, mini_fat_count}
 
 -- the same bytes in some sectors

@@ -3,9 +3,9 @@ use Rattle.std.specs.Prelude.{◌≡◌, ◌↔◌, ◌*◌, ℕ, List, [], ◌�
 use Rattle.std.specs.List.{Contains}
 use Rattle.std.specs.List.Sorted.{IsStrictlySortedBy}
 use Rattle.cfb_header.specs.Bytes.{sector, joined}
-use Rattle.cfb_chain.specs.Chain.{Store, IsChain, IsChainOf, AreDistinct}
+use Rattle.chain_model.specs.Chain.{Store, IsChain, IsChainOf, AreDistinct}
 use Rattle.cfb_header.specs.Header.{IsHeader, difat, header_of, listed, first_directory, first_mini_fat, mini_fat_count}
-use Rattle.cfb_chain.specs.Fat.{IsFat, sectors_of, mini_sectors_of}
+use Rattle.chain_model.specs.Fat.{IsFat, sectors_of, mini_sectors_of}
 use Rattle.cfb_names.specs.Names.{key, key_cmp}
 use Rattle.cfb_directory.specs.Entries.{entry_at, kind, child, class_of, state_of, first_of, size_of, name_of, IsNamed, AreLinked}
 use Rattle.storage_tree.specs.Tree.{Tree, Children, tree, none, stream, storage}

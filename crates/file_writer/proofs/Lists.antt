@@ -6,7 +6,7 @@ use Rattle.std.proofs.lemmas.List.Concat.{flat_map-append}
 use Rattle.std.proofs.lemmas.List.FromFn.{length-range_with_len}
 use Rattle.std.specs.Int.{w32, to_le_bytes}
 use Rattle.std.specs.List.{range_with_len}
-use Rattle.cfb_chain.specs.Chain.{END_OF_CHAIN, FREE_SECTOR}
+use Rattle.chain_model.specs.Chain.{END_OF_CHAIN, FREE_SECTOR}
 use Rattle.file_layout.specs.Image.{difat_numbers, names, start}
 use Rattle.file_layout.proofs.Tables.{numbers_bytes, range-append}
 

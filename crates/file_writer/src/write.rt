@@ -22,8 +22,8 @@ use crate::entries::{Counts, chain_start, count_below, push_directory};
 use crate::streams::{
     count_minis, count_sectors, push_long, push_mini_counts, push_mini_stream, push_sector_counts,
 };
-use cfb_chain::fat::FREE_SECTOR;
 use cfb_header::header::{END_OF_CHAIN, Header, LISTED, NAMED};
+use chain_model::sector::FREE_SECTOR;
 use file_model::fault::WriteFault;
 use file_model::limit::{MANY, MOST_FAT_SECTORS};
 use file_model::need::fat_sectors;

@@ -7,7 +7,7 @@ use Rattle.std.proofs.lemmas.List.FromFn.{length-range_with_len}
 use Rattle.std.specs.List.{concat, sum}
 use Rattle.std.specs.Prelude.{if◌then◌else◌}
 use Rattle.cfb_header.specs.Header.{header_bytes}
-use Rattle.cfb_chain.proofs.Blocks.{length_block}
+use Rattle.chain_model.proofs.Blocks.{length_block}
 use Rattle.cfb_header.proofs.Written.{length_written}
 use Rattle.cfb_directory.specs.Entries.{class_of, root_name}
 use Rattle.cfb_directory.specs.Written.{entry_bytes, free_entry_bytes}

@@ -1,6 +1,6 @@
 use Rattle.std.proofs.Common.{◌≡◌, ◌-◌, ◌++◌, ◌∷◌, [], arith, replicate, rules}
 use Rattle.std.specs.List.{range_with_len}
-use Rattle.cfb_chain.specs.Chain.{FREE_SECTOR}
+use Rattle.chain_model.specs.Chain.{FREE_SECTOR}
 use Rattle.file_writer.proofs.Lists.{names_pushed}
 use Rattle.file_writer.proofs.write.difat_sector.Goals as goal
 

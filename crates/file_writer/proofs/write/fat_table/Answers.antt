@@ -2,7 +2,7 @@ use Rattle.std.proofs.Common.{arith, rules, ap, length, replicate, length-append
 use Rattle.std.specs.List.{sum}
 use Rattle.std.specs.Vec.{vec_len}
 use Rattle.storage_tree.specs.View.{view}
-use Rattle.cfb_chain.specs.Chain.{DIFAT_SECTOR, FAT_SECTOR}
+use Rattle.chain_model.specs.Chain.{DIFAT_SECTOR, FAT_SECTOR}
 use Rattle.file_layout.specs.Directory.{balanced, parts_of}
 use Rattle.file_layout.specs.Image.{behind_fat, counts, own_entries, runs}
 use Rattle.file_layout.proofs.Contents.{counts-sum}

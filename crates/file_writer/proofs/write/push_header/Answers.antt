@@ -1,7 +1,7 @@
 use Rattle.std.proofs.Common.{◌≡◌, ◌∙◌, ◌+◌, ◌++◌, inl, inr, List, ℕ, arith, rules, ap, length, get_or, min, take}
 use Rattle.std.proofs.lemmas.List.FromFn.{length-range_with_len}
 use Rattle.std.specs.List.{range_with_len}
-use Rattle.cfb_chain.specs.Chain.{END_OF_CHAIN}
+use Rattle.chain_model.specs.Chain.{END_OF_CHAIN}
 use Rattle.cfb_header.specs.Header.{header_bytes}
 use Rattle.file_layout.specs.Image.{start}
 use Rattle.file_writer.proofs.Lists.{first_is, first_listed}

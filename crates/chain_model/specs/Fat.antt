@@ -2,7 +2,7 @@
 use Rattle.std.specs.Prelude.{◌≡◌, ◌≢◌, ◌≤◌, ◌<◌, ◌+◌, ◌-◌, ◌*◌, ◌/◌, ℕ, zero, suc, Bool, true, false, cond, nat_lt, take, ◌⊎◌, List, [], ◌∷◌, ◌++◌, length, min, replicate, slice_index, slice_index_or}
 use Rattle.std.specs.List.{All, Contains}
 use Rattle.cfb_header.specs.Bytes.{u32_at, block, sector, joined}
-use Rattle.cfb_chain.specs.Chain.{Store, Leads, IsPresent, IsChain, IsChainOf, AreDistinct, END_OF_CHAIN}
+use Rattle.chain_model.specs.Chain.{Store, Leads, IsPresent, IsChain, IsChainOf, AreDistinct, END_OF_CHAIN}
 pub use Rattle.cfb_bytes.specs.Marks.{set_all}
 use Rattle.cfb_header.specs.Header.{HeaderValue, difat_by, fat_by}
 use Rattle.cfb_header.specs.declared.fault.ChainFault.{ChainFault}

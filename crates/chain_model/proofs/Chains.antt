@@ -6,12 +6,12 @@ use Rattle.std.proofs.lemmas.Map.Views.{Contains-from_any}
 use Rattle.std.proofs.lemmas.Map.Steps.{length-le_from_distinct_below}
 use Rattle.std.proofs.lemmas.Bool.{cases_Bool, eqb-true}
 use Rattle.cfb_header.specs.Bytes.{joined}
-use Rattle.cfb_chain.specs.Chain.{AreDistinct, END_OF_CHAIN, IsChain, IsChainOf, IsPresent, Leads, Store}
+use Rattle.chain_model.specs.Chain.{AreDistinct, END_OF_CHAIN, IsChain, IsChainOf, IsPresent, Leads, Store}
 use Rattle.cfb_header.specs.Header.{HeaderValue, difat_by, fat_by}
-use Rattle.cfb_chain.specs.Fat.{AreFree, AreSame, FatValue, IsFat, IsFound, IsFree, IsFreeChain, MayRefuse, MayRefuseChain, MayRefuseFat, sectors_of, store_of}
+use Rattle.chain_model.specs.Fat.{AreFree, AreSame, FatValue, IsFat, IsFound, IsFree, IsFreeChain, MayRefuse, MayRefuseChain, MayRefuseFat, sectors_of, store_of}
 use Rattle.cfb_header.specs.declared.fault.ChainFault.{ChainFault}
 use Rattle.cfb_header.specs.declared.fault.ChainFault.TheVariants.{Truncated, BadSignature, Unsupported, OutOfFile, Cycle, CrossLinked, ShortChain, TooBig, NoMemory}
-use Rattle.cfb_chain.proofs.Marks.{distinct_apart, distinct_cons}
+use Rattle.chain_model.proofs.Marks.{distinct_apart, distinct_cons}
 
 pub same_back : {s t : Store} → AreSame s t → AreSame t s
 same_back {s} {t} h = record {

@@ -9,11 +9,11 @@ use Rattle.std.proofs.lemmas.Map.Steps.{length-le_from_distinct_below}
 use Rattle.std.proofs.lemmas.Map.Views.{Contains-from_any}
 use Rattle.std.specs.List.{All}
 use Rattle.cfb_header.specs.Bytes.{joined}
-use Rattle.cfb_chain.specs.Chain.{AreDistinct, END_OF_CHAIN, IsChain, Leads}
-use Rattle.cfb_chain.specs.Fat.{FatValue, IsFound, IsFreeChain, followed, held, set_all, store_of}
-use Rattle.cfb_chain.proofs.Chains.{chain_one, chain_room, distinct_chain}
-use Rattle.cfb_chain.proofs.Blocks.{length_block, length_joined}
-use Rattle.cfb_chain.proofs.Marks.{set_all-append}
+use Rattle.chain_model.specs.Chain.{AreDistinct, END_OF_CHAIN, IsChain, Leads}
+use Rattle.chain_model.specs.Fat.{FatValue, IsFound, IsFreeChain, followed, held, set_all, store_of}
+use Rattle.chain_model.proofs.Chains.{chain_one, chain_room, distinct_chain}
+use Rattle.chain_model.proofs.Blocks.{length_block, length_joined}
+use Rattle.chain_model.proofs.Marks.{set_all-append}
 
 goes : (a b : ℕ) → a < b → nat_lt a b ≡ true
 goes a b h = grind (arith, nat_tests)

@@ -9,8 +9,8 @@ use Rattle.std.proofs.lemmas.Grind.{get_or-set_at}
 use Rattle.std.proofs.lemmas.List.Kept.{AllPairs-cons}
 use Rattle.std.proofs.lemmas.List.Elements.{All-cons, All-head, All-tail, All-append, All-contains, All-contains_itself, All-weaker, Contains-append_left, Contains-append_right}
 use Rattle.std.specs.List.{All, Contains}
-use Rattle.cfb_chain.specs.Chain.{AreDistinct, IsPresent}
-use Rattle.cfb_chain.specs.Fat.{AreFree, FatValue, IsFree, IsTableOf, marked, sectors_of, set_all}
+use Rattle.chain_model.specs.Chain.{AreDistinct, IsPresent}
+use Rattle.chain_model.specs.Fat.{AreFree, FatValue, IsFree, IsTableOf, marked, sectors_of, set_all}
 use Rattle.cfb_header.specs.Header.{HeaderValue, difat_by, fat_by}
 
 -- numbers of which no two are equal

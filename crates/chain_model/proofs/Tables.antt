@@ -6,13 +6,13 @@ use Rattle.std.proofs.lemmas.List.Elements.{All-weaker, Contains-append_left}
 use Rattle.std.proofs.lemmas.List.FromFn.{length-map-range_with_len}
 use Rattle.std.specs.List.{All, Contains, flat_map}
 use Rattle.cfb_header.specs.Bytes.{block, joined, sector, u32_at}
-use Rattle.cfb_chain.specs.Chain.{AreDistinct, IsPresent}
+use Rattle.chain_model.specs.Chain.{AreDistinct, IsPresent}
 use Rattle.cfb_header.specs.Header.{HeaderValue, MOST_FAT_SECTORS, NAMED, difat_by, difat_from, fat_by, named_in}
 use Rattle.std.proofs.lemmas.List.Concat.{flat_map-append}
-use Rattle.cfb_chain.proofs.Blocks.{length_joined}
+use Rattle.chain_model.proofs.Blocks.{length_joined}
 use Rattle.cfb_header.proofs.Headers.{take_by_index}
-use Rattle.cfb_chain.specs.Fat.{AreSame, IsMiniTable, mini_sectors_of, store_of, AreFree, FatValue, IsTableOf, MayRefuseFat, marked, sectors_in, sectors_of, set_all}
-use Rattle.cfb_chain.proofs.Chains.{joined_same}
+use Rattle.chain_model.specs.Fat.{AreSame, IsMiniTable, mini_sectors_of, store_of, AreFree, FatValue, IsTableOf, MayRefuseFat, marked, sectors_in, sectors_of, set_all}
+use Rattle.chain_model.proofs.Chains.{joined_same}
 use Rattle.cfb_header.specs.declared.fault.ChainFault.TheVariants.{OutOfFile, CrossLinked}
 
 -- a table over a file

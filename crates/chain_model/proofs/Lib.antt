@@ -1,0 +1,7 @@
+pub mod Marks
+pub mod Chains
+pub mod Blocks
+pub mod Results
+pub mod Tables
+pub mod Followed
+pub mod Runs
