@@ -1,0 +1,6 @@
+pub mod Described
+pub mod Outlines
+pub mod Totals
+pub mod Room
+pub mod Built
+pub mod Streams
