@@ -4,3 +4,4 @@ pub mod Totals
 pub mod Room
 pub mod Built
 pub mod Streams
+pub mod Filed

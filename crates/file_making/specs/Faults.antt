@@ -4,8 +4,12 @@ use Rattle.cfb_names.specs.Faults.{name_of_fault}
 use Rattle.storage_tree.specs.FaultNames.{fault_name}
 use Rattle.storage_tree.specs.declared.fault.TreeFault.{TreeFault}
 use Rattle.storage_tree.specs.declared.fault.TreeFault.TheVariants as tree
+use Rattle.file_writer.specs.declared.sending.SendFault.{SendFault}
+use Rattle.file_writer.specs.declared.sending.SendFault.TheVariants as send
 use Rattle.file_making.specs.declared.fault.LineFault.{LineFault}
 use Rattle.file_making.specs.declared.fault.LineFault.TheVariants.{Bad, Name, Tree, NoMemory}
+use Rattle.file_making.specs.declared.fault.MakeFault.{MakeFault}
+use Rattle.file_making.specs.declared.fault.MakeFault.TheVariants as make
 use Rattle.texts.specs.declared.lines.SyntaxFault.{SyntaxFault}
 use Rattle.texts.specs.declared.lines.SyntaxFault.TheVariants as syntax_fault
 
@@ -22,3 +26,8 @@ line_fault_name Bad = codes "Bad"
 line_fault_name (Name fault) = name_of_fault fault
 line_fault_name (Tree fault) = fault_name fault
 line_fault_name NoMemory = codes "NoMemory"
+
+-- a fault of a described tree that is written
+abbrev pub of_send_fault : SendFault → MakeFault
+of_send_fault (send.Write fault) = make.Write fault
+of_send_fault send.Unwritable = make.Unwritable
