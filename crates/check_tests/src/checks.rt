@@ -7,7 +7,7 @@ use fault_places::place::{FaultPlace, Link};
 use fault_places::ways::end_of;
 use fault_texts::telling::Form;
 use file_checks::checking::{check_file, check_source};
-use file_commands::commands::make_file;
+use file_making::making::make_file;
 use std::alloc::Global;
 use std::process::Abort;
 

@@ -1,9 +1,3 @@
-pub mod Described
-pub mod Outlines
-pub mod Totals
-pub mod Room
-pub mod Built
-pub mod Streams
 pub mod Pushed
 pub mod ReadRefused
 pub mod Listed

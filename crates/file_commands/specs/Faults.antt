@@ -1,33 +1,10 @@
--- The faults of lines, and their names.
-use Rattle.std.specs.Prelude.{ℕ, List, codes}
-use Rattle.cfb_names.specs.Faults.{name_of_fault}
-use Rattle.storage_tree.specs.FaultNames.{fault_name}
-use Rattle.storage_tree.specs.declared.fault.TreeFault.{TreeFault}
-use Rattle.storage_tree.specs.declared.fault.TreeFault.TheVariants as tree
-use Rattle.file_commands.specs.declared.fault.LineFault.{LineFault}
-use Rattle.file_commands.specs.declared.fault.LineFault.TheVariants.{Bad, Name, Tree, NoMemory}
-use Rattle.texts.specs.declared.lines.SyntaxFault.{SyntaxFault}
-use Rattle.texts.specs.declared.lines.SyntaxFault.TheVariants as syntax_fault
+-- Faults that are told of a listing.
 use Rattle.texts.specs.declared.input.InputFault.TheVariants as input
 use Rattle.file_places.specs.declared.fault.PlacesFault.{PlacesFault}
 use Rattle.file_places.specs.declared.fault.PlacesFault.TheVariants as places
 use Rattle.stream_io.specs.Reads.{chain_fault}
 use Rattle.file_commands.specs.declared.fault.ListFault.{ListFault}
 use Rattle.file_commands.specs.declared.fault.ListFault.TheVariants as list
-
-abbrev pub of_tree_fault : TreeFault → LineFault
-of_tree_fault tree.NoMemory = NoMemory
-of_tree_fault fault = Tree fault
-
-abbrev pub of_syntax_fault : SyntaxFault → LineFault
-of_syntax_fault syntax_fault.Bad = Bad
-of_syntax_fault syntax_fault.NoMemory = NoMemory
-
-abbrev pub line_fault_name : LineFault → List ℕ
-line_fault_name Bad = codes "Bad"
-line_fault_name (Name fault) = name_of_fault fault
-line_fault_name (Tree fault) = fault_name fault
-line_fault_name NoMemory = codes "NoMemory"
 
 -- a fault of a file of which only some blocks are read
 abbrev pub of_places_fault : PlacesFault → ListFault

@@ -1,8 +1,4 @@
-pub mod Commands
 pub mod Faults
-pub mod Outline
-pub mod Description
-pub mod Building
 pub mod Listing
 pub mod Run
 pub mod Getting

@@ -1,38 +1,13 @@
--- What the commands answer, given the bytes of their readers and writers.
-use Rattle.std.specs.Prelude.{◌≡◌, ℕ, List, Option, Ok, length}
+-- What the listing of a file answers, given the bytes of its reader and its writer.
+use Rattle.std.specs.Prelude.{ℕ, List, Option}
 use Rattle.std.specs.Io.KnownBytes.{Appends}
 use Rattle.storage_tree.specs.Tree.{Tree}
-use Rattle.storage_tree.specs.Kept.{Kept}
 use Rattle.file_model.specs.Denotes.{Denotes}
-use Rattle.file_model.specs.Refusals.{writable, Refuses}
 use Rattle.stream_io.specs.Reads.{MayRefuseRead}
 use Rattle.texts.specs.Input.{MayRefuseInput}
-use Rattle.file_commands.specs.Description.{described, RefusesDescription}
 use Rattle.file_commands.specs.Listing.{listing}
-use Rattle.file_commands.specs.declared.fault.MakeFault.{MakeFault}
-use Rattle.file_commands.specs.declared.fault.MakeFault.TheVariants as make
 use Rattle.file_commands.specs.declared.fault.ListFault.{ListFault}
 use Rattle.file_commands.specs.declared.fault.ListFault.TheVariants as list
-
--- the file denotes the tree that the text describes
-pub record IsMade (text file : List ℕ) : Type 0 where
-  pub k : Kept
-  pub describes : described text ≡ Ok k
-  pub denotes : ∥ Denotes file k.now ∥₁
-
--- such a file was written, of so many bytes
-pub record Makes (text : List ℕ) (old new : Option (List ℕ)) (count : ℕ) : Type 0 where
-  pub file : List ℕ
-  pub made : IsMade text file
-  pub written : Appends old new file
-  pub counted : count ≡ length file
-
--- when a text may be refused as a description
-abbrev pub MayRefuseMake : List ℕ → MakeFault → Type 0
-MayRefuseMake text (make.Input fault) = MayRefuseInput text fault
-MayRefuseMake text (make.Line n fault) = RefusesDescription text (n, fault)
-MayRefuseMake text (make.Write fault) = (k : Kept) × (described text ≡ Ok k) × Refuses (writable k.now) fault
-MayRefuseMake text make.Unwritable = (file : List ℕ) × IsMade text file
 
 -- the listing of the tree that the bytes denote was written
 pub record Lists (file : List ℕ) (old new : Option (List ℕ)) : Type 0 where

@@ -2,9 +2,9 @@
 
 use cfb_names::name::Name;
 use file_cleaning::cleaning::clean_source;
-use file_commands::commands::make_file;
 use file_commands::fault::{CleanFault, GetFault};
 use file_listings::getting::get_source;
+use file_making::making::make_file;
 use file_places::source::Source;
 use std::alloc::Global;
 use std::io::{self, ErrorKind};

@@ -1,7 +1,7 @@
 //! Files made into folders, and folders into files.
 
 use crate::memory::Memory;
-use file_commands::commands::make_file;
+use file_making::making::make_file;
 use folder_commands::extracting::extract_file;
 use folder_commands::fault::ExtractFault;
 use folder_packing::packing::pack_found;

@@ -11,11 +11,12 @@ use Rattle.texts.specs.Paths.{path_read}
 use Rattle.file_commands.specs.Cleaning.{MayRefuseClean}
 use Rattle.file_commands.specs.Getting.{MayRefuseGet}
 use Rattle.file_commands.specs.Listing.{listing}
-use Rattle.file_commands.specs.Run.{IsMade, MayRefuseList, MayRefuseMake}
+use Rattle.file_commands.specs.Run.{MayRefuseList}
+use Rattle.file_making.specs.Run.{IsMade, MayRefuseMake}
 use Rattle.file_commands.specs.declared.fault.CleanFault.{CleanFault}
 use Rattle.file_commands.specs.declared.fault.GetFault.{GetFault}
 use Rattle.file_commands.specs.declared.fault.ListFault.{ListFault}
-use Rattle.file_commands.specs.declared.fault.MakeFault.{MakeFault}
+use Rattle.file_making.specs.declared.fault.MakeFault.{MakeFault}
 use Rattle.library_calls.specs.Numbers.{clean_number, directory_number, get_number, list_number, make_number}
 
 -- the listing, in the form that `told` is, of an outline of the tree that the file denotes, which tells of each stream where its

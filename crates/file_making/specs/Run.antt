@@ -1,0 +1,30 @@
+-- What the making of a file answers, given the bytes of its reader and its writer.
+use Rattle.std.specs.Prelude.{◌≡◌, ℕ, List, Option, Ok, length}
+use Rattle.std.specs.Io.KnownBytes.{Appends}
+use Rattle.storage_tree.specs.Kept.{Kept}
+use Rattle.file_model.specs.Denotes.{Denotes}
+use Rattle.file_model.specs.Refusals.{writable, Refuses}
+use Rattle.texts.specs.Input.{MayRefuseInput}
+use Rattle.file_making.specs.Description.{described, RefusesDescription}
+use Rattle.file_making.specs.declared.fault.MakeFault.{MakeFault}
+use Rattle.file_making.specs.declared.fault.MakeFault.TheVariants as make
+
+-- the file denotes the tree that the text describes
+pub record IsMade (text file : List ℕ) : Type 0 where
+  pub k : Kept
+  pub describes : described text ≡ Ok k
+  pub denotes : ∥ Denotes file k.now ∥₁
+
+-- such a file was written, of so many bytes
+pub record Makes (text : List ℕ) (old new : Option (List ℕ)) (count : ℕ) : Type 0 where
+  pub file : List ℕ
+  pub made : IsMade text file
+  pub written : Appends old new file
+  pub counted : count ≡ length file
+
+-- when a text may be refused as a description
+abbrev pub MayRefuseMake : List ℕ → MakeFault → Type 0
+MayRefuseMake text (make.Input fault) = MayRefuseInput text fault
+MayRefuseMake text (make.Line n fault) = RefusesDescription text (n, fault)
+MayRefuseMake text (make.Write fault) = (k : Kept) × (described text ≡ Ok k) × Refuses (writable k.now) fault
+MayRefuseMake text make.Unwritable = (file : List ℕ) × IsMade text file

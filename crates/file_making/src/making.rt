@@ -1,0 +1,72 @@
+//! Making a compound file over readers and writers.
+
+ghost use Rattle.file_making.specs.Description.{described};
+ghost use Rattle.file_making.specs.Faults.{of_send_fault};
+ghost use Rattle.file_making.specs.Run.{Makes, MayRefuseMake};
+ghost use Rattle.std.specs.Prelude.{◌≡◌, ◌≢◌, ◌≤◌, Ok, length, IfErr, IfOk, IfSome};
+ghost use Rattle.storage_tree.specs.Kept.{kept};
+ghost use Rattle.texts.specs.Input.{most};
+
+use crate::building::Described;
+use crate::description::describe;
+use crate::fault::MakeFault;
+use file_model::fault::WriteFault;
+use file_writer::sending::{SendFault, send_file};
+use std::alloc::Global;
+use std::io::{Read, Write};
+use storage_tree::tree::Tree;
+use texts::input::read_all;
+
+/// A fault of a described tree that is written.
+fn of_sending(fault: SendFault) -> MakeFault
+    ensures { result ≡ of_send_fault fault }
+{
+    match fault {
+        SendFault::Write(fault) => MakeFault::Write(fault),
+        SendFault::Unwritable => MakeFault::Unwritable,
+    }
+}
+
+/// Writes the compound file of the tree that a description describes, and gives its length.
+///
+/// Refused: an input that isn't read or has more than 134,217,728 bytes; the first line of the description that is
+/// outside the grammar, or else the first that can't be carried out; a tree that doesn't fit into a file. Nothing is
+/// written then. `Unwritable` where a write fails. The file is never held whole: a long stream is written from where the
+/// tree has it.
+pub fn make_file<R: Read, W: Write>(
+    alloc: Global,
+    reader: &mut R,
+    writer: &mut W,
+) -> Result<usize, MakeFault>
+    ensures made { IfOk result (λ count. IfSome (R.remaining reader.old) (λ text. Makes text (W.contents writer.old) (W.contents writer.new) count)) }
+    ensures refused { IfErr result (λ fault. IfSome (R.remaining reader.old) (λ text. MayRefuseMake text fault)) }
+    ensures unwritten { IfErr result (λ fault. fault ≢ MakeFault.Unwritable → writer.new ≡ writer.old) }
+{
+    let text = match read_all(alloc, reader) {
+        Ok(text) => text,
+        Err(fault) => return Err(MakeFault::Input(fault)),
+    };
+    let tree = described_tree(alloc, &text)?;
+    // Its memory serves the file.
+    drop(text);
+    match send_file(alloc, tree.root(), writer) {
+        Ok(count) => Ok(count),
+        Err(fault) => Err(of_sending(fault)),
+    }
+}
+
+/// The tree that a description describes.
+///
+/// Refused: as `make_file`, and also where its streams have more bytes than a file.
+#[tactic(auto, using(crate::proofs::Room::too_large))]
+fn described_tree(alloc: Global, text: &[u8]) -> Result<Tree, MakeFault>
+    requires { length text.now ≤ most }
+    ensures made { IfOk result (λ tree. described text.now ≡ Ok (kept tree)) }
+    ensures refused { IfErr result (MayRefuseMake text.now) }
+{
+    match describe(alloc, text) {
+        Ok(Described::Whole(tree)) => Ok(tree),
+        Ok(Described::Outline(_)) => Err(MakeFault::Write(WriteFault::TooBig)),
+        Err((number, fault)) => Err(MakeFault::Line(number, fault)),
+    }
+}
