@@ -1,8 +1,10 @@
 pub mod Fields
+pub mod Numbers
 pub mod Linked
 pub mod Marks
 pub mod Walk
 pub mod Reading
+pub mod Kept
 pub mod Marked
 pub mod Trees
 pub mod Built

@@ -1,7 +1,10 @@
 //! Numbers in the bytes of an entry.
 
 ghost use Rattle.cfb_directory.specs.Entries.{entry_at};
-ghost use Rattle.std.specs.Prelude.{◌≡◌, ◌≤◌, ◌<◌, ◌+◌, ◌-◌, ◌*◌, ◌++◌, length, replicate};
+ghost use Rattle.cfb_bytes.specs.Bytes.{u32_at};
+ghost use Rattle.std.specs.Prelude.{◌≡◌, ◌≤◌, ◌<◌, ◌+◌, ◌-◌, ◌*◌, ◌++◌, length, replicate, IfSome};
+
+use cfb_bytes::numbers::read_u32;
 
 /// How many bytes an entry has.
 pub const ENTRY_LEN: usize = 128;
@@ -29,4 +32,30 @@ pub(crate) fn entry_bytes(directory: &[u8], id: u32) -> [u8; 128]
         Some(whole) => *whole,
         None => padded(part),
     }
+}
+
+/// The bytes of an entry where they stand, if all of them are in the directory.
+#[tactic(auto, unfolding(cfb_bytes::specs::Bytes::block))]
+pub(crate) fn whole_entry(directory: &[u8], id: u32) -> Option<&[u8; 128]>
+    ensures { IfSome result (λ entry. entry.now ≡ entry_at directory.now id) }
+{
+    let start = ENTRY_LEN * id as usize;
+    let end = start + ENTRY_LEN;
+    if end > directory.len() {
+        return None;
+    }
+    directory[start..end].as_array::<ENTRY_LEN>()
+}
+
+/// The number in four bytes of an entry.
+pub(crate) fn entry_u32(directory: &[u8], id: u32, at: usize) -> u32
+    requires there { 128 * id < length directory.now }
+    requires within { at + 4 ≤ 128 }
+    ensures { result ≡ u32_at (entry_at directory.now id) at }
+{
+    let place = ENTRY_LEN * id as usize + at;
+    if place + 4 <= directory.len() {
+        return read_u32(directory, place);
+    }
+    read_u32(&entry_bytes(directory, id), at)
 }

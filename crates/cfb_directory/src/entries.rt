@@ -8,10 +8,10 @@ ghost use Rattle.cfb_names.specs.declared.fault.DirFault.TheVariants.{BadEntry, 
 ghost use Rattle.std.specs.List.{All};
 ghost use Rattle.std.specs.Prelude.{◌≡◌, ◌<◌, ◌≤◌, ◌*◌, ◌/◌, ◌∷◌, ◌++◌, [], false, replicate, length, vec_capacity, vec_len, IfErr, IfOk, OnErr, OnOk};
 
-use crate::bytes::{ENTRY_LEN, entry_bytes};
+use crate::bytes::{ENTRY_LEN, entry_bytes, entry_u32, whole_entry};
 use cfb_bytes::numbers::{read_u16, read_u32};
 use cfb_names::fault::DirFault;
-use cfb_names::name::{LONGEST, Name};
+use cfb_names::name::{Name, is_forbidden};
 use std::alloc::Global;
 use std::marker::Model;
 
@@ -93,16 +93,22 @@ fn read_name(entry: &[u8; 128]) -> Result<Name, DirFault>
     if len % 2 != 0 {
         return Err(DirFault::BadEntry);
     }
-    let mut units = [0; LONGEST];
     let count = len as usize / 2 - 1;
+    let mut units = [0; 32];
+    units[0] = count as u8;
+    let mut plain = true;
     for k in 0..count {
         let unit = read_u16(entry, 2 * k);
         if unit > 127 {
             return Err(DirFault::NameNotAscii);
         }
-        units[k] = unit as u8;
+        units[k + 1] = unit as u8;
+        plain = plain & !is_forbidden(unit as u8);
     }
-    Name::new(&units[..count])
+    if plain {
+        return Ok(Name::from_units(units));
+    }
+    Name::new(&units[1..=count])
 }
 
 /// Adds an entry to a list that has room for it.
@@ -151,12 +157,25 @@ impl<'a> Table<'a> {
         if self.directory.len() <= ENTRY_LEN * id as usize {
             return Err(DirFault::BadEntry);
         }
-        let entry = entry_bytes(self.directory, id);
+        match whole_entry(self.directory, id) {
+            Some(entry) => self.read(id, entry),
+            None => self.read(id, &entry_bytes(self.directory, id)),
+        }
+    }
+
+    /// What an entry says that has these bytes.
+    fn read(&self, id: u32, entry: &[u8; 128]) -> Result<Entry, DirFault>
+        requires there { 128 * id < length self.now.directory }
+        requires bytes { entry.now ≡ entry_at self.now.directory id }
+        ensures read { IfOk result (IsEntry self.now.directory id) }
+        ensures valid { IfOk result (λ e. IsName e.name) }
+        ensures refused { IfErr result (MayRefuseEntry self.now.directory id) }
+    {
         let kind = kind_of(id, entry[66])?;
         let name = if id == 0 {
             Name::root()
         } else {
-            match read_name(&entry) {
+            match read_name(entry) {
                 Ok(name) => name,
                 Err(fault) => return Err(fault),
             }
@@ -164,11 +183,11 @@ impl<'a> Table<'a> {
         Ok(Entry {
             name,
             kind,
-            class: class_of(&entry),
-            state: read_u32(&entry, 96),
-            child: read_u32(&entry, 76),
-            first: read_u32(&entry, 116),
-            size: read_u32(&entry, 120),
+            class: class_of(entry),
+            state: read_u32(entry, 96),
+            child: read_u32(entry, 76),
+            first: read_u32(entry, 116),
+            size: read_u32(entry, 120),
         })
     }
 
@@ -228,7 +247,7 @@ impl<'a> Table<'a> {
         if self.directory.len() <= ENTRY_LEN * id as usize {
             return Err(DirFault::BadEntry);
         }
-        Ok(read_u32(&entry_bytes(self.directory, id), 76))
+        Ok(entry_u32(self.directory, id, 76))
     }
 
     /// The left and right link of an entry.
@@ -237,8 +256,10 @@ impl<'a> Table<'a> {
         ensures left { result.0 ≡ left (entry_at self.now.directory id) }
         ensures right { result.1 ≡ right (entry_at self.now.directory id) }
     {
-        let entry = entry_bytes(self.directory, id);
-        (read_u32(&entry, 68), read_u32(&entry, 72))
+        (
+            entry_u32(self.directory, id, 68),
+            entry_u32(self.directory, id, 72),
+        )
     }
 
     /// Refuses an entry that isn't there, or is marked.

@@ -1,7 +1,7 @@
 //! Names of directory entries (MS-CFB 2.6.1, 2.6.4).
 
 ghost use Rattle.cfb_names.specs.Names.{is_forbidden, key, name_cmp, name_read, root_name, IsName, KeysAgree};
-ghost use Rattle.cfb_names.specs.View.{units_of};
+ghost use Rattle.cfb_names.specs.View.{name_held, units_of, IsHeld};
 ghost use Rattle.std.specs.Char.{to_ascii_uppercase};
 ghost use Rattle.std.specs.List.{list_any};
 ghost use Rattle.std.specs.Prelude.{◌≡◌, ◌≤◌, length, map, nat_le};
@@ -33,7 +33,7 @@ impl Model for Name {
 }
 
 /// Whether a name can't hold a character: zero, or one of `/ \ : !`.
-fn is_forbidden(c: u8) -> bool
+pub fn is_forbidden(c: u8) -> bool
     ensures { result ≡ is_forbidden c }
 {
     c == 0 || c == b'/' || c == b'\\' || c == b':' || c == b'!'
@@ -101,6 +101,14 @@ impl Name {
         Ok(Name {
             units: spelled(bytes),
         })
+    }
+
+    /// The name that is kept so: its length, its characters, and zeros. Nothing is tested.
+    pub fn from_units(units: [u8; 32]) -> Name
+        requires { IsHeld units }
+        ensures { result ≡ name_held units }
+    {
+        Name { units }
     }
 
     /// The name of the root, `Root Entry` (MS-CFB 2.6.2).

@@ -1,9 +1,21 @@
-use Rattle.std.proofs.Common.{◌≡◌, ◌<◌, ◌≤◌, ◌-◌, ◌*◌, ◌/◌, ◌%◌, take, ◌∙◌, ap, sym, subst, IfOk, arith}
+use Rattle.std.proofs.Common.{◌≡◌, ◌<◌, ◌≤◌, ◌+◌, ◌-◌, ◌*◌, ◌/◌, ◌%◌, ℕ, List, drop, take, get_or, replicate, refl, ◌∙◌, ap, sym, subst, arith}
+use Rattle.std.proofs.lemmas.Grind.{get_or_tail}
 use Rattle.cfb_bytes.specs.Bytes.{u16_at}
-use Rattle.cfb_directory.specs.Entries.{name_length}
-use Rattle.cfb_names.specs.Names.{IsName, name_read}
-use Rattle.cfb_directory.proofs.Reading.{name_read-valid, named, unnamed, unit_contained}
+use Rattle.cfb_directory.specs.Entries.{IsNamed, name_length}
+use Rattle.cfb_names.specs.Names.{name_read}
+use Rattle.cfb_directory.proofs.Reading.{named, unnamed, unit_contained}
+use Rattle.cfb_directory.proofs.Kept.{is_held, named_so, tail_read, tail_room, zeros_at}
 use Rattle.cfb_directory.proofs.entries.read_name.Goals as goal
+
+pub loop-k-init : goal.loop-k-init
+loop-k-init c = record {
+  room = refl;
+  count = refl;
+  read = λ k lt. absurd (omega (arith, lt));
+  ascii = λ k lt. absurd (omega (arith, lt));
+  zeros = λ k le. get_or_tail (c.read_u16-len.result / 2 - 1) (replicate 31 0) (k + 1) 0 (omega arith) ∙ zeros_at 31 (k + 1 - 1);
+  allowed = λ p k lt. absurd (omega (arith, lt));
+}
 
 pub returns-then-unit-gt127-clause-refused : goal.returns-then-unit-gt127-clause-refused
 returns-then-unit-gt127-clause-refused c =
@@ -11,22 +23,48 @@ returns-then-unit-gt127-clause-refused c =
     let past : 127 < u16_at c.args.entry.now (2 * c.loop-k.k) = omega (arith, c.read_u16-unit.ensures) in
     (u16_at c.args.entry.now (2 * c.loop-k.k), unit_contained c.args.entry.now c.loop-k.k lt, past)
 
+pub from_units-requires : goal.from_units-requires
+from_units-requires c =
+    let count : ℕ = c.read_u16-len.result / 2 - 1 in
+    let few : count ≤ 31 = omega arith in
+    let some : 0 < count = omega arith in
+    is_held c.loop-k.units count c.loop-k.invariant.room few c.loop-k.invariant.count
+    (λ k le. c.loop-k.invariant.zeros k (omega (arith, le))) some
+    (λ k lt. c.loop-k.invariant.ascii k (omega (arith, lt)))
+    (λ k lt. c.loop-k.invariant.allowed c.if-plain.true k (omega (arith, lt)))
+
+pub returns-then-plain-clause-read : goal.returns-then-plain-clause-read
+returns-then-plain-clause-read c =
+    let entry : List ℕ = c.args.entry.now in
+    let is : c.read_u16-len.result ≡ name_length entry = c.read_u16-len.ensures in
+    let some : 4 ≤ name_length entry = omega arith in
+    let short : name_length entry ≤ 64 = omega arith in
+    let even : name_length entry % 2 ≡ 0 = ap (λ n. n % 2) (sym is) ∙ c.if-len-ne0.false in
+    let count : get_or c.loop-k.units 0 0 ≡ name_length entry / 2 - 1 = c.loop-k.invariant.count ∙ ap (λ n. n / 2 - 1) is in
+    subst (IsNamed entry) (sym c.from_units.ensures)
+    (named_so entry c.loop-k.units c.loop-k.invariant.room some short (λ k h. c.loop-k.invariant.read k (omega (arith, h))) count even)
+
 pub returns-clause-read : goal.returns-clause-read
 returns-clause-read c =
-    let is : c.read_u16-len.result ≡ name_length c.args.entry.now = c.read_u16-len.ensures in
-    let some : 4 ≤ name_length c.args.entry.now = omega arith in
-    let short : name_length c.args.entry.now ≤ 64 = omega arith in
-    let even : name_length c.args.entry.now % 2 ≡ 0 = ap (λ n. n % 2) (sym is) ∙ c.if-len-ne0.false in
-    named c.args.entry.now c.loop-k.units c.loop-k.invariant.room some short (λ k h. c.loop-k.invariant.read k (omega arith)) c.new.result
-    (c.new.ensures ∙ ap (λ n. name_read (take (n / 2 - 1) c.loop-k.units)) is) even
+    let entry : List ℕ = c.args.entry.now in
+    let units : List ℕ = c.loop-k.units in
+    let is : c.read_u16-len.result ≡ name_length entry = c.read_u16-len.ensures in
+    let some : 4 ≤ name_length entry = omega arith in
+    let short : name_length entry ≤ 64 = omega arith in
+    let even : name_length entry % 2 ≡ 0 = ap (λ n. n % 2) (sym is) ∙ c.if-len-ne0.false in
+    let count : c.read_u16-len.result / 2 - 1 + 1 - 1 ≡ name_length entry / 2 - 1 = omega (arith, is) in
+    named entry (drop 1 units) (tail_room entry units c.loop-k.invariant.room some short) some short
+    (tail_read entry units c.loop-k.invariant.room some short (λ k h. c.loop-k.invariant.read k (omega (arith, h)))) c.new.result
+    (c.new.ensures ∙ ap (λ n. name_read (take n (drop 1 units))) count) even
 
 pub returns-clause-refused : goal.returns-clause-refused
 returns-clause-refused c =
-    let is : c.read_u16-len.result ≡ name_length c.args.entry.now = c.read_u16-len.ensures in
-    let some : 4 ≤ name_length c.args.entry.now = omega arith in
-    let short : name_length c.args.entry.now ≤ 64 = omega arith in
-    unnamed c.args.entry.now c.loop-k.units c.loop-k.invariant.room some short (λ k h. c.loop-k.invariant.read k (omega arith)) c.new.result
-    (c.new.ensures ∙ ap (λ n. name_read (take (n / 2 - 1) c.loop-k.units)) is)
-
-pub returns-clause-valid : goal.returns-clause-valid
-returns-clause-valid c = subst (λ r. IfOk r IsName) (sym c.new.ensures) (name_read-valid (take (c.read_u16-len.result / 2 - 1) c.loop-k.units))
+    let entry : List ℕ = c.args.entry.now in
+    let units : List ℕ = c.loop-k.units in
+    let is : c.read_u16-len.result ≡ name_length entry = c.read_u16-len.ensures in
+    let some : 4 ≤ name_length entry = omega arith in
+    let short : name_length entry ≤ 64 = omega arith in
+    let count : c.read_u16-len.result / 2 - 1 + 1 - 1 ≡ name_length entry / 2 - 1 = omega (arith, is) in
+    unnamed entry (drop 1 units) (tail_room entry units c.loop-k.invariant.room some short) some short
+    (tail_read entry units c.loop-k.invariant.room some short (λ k h. c.loop-k.invariant.read k (omega (arith, h)))) c.new.result
+    (c.new.ensures ∙ ap (λ n. name_read (take n (drop 1 units))) count)
