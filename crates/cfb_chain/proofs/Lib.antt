@@ -5,3 +5,4 @@ pub mod Results
 pub mod Tables
 pub mod Followed
 pub mod Runs
+pub mod Ways
