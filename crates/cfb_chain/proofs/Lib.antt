@@ -1,3 +1,4 @@
+pub mod Ways
 pub use Rattle.chain_model.proofs.Marks
 pub use Rattle.chain_model.proofs.Chains
 pub use Rattle.chain_model.proofs.Blocks

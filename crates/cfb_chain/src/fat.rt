@@ -7,7 +7,7 @@ ghost use Rattle.cfb_chain.specs.Fat.{AreFree, FatValue, IsFat, IsFound, IsFree,
 ghost use Rattle.cfb_chain.specs.View.{bytes_of, image_bytes, start_of, width_of};
 ghost use Rattle.cfb_header.specs.declared.fault.ChainFault.TheVariants.{CrossLinked, Cycle, NoMemory, OutOfFile, ShortChain};
 ghost use Rattle.std.specs.List.{All, Contains};
-ghost use Rattle.std.specs.Prelude.{◌*◌, ◌+◌, ◌++◌, ◌<◌, ◌^◌, ◌≡◌, ◌≢◌, ◌≤◌, ◌↔◌, ◌⊎◌, IfErr, IfNone, IfOk, IfSome, IsTrue, List, OnErr, OnOk, length, slice_index, take, true, ℕ};
+ghost use Rattle.std.specs.Prelude.{◌*◌, ◌+◌, ◌++◌, ◌<◌, ◌^◌, ◌≡◌, ◌≢◌, ◌≤◌, ◌↔◌, ◌⊎◌, IfErr, IfNone, IfOk, IfSome, IsTrue, List, OnErr, OnOk, false, length, slice_index, take, true, ℕ};
 
 use crate::difat::{FatSectors, fat_sectors};
 use crate::image::{Image, join_placed};
@@ -245,12 +245,13 @@ impl<'a> Fat<'a> {
         ensures holds { OnOk result ((ns : List ℕ) → IsFound self.old start len ns → held self.old start len ≡ take len (joined (store_of self.old).piece ns)) }
         ensures kept { OnErr result (self.new ≡ self.old) }
     {
-        let count = self.room(start, len as u64)?;
         if len == 0 {
             return Ok(());
         }
-        self.mark_from(start, count);
-        Ok(())
+        if self.mark_as_met(start, len) {
+            return Ok(());
+        }
+        self.mark_counted(start, len)
     }
 
     /// The first `len` bytes of what the chain from a sector on holds, as far as it goes, whether its sectors are marked or
@@ -526,6 +527,39 @@ impl<'a> Fat<'a> {
             at = self.next.entry(n);
             self.used[n] = true;
         }
+    }
+
+    /// Marks the sectors of the chain from a sector on as it meets them, where the chain has room for `len` bytes, and tells
+    /// whether it has. Where there is no such chain, the marks are as they were.
+    fn mark_as_met(&mut self, start: u32, len: u32) -> bool
+        ensures marks { result ≡ true → (ns : List ℕ) × IsFreeChain self.old start ns × (len ≤ self.old.width * length ns) × (self.new ≡ marked self.old ns) }
+        ensures kept { result ≡ false → self.new ≡ self.old }
+        ensures few { length self.old.table ≤ 0xFFFFFFF9 }
+    {
+        let width = self.pieces.width();
+        let walk = self.next.mark_walk(start, self.used.as_mut_slice());
+        if walk.stop == END_OF_CHAIN && len as usize <= width * walk.count {
+            return true;
+        }
+        self.next.clear_walk(start, walk, self.used.as_mut_slice());
+        false
+    }
+
+    /// Marks the sectors of the chain from a sector on, which is to have room for `len` bytes, once it has counted them: where
+    /// there is no such chain, that tells what is wrong.
+    fn mark_counted(&mut self, start: u32, len: u32) -> Result<(), ChainFault>
+        requires { 0 < len }
+        ensures found { OnOk result ((ns : List ℕ) × IsFound self.old start len ns × (self.new ≡ marked self.old ns)) }
+        ensures refused { IfErr result (MayRefuse self.old start len) }
+        ensures there { (ns : List ℕ) → IsFound self.old start len ns → IfErr result (λ e. e ≡ NoMemory) }
+        ensures told { IfErr result (λ e. e ≢ NoMemory) }
+        ensures long { OnOk result (length (held self.old start len) ≡ len) }
+        ensures holds { OnOk result ((ns : List ℕ) → IsFound self.old start len ns → held self.old start len ≡ take len (joined (store_of self.old).piece ns)) }
+        ensures kept { OnErr result (self.new ≡ self.old) }
+    {
+        let count = self.room(start, len as u64)?;
+        self.mark_from(start, count);
+        Ok(())
     }
 
     /// Takes back marks.

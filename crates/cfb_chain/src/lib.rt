@@ -7,3 +7,4 @@ pub mod image;
 pub mod links;
 mod sectors;
 pub mod table;
+mod walks;

@@ -3,10 +3,12 @@
 ghost use Rattle.cfb_header.specs.Bytes.{joined, sector, u32_at};
 ghost use Rattle.cfb_chain.specs.View.{image_bytes};
 ghost use Rattle.cfb_chain.specs.Fat.{sectors_in};
-ghost use Rattle.std.specs.Prelude.{◌*◌, ◌<◌, ◌≤◌, ◌^◌, ◌≡◌, IfOk, length, min, slice_index, ℕ};
+ghost use Rattle.cfb_chain.specs.Walks.{IsWalk};
+ghost use Rattle.std.specs.Prelude.{◌*◌, ◌<◌, ◌≤◌, ◌^◌, ◌≡◌, Bool, IfOk, List, length, min, slice_index, ℕ};
 
 use crate::image::Image;
 use crate::table::{count_entries, table_in};
+use crate::walks::{Walk, mark_by_bytes, mark_by_numbers};
 use cfb_bytes::numbers::read_u32;
 use std::alloc::{AllocError, Global};
 use std::marker::Model;
@@ -137,6 +139,33 @@ impl<'a> Links<'a> {
             Entries::Run(bytes, count) => entry_in(bytes, *count, n),
             Entries::Numbers(numbers) => number_in(numbers, n),
             Entries::Slice(numbers) => number_in(numbers, n),
+        }
+    }
+
+    /// Marks the sectors from one on, each followed by the one that its entry names, until one comes that isn't in the table
+    /// or is marked.
+    pub(crate) fn mark_walk(&self, start: u32, used: &mut [bool]) -> Walk
+        requires { length used.old ≡ length self.now }
+        ensures { IsWalk (slice_index self.now) start used.old used.new result.count result.stop }
+    {
+        match &self.entries {
+            Entries::Run(bytes, _) => mark_by_bytes(bytes, start, used),
+            Entries::Numbers(numbers) => mark_by_numbers(numbers, start, used),
+            Entries::Slice(numbers) => mark_by_numbers(numbers, start, used),
+        }
+    }
+
+    /// Takes back the marks of a walk from a sector on.
+    pub(crate) fn clear_walk(&self, start: u32, walk: Walk, used: &mut [bool])
+        requires each { length used.old ≡ length self.now }
+        requires walked { (before : List Bool) × IsWalk (slice_index self.now) start before used.old walk.count walk.stop }
+        ensures { (before : List Bool) → IsWalk (slice_index self.now) start before used.old walk.count walk.stop → used.new ≡ before }
+    {
+        let mut at = start;
+        for _ in 0..walk.count {
+            let n = at as usize;
+            used[n] = false;
+            at = self.entry(n);
         }
     }
 }

@@ -1,11 +1,13 @@
-use Rattle.std.proofs.Common.{arith}
+use Rattle.std.proofs.Common.{refl, arith}
+use Rattle.cfb_chain.proofs.Chains.{found_chain}
 use Rattle.cfb_chain.proofs.Followed.{held_found, held_long}
 use Rattle.cfb_chain.proofs.fat.Fat.mark_chain.Goals as goal
 
-pub returns-clause-holds : goal.returns-clause-holds
-returns-clause-holds c = λ ns h. held_found c.args.self.now c.args.start c.args.len ns c.room.ensures.few h
+pub returns-then-mark_as_met-clause-long : goal.returns-then-mark_as_met-clause-long
+returns-then-mark_as_met-clause-long c =
+    let met = c.mark_as_met.ensures.marks c.if-mark_as_met.true in
+    held_long c.args.self.now c.args.start c.args.len met.0 c.mark_as_met.ensures.few
+    (found_chain c.args.self.now c.args.start c.args.len met.0 met.1 met.2 (omega arith))
 
-pub returns-clause-long : goal.returns-clause-long
-returns-clause-long c =
-    let there = c.in_ok-count.ensures.counted (omega arith) in
-    held_long c.args.self.now c.args.start c.args.len there.0 c.room.ensures.few there.2
+pub returns-then-mark_as_met-clause-holds : goal.returns-then-mark_as_met-clause-holds
+returns-then-mark_as_met-clause-holds c = λ ns h. held_found c.args.self.now c.args.start c.args.len ns c.mark_as_met.ensures.few h
