@@ -5,11 +5,11 @@ use Rattle.std.proofs.KnownBytes.{Appends-nil, Appends-trans}
 use Rattle.std.specs.Io.KnownBytes.{Appends}
 use Rattle.std.specs.List.{sum}
 use Rattle.storage_tree.specs.Tree.{Tree}
-use Rattle.file_model.specs.Need.{long_sectors}
-use Rattle.file_layout.specs.Directory.{long_streams}
-use Rattle.file_layout.specs.Image.{pieces_of, whole_pieces}
-use Rattle.file_layout.proofs.ContentsNext.{longs-sum}
-use Rattle.file_layout.proofs.ContentsPieces.{length-whole, width-512}
+use Rattle.file_model.specs.Need.{long_sectors, mini_sectors, pieces}
+use Rattle.file_layout.specs.Directory.{long_streams, short_streams}
+use Rattle.file_layout.specs.Image.{padded, pieces_of, whole_pieces}
+use Rattle.file_layout.proofs.ContentsNext.{longs-sum, shorts-sum}
+use Rattle.file_layout.proofs.ContentsPieces.{length-padded, length-whole, width-512, width-64}
 use Rattle.file_writer.specs.Sending.{Sends}
 
 -- nothing went
@@ -45,9 +45,20 @@ pub sent_all : (w v u : Option (List ℕ)) (b c d x : List ℕ) → Sends w v b 
 sent_all w v u b c d x h e k =
     subst (λ zs. Appends w u zs) (ap (λ zs. h.gone ++ zs) e ∙ h.all) (Appends-trans w v u h.gone d h.written k)
 
--- how many bytes a front and the long streams have
-pub sent_long : (t : Tree) (front file : List ℕ) (n longs : ℕ) → front ++ whole_pieces 512 (long_streams t) ≡ file → longs ≡ long_sectors t → n ≡ length front + 512 * longs → n ≡ length file
-sent_long t front file n longs is counted e =
+-- how many bytes the short streams have in whole mini sectors
+pub short_bytes : (t : Tree) (minis : ℕ) → minis ≡ mini_sectors t → length (whole_pieces 64 (short_streams t)) ≡ 64 * minis
+short_bytes t minis counted =
+    let whole : length (whole_pieces 64 (short_streams t)) ≡ 64 * sum (pieces_of 64 (short_streams t)) = length-whole 64 width-64 (short_streams t) in
+    omega (arith, counted, whole, shorts-sum t)
+
+-- how many bytes a front, the mini stream and the long streams have
+pub sent_streams : (t : Tree) (front file : List ℕ) (n minis longs : ℕ) → front ++ padded 512 (whole_pieces 64 (short_streams t)) ++ whole_pieces 512 (long_streams t) ≡ file
+    → minis ≡ mini_sectors t → longs ≡ long_sectors t → n ≡ length front + 512 * pieces 512 (64 * minis) + 512 * longs → n ≡ length file
+sent_streams t front file n minis longs is few counted e =
+    let shorts : List ℕ = padded 512 (whole_pieces 64 (short_streams t)) in
+    let short : length shorts ≡ 512 * pieces 512 (64 * minis) =
+    length-padded 512 width-512 (whole_pieces 64 (short_streams t)) ∙ ap (λ k. 512 * pieces 512 k) (short_bytes t minis few) in
     let whole : length (whole_pieces 512 (long_streams t)) ≡ 512 * sum (pieces_of 512 (long_streams t)) = length-whole 512 width-512 (long_streams t) in
-    let both : length (front ++ whole_pieces 512 (long_streams t)) ≡ length front + length (whole_pieces 512 (long_streams t)) = length-append front (whole_pieces 512 (long_streams t)) in
-    omega (arith, e, counted, whole, longs-sum t, both) ∙ ap length is
+    let both : length (front ++ shorts ++ whole_pieces 512 (long_streams t)) ≡ length (front ++ shorts) + length (whole_pieces 512 (long_streams t)) = length-append (front ++ shorts) (whole_pieces 512 (long_streams t)) in
+    let first : length (front ++ shorts) ≡ length front + length shorts = length-append front shorts in
+    omega (arith, e, counted, whole, longs-sum t, both, first, short) ∙ ap length is

@@ -1,14 +1,15 @@
-//! Writing the file of a tree to where it goes, without a copy of its long streams in memory.
+//! Writing the file of a tree to where it goes, without a copy of its streams in memory.
 
-ghost use Rattle.file_layout.specs.Directory.{long_streams};
+ghost use Rattle.file_layout.specs.Directory.{long_streams, short_streams};
 ghost use Rattle.file_layout.specs.Image.{padded, whole_pieces};
 ghost use Rattle.file_writer.specs.Sending.{MayRefuseSend, Sends, WritesFile};
-ghost use Rattle.file_writer.specs.Streams.{long_within};
+ghost use Rattle.file_model.specs.Need.{mini_sectors};
+ghost use Rattle.file_writer.specs.Streams.{long_within, short_within};
 ghost use Rattle.std.specs.Io.KnownBytes.{Appends};
 ghost use Rattle.std.specs.Prelude.{[], ◌++◌, ◌<◌, ◌≡◌, ◌≢◌, IfErr, IfOk, OnOk, false, replicate, true};
 ghost use Rattle.storage_tree.specs.View.{seen, view};
 
-use crate::streams::{is_short, sector_zeros};
+use crate::streams::{is_short, mini_zeros, sector_zeros};
 use crate::write::{count, lay_front};
 use file_model::fault::WriteFault;
 use std::alloc::Global;
@@ -91,12 +92,64 @@ fn send_zeros<W: Write>(writer: &mut W, waiting: &mut Vec<u8>, count: usize) -> 
     Ok(())
 }
 
+/// Sends the bytes of a stream, with zeros up to whole mini sectors.
+fn send_minis<W: Write>(writer: &mut W, waiting: &mut Vec<u8>, bytes: &Bytes) -> io::Result<()>
+    ensures { OnOk result (Sends (W.contents writer.old) (W.contents writer.new) waiting.old.items waiting.new.items (padded 64 bytes.now)) }
+{
+    send(writer, waiting, bytes.as_slice())?;
+    send_zeros(writer, waiting, mini_zeros(bytes.len()))?;
+    Ok(())
+}
+
 /// Sends the bytes of a stream, with zeros up to whole sectors.
 fn send_sectors<W: Write>(writer: &mut W, waiting: &mut Vec<u8>, bytes: &Bytes) -> io::Result<()>
     ensures { OnOk result (Sends (W.contents writer.old) (W.contents writer.new) waiting.old.items waiting.new.items (padded 512 bytes.now)) }
 {
     send(writer, waiting, bytes.as_slice())?;
     send_zeros(writer, waiting, sector_zeros(bytes.len()))?;
+    Ok(())
+}
+
+/// Sends the streams below a storage that are shorter than 4,096 bytes, in the order of their entries, each in whole
+/// mini sectors.
+#[cycle(send_short)]
+fn send_short<W: Write>(writer: &mut W, waiting: &mut Vec<u8>, storage: &Storage) -> io::Result<()>
+    ensures { OnOk result (Sends (W.contents writer.old) (W.contents writer.new) waiting.old.items waiting.new.items (whole_pieces 64 (short_streams (view storage.now)))) }
+{
+    for (_, node) in storage.children.iter() {
+        send_short_child(writer, waiting, &node.1)?;
+    }
+    Ok(())
+}
+
+/// Sends a child's.
+#[cycle(send_short)]
+fn send_short_child<W: Write>(writer: &mut W, waiting: &mut Vec<u8>, child: &Node) -> io::Result<()>
+    ensures { OnOk result (Sends (W.contents writer.old) (W.contents writer.new) waiting.old.items waiting.new.items (whole_pieces 64 (short_within (seen child.now)))) }
+{
+    match child {
+        Node::Stream(bytes) => {
+            if is_short(bytes) {
+                send_minis(writer, waiting, bytes)?;
+            }
+        }
+        Node::Storage(inner) => send_short(writer, waiting, inner)?,
+    }
+    Ok(())
+}
+
+/// Sends the mini stream of a tree whose short streams take so many mini sectors, in whole sectors.
+fn send_mini_stream<W: Write>(
+    writer: &mut W,
+    waiting: &mut Vec<u8>,
+    root: &Storage,
+    minis: u32,
+) -> io::Result<()>
+    requires { minis ≡ mini_sectors (view root.now) }
+    ensures { OnOk result (Sends (W.contents writer.old) (W.contents writer.new) waiting.old.items waiting.new.items (padded 512 (whole_pieces 64 (short_streams (view root.now))))) }
+{
+    send_short(writer, waiting, root)?;
+    send_zeros(writer, waiting, sector_zeros(64 * minis as usize))?;
     Ok(())
 }
 
@@ -128,19 +181,23 @@ fn send_long_child<W: Write>(writer: &mut W, waiting: &mut Vec<u8>, child: &Node
     Ok(())
 }
 
-/// Writes a front, the long streams below a storage behind it, and all through to the writer's end.
-fn send_all<W: Write>(writer: &mut W, front: Vec<u8>, root: &Storage) -> io::Result<()>
-    ensures { OnOk result (Appends (W.contents writer.old) (W.contents writer.new) (front.items ++ whole_pieces 512 (long_streams (view root.now)))) }
+/// Writes a front, behind it the mini stream and the long streams of a tree whose short streams take so many mini sectors,
+/// and all through to the writer's end.
+fn send_all<W: Write>(writer: &mut W, front: Vec<u8>, root: &Storage, minis: u32) -> io::Result<()>
+    requires { minis ≡ mini_sectors (view root.now) }
+    ensures { OnOk result (Appends (W.contents writer.old) (W.contents writer.new) (front.items ++ padded 512 (whole_pieces 64 (short_streams (view root.now))) ++ whole_pieces 512 (long_streams (view root.now)))) }
 {
     let mut waiting = front;
+    send_mini_stream(writer, &mut waiting, root, minis)?;
     send_long(writer, &mut waiting, root)?;
     finish(writer, &waiting)?;
     Ok(())
 }
 
 /// Writes the bytes of the compound file of a tree with this root, those of `write_file`, and gives how many there are. Of
-/// the file only what stands before the long streams is ever held in memory, beside at most 131,072 bytes of these: each
-/// long stream is written from where the tree has it. The file denotes the tree where that is whole.
+/// the file only what stands before the streams (its header, its tables and its directory) is ever held in memory, beside
+/// at most 131,072 bytes of these: each stream, short or long, is written from where the tree has it. The file denotes the
+/// tree where that is whole.
 ///
 /// Refused: as `write_file`; nothing is written then. `Unwritable` where a write fails.
 pub fn send_file<W: Write>(
@@ -156,14 +213,15 @@ pub fn send_file<W: Write>(
         Ok(counts) => counts,
         Err(fault) => return Err(SendFault::Write(fault)),
     };
+    let shorts = 512 * counts.mini_stream_sectors() as usize;
     let longs = 512 * counts.longs as usize;
-    let room = counts.file_len().saturating_sub(longs);
+    let room = counts.file_len().saturating_sub(shorts + longs);
     let front = match lay_front(alloc, root, counts, room) {
         Ok(front) => front,
         Err(_) => return Err(SendFault::Write(WriteFault::NoMemory)),
     };
-    let len = front.len() + longs;
-    match send_all(writer, front, root) {
+    let len = front.len() + shorts + longs;
+    match send_all(writer, front, root, counts.minis) {
         Ok(()) => Ok(len),
         Err(_) => Err(SendFault::Unwritable),
     }

@@ -45,7 +45,7 @@ fn push_zeros(out: &mut Vec<u8>, count: usize) -> Result<(), AllocError>
 }
 
 /// How many zeros stand behind so many bytes up to whole mini sectors.
-fn mini_zeros(len: usize) -> usize
+pub(crate) fn mini_zeros(len: usize) -> usize
     ensures few { result < 512 }
     ensures zeros { result ≡ 64 * pieces 64 len - len }
 {

@@ -11,7 +11,7 @@ ghost use Rattle.storage_tree.specs.View.{view};
 ghost use Rattle.storage_tree.specs.Whole.{IsTree};
 ghost use Rattle.file_model.specs.Denotes.{Denotes};
 ghost use Rattle.file_layout.specs.Directory.{IsSpelled, balanced, long_streams, parts_of, short_streams};
-ghost use Rattle.file_layout.specs.Image.{behind_fat, counts as runs_behind, difat_numbers, image, names, own_entries, pieces_of, run, runs, start, table_bytes, whole_pieces};
+ghost use Rattle.file_layout.specs.Image.{behind_fat, counts as runs_behind, difat_numbers, image, names, own_entries, padded, pieces_of, run, runs, start, table_bytes, whole_pieces};
 ghost use Rattle.file_model.specs.Need.{data_sectors, entries, fat_sectors as fat_needed, long_sectors, mini_sectors};
 ghost use Rattle.file_model.specs.Refusals.{Refuses, writable};
 ghost use Rattle.file_model.specs.declared.limit.TheConstants.{MANY, MOST_FAT_SECTORS};
@@ -224,7 +224,7 @@ fn push_header(
     Ok(())
 }
 
-/// What stands before the long streams in the file of a tree with these counts, with room for so many bytes taken at once.
+/// What stands before the mini stream in the file of a tree with these counts, with room for so many bytes taken at once.
 #[tactic(auto, unfolding(file_layout::specs::Image::image))]
 pub(crate) fn lay_front(
     alloc: Global,
@@ -233,7 +233,7 @@ pub(crate) fn lay_front(
     room: usize,
 ) -> Result<Vec<u8>, AllocError>
     requires { AreEnough counts (view root.now) }
-    ensures laid_out { IfOk result (λ v. v.items ++ whole_pieces 512 (long_streams (view root.now)) ≡ image counts.fat (parts_of balanced counts.fat (view root.now))) }
+    ensures laid_out { IfOk result (λ v. v.items ++ padded 512 (whole_pieces 64 (short_streams (view root.now))) ++ whole_pieces 512 (long_streams (view root.now)) ≡ image counts.fat (parts_of balanced counts.fat (view root.now))) }
     ensures spelled { OnOk result (IsSpelled (view root.now)) }
 {
     let fat = fat_table(alloc, root, counts)?;
@@ -254,7 +254,6 @@ pub(crate) fn lay_front(
     push_difat(alloc, &mut out, counts.fat, difat)?;
     push_directory(alloc, &mut out, root, counts)?;
     push_table(&mut out, mini_fat_count, &minis)?;
-    push_mini_stream(&mut out, root)?;
     Ok(out)
 }
 
@@ -265,6 +264,7 @@ fn lay_out(alloc: Global, root: &Storage, counts: Counts) -> Result<Vec<u8>, All
     ensures spelled { OnOk result (IsSpelled (view root.now)) }
 {
     let mut out = lay_front(alloc, root, counts, counts.file_len())?;
+    push_mini_stream(&mut out, root)?;
     push_long(&mut out, root)?;
     Ok(out)
 }

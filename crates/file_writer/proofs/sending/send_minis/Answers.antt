@@ -1,0 +1,19 @@
+use Rattle.std.proofs.Common.{◌≡◌, ◌++◌, ◌-◌, ◌*◌, ◌∙◌, ℕ, List, Option, ap, length, replicate, subst}
+use Rattle.file_model.specs.Need.{pieces}
+use Rattle.file_writer.specs.Sending.{Sends}
+use Rattle.file_writer.proofs.Sent.{sends_both}
+use Rattle.file_writer.proofs.sending.send_minis.Goals as goal
+
+pub returns : goal.returns
+returns g c =
+    let w : Option (List ℕ) = g.W.Write.contents c.args.writer.now in
+    let v : Option (List ℕ) = g.W.Write.contents c.send.new.writer in
+    let u : Option (List ℕ) = g.W.Write.contents c.send_zeros.new.writer in
+    let b : List ℕ = c.args.waiting.now.items in
+    let m : List ℕ = c.send.new.waiting.items in
+    let d : List ℕ = c.send_zeros.new.waiting.items in
+    let bytes : List ℕ = c.args.bytes.now in
+    let same : c.as_slice.result.now ≡ bytes = c.as_slice.ensures in
+    let count : c.mini_zeros.result ≡ 64 * pieces 64 (length bytes) - length bytes = c.mini_zeros.ensures.zeros ∙ ap (λ k. 64 * pieces 64 k - k) c.len.ensures in
+    subst (λ (zs : List ℕ). Sends w u b d zs) (λ i. same i ++ replicate (count i) 0)
+    (sends_both w v u b m d c.as_slice.result.now (replicate c.mini_zeros.result 0) c.in_ok-send.ensures c.in_ok-send_zeros.ensures)
