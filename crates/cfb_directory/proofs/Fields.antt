@@ -40,13 +40,13 @@ unit_at (c ∷ name) rest (suc k) h =
 
 module _ (name : List ℕ) (e : EntryFields) (short : length name ≤ 31) (class : length e.class ≡ 16) where
   -- the parts between the name and the class, and behind the class
-  head : List ℕ
+  unfoldable pub head : List ℕ
   head = to_le_bytes w16 (2 * length name + 2) ++ ((kind_number e.kind ∷ 1 ∷ []) ++ (to_le_bytes w32 e.left ++ (to_le_bytes w32 e.right ++ to_le_bytes w32 e.child)))
 
-  tail : List ℕ
+  unfoldable pub tail : List ℕ
   tail = to_le_bytes w32 e.state ++ (replicate 16 0 ++ (to_le_bytes w32 e.first ++ (to_le_bytes w32 e.size ++ replicate 4 0)))
 
-  spread : entry_bytes name e ≡ name_bytes name ++ (head ++ (e.class ++ tail))
+  pub spread : entry_bytes name e ≡ name_bytes name ++ (head ++ (e.class ++ tail))
   unfolding entry_bytes head tail
   spread = simp append_assoc
 

@@ -1,5 +1,5 @@
 -- Names that are read into the bytes that they are kept in.
-use Rattle.std.proofs.Common.{◌≡◌, ◌<◌, ◌≤◌, ◌+◌, ◌-◌, ◌*◌, ◌/◌, ◌%◌, ℕ, zero, suc, Bool, true, false, List, [], ◌∷◌, ◌++◌, length, take, drop, get_or, replicate, nat_le, refl, sym, ◌∙◌, ap, subst, arith, ◌||◌}
+use Rattle.std.proofs.Common.{◌≡◌, ◌<◌, ◌≤◌, ◌+◌, ◌-◌, ◌*◌, ◌/◌, ◌%◌, ℕ, zero, suc, Bool, false, List, [], ◌∷◌, ◌++◌, length, take, drop, get_or, replicate, nat_le, refl, sym, ◌∙◌, ap, subst, arith, ◌||◌}
 use Rattle.std.proofs.lemmas.Bool.Decides.{nat_tests}
 use Rattle.std.proofs.lemmas.Grind.{get_or_after_one, same_number_lists}
 use Rattle.std.proofs.lemmas.List.{get_or-drop, get_or-replicate, get_or-take, length-drop, length-replicate, length-take-le, take-append-drop}
@@ -7,7 +7,7 @@ use Rattle.std.specs.List.{list_any}
 use Rattle.cfb_bytes.specs.Bytes.{u16_at}
 use Rattle.cfb_names.specs.Names.{IsName, is_forbidden}
 use Rattle.cfb_names.specs.View.{IsHeld, name_held, units_of}
-use Rattle.cfb_directory.specs.Entries.{IsNamed, name_length, name_of}
+use Rattle.cfb_directory.specs.Entries.{IsNamed, name_length}
 use Rattle.cfb_directory.proofs.Reading.{chars}
 
 -- no element passes a test

@@ -1,4 +1,6 @@
 pub mod Fields
+pub mod Named
+pub mod Placed
 pub mod Numbers
 pub mod Linked
 pub mod Marks

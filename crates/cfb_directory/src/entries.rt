@@ -1,6 +1,6 @@
 //! Entries of the directory (MS-CFB 2.6).
 
-ghost use Rattle.cfb_directory.specs.Entries.{AreFree, AreLinked, IsEntry, IsFree, IsKindOf, IsNamed, MayRefuseChildren, MayRefuseEntry, MayRefuseLinked, MayRefuseLoad, child, class_of, entry_at, kind_number, left, marked, right};
+ghost use Rattle.cfb_directory.specs.Entries.{AreFree, AreLinked, IsEntry, IsFree, IsKindOf, IsNameOf, IsNamed, MayRefuseChildren, MayRefuseEntry, MayRefuseLinked, MayRefuseLoad, child, class_of, entry_at, kind_number, left, marked, right};
 ghost use Rattle.cfb_bytes.specs.Marks.{set_all};
 ghost use Rattle.cfb_names.specs.Names.{IsName};
 ghost use Rattle.cfb_directory.specs.Walk.{IsTaken, MayRefuseName, unmarked};
@@ -163,6 +163,38 @@ impl<'a> Table<'a> {
         }
     }
 
+    /// The name of an entry.
+    fn name(&self, id: u32) -> Result<Name, DirFault>
+        ensures read { IfOk result (IsNameOf id (entry_at self.now.directory id)) }
+        ensures valid { IfOk result IsName }
+        ensures refused { IfErr result (MayRefuseEntry self.now.directory id) }
+    {
+        if self.directory.len() <= ENTRY_LEN * id as usize {
+            return Err(DirFault::BadEntry);
+        }
+        match whole_entry(self.directory, id) {
+            Some(entry) => self.read_name(id, entry),
+            None => self.read_name(id, &entry_bytes(self.directory, id)),
+        }
+    }
+
+    /// The name of an entry that has these bytes, if its kind is one that it may have.
+    fn read_name(&self, id: u32, entry: &[u8; 128]) -> Result<Name, DirFault>
+        requires bytes { entry.now ≡ entry_at self.now.directory id }
+        ensures read { IfOk result (IsNameOf id (entry_at self.now.directory id)) }
+        ensures valid { IfOk result IsName }
+        ensures refused { IfErr result (MayRefuseEntry self.now.directory id) }
+    {
+        kind_of(id, entry[66])?;
+        if id == 0 {
+            return Ok(Name::root());
+        }
+        match read_name(entry) {
+            Ok(name) => Ok(name),
+            Err(fault) => Err(fault),
+        }
+    }
+
     /// What an entry says that has these bytes.
     fn read(&self, id: u32, entry: &[u8; 128]) -> Result<Entry, DirFault>
         requires there { 128 * id < length self.now.directory }
@@ -171,15 +203,11 @@ impl<'a> Table<'a> {
         ensures valid { IfOk result (λ e. IsName e.name) }
         ensures refused { IfErr result (MayRefuseEntry self.now.directory id) }
     {
-        let kind = kind_of(id, entry[66])?;
-        let name = if id == 0 {
-            Name::root()
-        } else {
-            match read_name(entry) {
-                Ok(name) => name,
-                Err(fault) => return Err(fault),
-            }
+        let name = match self.read_name(id, entry) {
+            Ok(name) => name,
+            Err(fault) => return Err(fault),
         };
+        let kind = kind_of(id, entry[66])?;
         Ok(Entry {
             name,
             kind,
@@ -330,6 +358,15 @@ impl<'a> Entries<'a> {
         ensures refused { IfErr result (MayRefuseEntry self.now.directory id) }
     {
         self.table.entry(id)
+    }
+
+    /// The name of an entry, as `entry` tells it, and refused as there.
+    pub fn name(&self, id: u32) -> Result<Name, DirFault>
+        ensures read { IfOk result (IsNameOf id (entry_at self.now.directory id)) }
+        ensures valid { IfOk result IsName }
+        ensures refused { IfErr result (MayRefuseEntry self.now.directory id) }
+    {
+        self.table.name(id)
     }
 
     /// The children of an entry: just those that links reach from its child, which it marks. A refusal marks none.

@@ -3,8 +3,9 @@
 ghost use Rattle.cfb_directory.specs.Entries.{kind_number};
 ghost use Rattle.cfb_directory.specs.Written.{entry_bytes, free_entry_bytes, name_bytes};
 ghost use Rattle.std.specs.Int.{to_le_bytes, w16, w32};
-ghost use Rattle.std.specs.Prelude.{◌≡◌, ◌≤◌, ◌++◌, ◌∷◌, [], OnOk, length, replicate};
+ghost use Rattle.std.specs.Prelude.{◌+◌, ◌++◌, ◌≡◌, ◌≤◌, OnOk, drop, length, replicate, take};
 
+use crate::bytes::ENTRY_LEN;
 use crate::entries::EntryKind;
 use std::alloc::AllocError;
 
@@ -21,99 +22,83 @@ pub struct EntryFields {
     pub size: u32,
 }
 
-/// Adds a number in two bytes.
-fn push_u16(out: &mut Vec<u8>, n: u16) -> Result<(), AllocError>
-    ensures { OnOk result (out.new.items ≡ out.old.items ++ to_le_bytes w16 n) }
+/// Writes a number into the two bytes at a place.
+fn write_u16(bytes: &mut [u8], at: usize, n: u16)
+    requires { at + 2 ≤ length bytes.old }
+    ensures { bytes.new ≡ take at bytes.old ++ to_le_bytes w16 n ++ drop (at + 2) bytes.old }
 {
-    out.extend_from_slice(&n.to_le_bytes())?;
-    Ok(())
+    bytes[at..at + 2].copy_from_slice(&n.to_le_bytes());
 }
 
-/// Adds a number in four bytes.
-fn push_u32(out: &mut Vec<u8>, n: u32) -> Result<(), AllocError>
-    ensures { OnOk result (out.new.items ≡ out.old.items ++ to_le_bytes w32 n) }
+/// Writes a number into the four bytes at a place.
+fn write_u32(bytes: &mut [u8], at: usize, n: u32)
+    requires { at + 4 ≤ length bytes.old }
+    ensures { bytes.new ≡ take at bytes.old ++ to_le_bytes w32 n ++ drop (at + 4) bytes.old }
 {
-    out.extend_from_slice(&n.to_le_bytes())?;
-    Ok(())
+    bytes[at..at + 4].copy_from_slice(&n.to_le_bytes());
 }
 
-/// Adds bytes.
-fn push_bytes(out: &mut Vec<u8>, bytes: &[u8]) -> Result<(), AllocError>
-    ensures { OnOk result (out.new.items ≡ out.old.items ++ bytes.now) }
+/// The number that stands for a kind.
+fn number_of(kind: EntryKind) -> u8
+    ensures { result ≡ kind_number kind }
 {
-    out.extend_from_slice(bytes)?;
-    Ok(())
-}
-
-/// Adds equal bytes.
-fn push_equal(out: &mut Vec<u8>, count: usize, byte: u8) -> Result<(), AllocError>
-    requires { count ≤ 128 }
-    ensures { OnOk result (out.new.items ≡ out.old.items ++ replicate count byte) }
-{
-    let len = out.len() + count;
-    out.resize(len, byte)?;
-    Ok(())
-}
-
-/// Adds the number that stands for a kind, and the colour black.
-fn push_kind(out: &mut Vec<u8>, kind: EntryKind) -> Result<(), AllocError>
-    ensures { OnOk result (out.new.items ≡ out.old.items ++ kind_number kind ∷ 1 ∷ []) }
-{
-    let number = match kind {
+    match kind {
         EntryKind::Storage => 1,
         EntryKind::Stream => 2,
         EntryKind::Root => 5,
-    };
-    push_bytes(out, &[number, 1])?;
-    Ok(())
+    }
 }
 
-/// Adds a name in UTF-16, with zeros up to 64 bytes.
+/// Writes a name in UTF-16 into zeros.
 #[tactic(auto, unfolding(crate::specs::Written::name_bytes))]
-fn push_name(out: &mut Vec<u8>, name: &[u8]) -> Result<(), AllocError>
-    requires { length name.now ≤ 31 }
-    ensures { OnOk result (out.new.items ≡ out.old.items ++ name_bytes name.now) }
+fn write_name(bytes: &mut [u8], name: &[u8])
+    requires zeros { bytes.old ≡ replicate 64 0 }
+    requires short { length name.now ≤ 31 }
+    ensures { bytes.new ≡ name_bytes name.now }
 {
-    for unit in name {
-        out.push(*unit)?;
-        out.push(0)?;
+    for k in 0..name.len() {
+        bytes[2 * k] = name[k];
     }
-    push_equal(out, 64 - 2 * name.len(), 0)?;
-    Ok(())
+}
+
+/// The bytes of an entry, its fields where they stand.
+fn written(name: &[u8], fields: &EntryFields) -> [u8; 128]
+    requires { length name.now ≤ 31 }
+    ensures { result ≡ entry_bytes name.now fields.now }
+{
+    let mut entry = [0; ENTRY_LEN];
+    write_u16(&mut entry, 64, 2 * name.len() as u16 + 2);
+    entry[66] = number_of(fields.kind);
+    entry[67] = 1;
+    write_u32(&mut entry, 68, fields.left);
+    write_u32(&mut entry, 72, fields.right);
+    write_u32(&mut entry, 76, fields.child);
+    write_u32(&mut entry, 96, fields.state);
+    write_u32(&mut entry, 116, fields.first);
+    write_u32(&mut entry, 120, fields.size);
+    entry[80..96].copy_from_slice(&fields.class);
+    write_name(&mut entry[..64], name);
+    entry
 }
 
 /// Adds an entry of 128 bytes with a name of at most 31 characters. It is black, and its times are zero.
 ///
-/// Where no memory is left, a part of the entry may have been added.
-#[tactic(auto, unfolding(crate::specs::Written::entry_bytes))]
+/// Where no memory is left, nothing is added.
 pub fn write_entry(out: &mut Vec<u8>, name: &[u8], fields: &EntryFields) -> Result<(), AllocError>
     requires { length name.now ≤ 31 }
     ensures { OnOk result (out.new.items ≡ out.old.items ++ entry_bytes name.now fields.now) }
 {
-    push_name(out, name)?;
-    push_u16(out, 2 * name.len() as u16 + 2)?;
-    push_kind(out, fields.kind)?;
-    push_u32(out, fields.left)?;
-    push_u32(out, fields.right)?;
-    push_u32(out, fields.child)?;
-    push_bytes(out, &fields.class)?;
-    push_u32(out, fields.state)?;
-    push_equal(out, 16, 0)?;
-    push_u32(out, fields.first)?;
-    push_u32(out, fields.size)?;
-    push_equal(out, 4, 0)?;
-    Ok(())
+    out.extend_from_slice(&written(name, fields))
 }
 
 /// Adds an entry of 128 bytes that isn't used: zeros, but for three links to nobody.
 ///
-/// Where no memory is left, a part of the entry may have been added.
+/// Where no memory is left, nothing is added.
 #[tactic(auto, unfolding(crate::specs::Written::free_entry_bytes))]
 pub fn write_free_entry(out: &mut Vec<u8>) -> Result<(), AllocError>
     ensures { OnOk result (out.new.items ≡ out.old.items ++ free_entry_bytes) }
 {
-    push_equal(out, 68, 0)?;
-    push_equal(out, 12, 0xff)?;
-    push_equal(out, 48, 0)?;
-    Ok(())
+    let mut entry = [0; ENTRY_LEN];
+    entry[68..80].copy_from_slice(&[0xff; 12]);
+    out.extend_from_slice(&entry)
 }

@@ -1,7 +1,7 @@
 use Rattle.std.proofs.Common.{List, ℕ, subst}
 use Rattle.cfb_directory.specs.Walk.{MayRefuseName}
 use Rattle.cfb_directory.proofs.Reading.{name_refused}
-use Rattle.cfb_directory.proofs.entries.Table.read.Goals as goal
+use Rattle.cfb_directory.proofs.entries.Table.read_name.Goals as goal
 
 pub returns-in-Err-clause-refused : goal.returns-in-Err-clause-refused
 returns-in-Err-clause-refused c =
