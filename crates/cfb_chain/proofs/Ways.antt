@@ -4,7 +4,7 @@ use Rattle.std.proofs.lemmas.Bool.{cases_Bool}
 use Rattle.std.proofs.lemmas.List.Elements.{All-append, All-head, All-push, All-tail}
 use Rattle.std.specs.List.{All}
 use Rattle.cfb_chain.specs.Chain.{END_OF_CHAIN, Leads}
-use Rattle.cfb_chain.specs.Fat.{FatValue, IsFree, IsFreeChain, set_all, store_of}
+use Rattle.cfb_chain.specs.Fat.{FatValue, IsFreeChain, set_all}
 use Rattle.cfb_chain.specs.Walks.{IsUnmarked, IsWalk}
 use Rattle.cfb_chain.proofs.Chains.{free_chain, leads_push}
 use Rattle.cfb_chain.proofs.Marks.{clear_all, length-set_all, marked_kept, set_all-append, set_and_cleared}

@@ -1,4 +1,4 @@
-use Rattle.std.proofs.Common.{◌*◌, arith, length}
+use Rattle.std.proofs.Common.{◌*◌, arith}
 use Rattle.cfb_header.specs.Bytes.{u32_at}
 use Rattle.cfb_chain.proofs.Ways.{walk_joined, walk_long}
 use Rattle.cfb_chain.proofs.walks.mark_by_bytes.Goals as goal
