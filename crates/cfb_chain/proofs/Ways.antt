@@ -1,10 +1,10 @@
 -- Walks that mark what they meet, and how their marks are taken back.
-use Rattle.std.proofs.Common.{◌≡◌, ◌<◌, ◌≤◌, ◌+◌, ◌-◌, inl, inr, Bool, set, ℕ, zero, suc, true, false, List, [], ◌∷◌, ◌++◌, length, length-append, get_or, length-set, refl, sym, ap, subst, ◌∙◌, arith}
+use Rattle.std.proofs.Common.{◌≡◌, ◌≢◌, ◌<◌, ◌≤◌, ◌+◌, ◌-◌, inl, inr, Bool, set, ℕ, zero, suc, true, false, List, [], ◌∷◌, ◌++◌, length, length-append, get_or, get_or-set_other, length-set, refl, sym, ap, subst, ◌∙◌, arith}
 use Rattle.std.proofs.lemmas.Bool.{cases_Bool}
-use Rattle.std.proofs.lemmas.List.Elements.{All-head, All-push, All-tail, All-weaker}
+use Rattle.std.proofs.lemmas.List.Elements.{All-append, All-head, All-push, All-tail}
 use Rattle.std.specs.List.{All}
 use Rattle.cfb_chain.specs.Chain.{END_OF_CHAIN, Leads}
-use Rattle.cfb_chain.specs.Fat.{FatValue, IsFree, IsFreeChain, set_all, store_of}
+use Rattle.cfb_chain.specs.Fat.{FatValue, IsFreeChain, set_all}
 use Rattle.cfb_chain.specs.Walks.{IsUnmarked, IsWalk}
 use Rattle.cfb_chain.proofs.Chains.{free_chain, leads_push}
 use Rattle.cfb_chain.proofs.Marks.{clear_all, length-set_all, marked_kept, set_all-append, set_and_cleared}
@@ -44,6 +44,55 @@ walk_step next start before now count stop new w there free few e =
 
 pub walk_long : (next : ℕ → ℕ) (start : ℕ) (before now : List Bool) (count stop : ℕ) → IsWalk next start before now count stop → length now ≡ length before
 walk_long next start before now count stop w = ap length w.marks ∙ length-set_all before w.sectors
+
+-- a walk that goes on where another one stopped
+leads_joined : (next : ℕ → ℕ) (start : ℕ) (ns : List ℕ) (middle : ℕ) (ms : List ℕ) (stop : ℕ) → Leads next start ns middle → Leads next middle ms stop
+    → Leads next start (ns ++ ms) stop
+leads_joined next start [] middle ms stop h g = subst (λ x. Leads next x ms stop) (sym h) g
+leads_joined next start (n ∷ ns) middle ms stop h g = (h.0, leads_joined next (next n) ns middle ms stop h.1 g)
+
+pub walk_joined : (next : ℕ → ℕ) (start : ℕ) (before between after : List Bool) (count middle more stop : ℕ) → IsWalk next start before between count middle
+    → IsWalk next middle between after more stop → count + more ≤ length before → IsWalk next start before after (count + more) stop
+walk_joined next start before between after count middle more stop w v few =
+    let long : length between ≡ length before = ap length w.marks ∙ length-set_all before w.sectors in
+    record {
+      sectors = w.sectors ++ v.sectors;
+      linked = leads_joined next start w.sectors middle v.sectors stop w.linked v.linked;
+      unmarked = All-append (IsUnmarked before) w.sectors v.sectors w.unmarked
+          (λ k d l. (omega (arith, (v.unmarked k d l).0, long), unmarked_before before between w.sectors (get_or v.sectors k d) w.marks (v.unmarked k d l).1));
+      counted = length-append w.sectors v.sectors ∙ (λ i. w.counted i + v.counted i);
+      few = few;
+      marks = v.marks ∙ ap (λ us. set_all us v.sectors) w.marks ∙ sym (set_all-append before w.sectors v.sectors);
+    }
+
+-- sectors in a row: the walk stands at the last one, which is still to be marked
+pub record IsRow (next : ℕ → ℕ) (first : ℕ) (before now : List Bool) (last : ℕ) : Type 0 where
+  pub walk : IsWalk next first before now (last - first) last
+  pub free : IsUnmarked now last
+  pub behind : first ≤ last
+
+pub row_start : (next : ℕ → ℕ) (first : ℕ) (used : List Bool) → IsUnmarked used first → IsRow next first used used first
+row_start next first used free =
+    let none : 0 ≡ first - first = omega arith in
+    record { walk = subst (λ k. IsWalk next first used used k first) none (walk_start next first used); free = free; behind = omega arith }
+
+pub row_end : (next : ℕ → ℕ) (first : ℕ) (before now : List Bool) (last new : ℕ) → IsRow next first before now last → new ≡ next last
+    → IsWalk next first before (set now last true) (last + 1 - first) new
+row_end next first before now last new r e =
+    let one : last - first + 1 ≡ last + 1 - first = omega (arith, r.behind) in
+    let few : last - first < length now = omega (arith, r.free.0) in
+    subst (λ k. IsWalk next first before (set now last true) k new) one
+    (walk_step next first before now (last - first) last new r.walk r.free.0 r.free.1 few e)
+
+pub row_step : (next : ℕ → ℕ) (first : ℕ) (before now : List Bool) (last : ℕ) → IsRow next first before now last → last + 1 ≡ next last
+    → IsUnmarked now (last + 1) → IsRow next first before (set now last true) (last + 1)
+row_step next first before now last r e free =
+    let other : last + 1 ≢ last = λ same. omega (arith, same) in
+    record {
+      walk = row_end next first before now last (last + 1) r e;
+      free = (omega (arith, free.0, length-set now last true), get_or-set_other now last (last + 1) true true other ∙ free.1);
+      behind = omega (arith, r.behind);
+    }
 
 -- entries that are the same in the table lead the same way
 leads_alike : (f g : ℕ → ℕ) (count start : ℕ) (ns : List ℕ) (stop : ℕ) → ((n : ℕ) → n < count → f n ≡ g n) → All (λ n. n < count) ns

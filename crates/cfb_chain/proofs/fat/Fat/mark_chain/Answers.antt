@@ -1,4 +1,4 @@
-use Rattle.std.proofs.Common.{refl, arith}
+use Rattle.std.proofs.Common.{arith}
 use Rattle.cfb_chain.proofs.Chains.{found_chain}
 use Rattle.cfb_chain.proofs.Followed.{held_found, held_long}
 use Rattle.cfb_chain.proofs.fat.Fat.mark_chain.Goals as goal

@@ -1,4 +1,3 @@
-use Rattle.std.proofs.Common.{arith}
 use Rattle.cfb_chain.proofs.Followed.{held_found, held_long}
 use Rattle.cfb_chain.proofs.fat.Fat.mark_counted.Goals as goal
 

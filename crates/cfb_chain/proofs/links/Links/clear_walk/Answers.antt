@@ -1,4 +1,4 @@
-use Rattle.std.proofs.Common.{◌≡◌, ◌<◌, ◌-◌, ◌+◌, Bool, ap, arith, get_or, length, ℕ}
+use Rattle.std.proofs.Common.{◌<◌, ◌-◌, ◌+◌, arith, get_or, length}
 use Rattle.cfb_chain.proofs.Ways.{clearing_below, clearing_end, clearing_start, clearing_step}
 use Rattle.cfb_chain.proofs.links.Links.clear_walk.Goals as goal
 
