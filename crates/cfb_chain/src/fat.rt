@@ -17,10 +17,9 @@ use crate::table::{count_entries, follow};
 use cfb_header::fault::ChainFault;
 use cfb_header::header::{END_OF_CHAIN, Header, NAMED};
 use cfb_places::places::Places;
+pub use chain_model::sector::FREE_SECTOR;
 use std::alloc::{AllocError, Global};
 use std::marker::Model;
-
-pub use chain_model::sector::FREE_SECTOR;
 
 /// A table of sectors over their bytes, which marks those that are used: the FAT over a file, or the mini FAT over
 /// the mini stream.
