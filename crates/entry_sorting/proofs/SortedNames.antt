@@ -15,8 +15,7 @@ use Rattle.std.specs.declared.cmp.Ordering.{Ordering}
 use Rattle.std.specs.declared.cmp.Ordering.TheVariants.{Less, Equal, Greater}
 use Rattle.cfb_chain.specs.Chain.{AreDistinct}
 use Rattle.cfb_names.specs.Names.{key, key_cmp}
-use Rattle.cfb_directory.specs.Entries.{IsEntry, IsNamed, entry_at}
-use Rattle.cfb_directory.specs.declared.entries.Entry.{Entry}
+use Rattle.cfb_directory.specs.Entries.{IsNameOf, IsNamed, entry_at}
 use Rattle.cfb_names.proofs.Keys.{slice_cmp-same}
 use Rattle.file_faults.specs.Faults.{key_at}
 use Rattle.entry_sorting.specs.Sorting.{AllAdjacentApart, AreBytes, HasEqualNeighbours, MayRefuseNames, keyed, numbers, places}
@@ -60,10 +59,10 @@ module _ {X : Type 0} (k : X → List ℕ) where
       let e : n + 1 ≡ suc n = omega arith in
       subst (λ (m : ℕ). key_cmp (k (get_or (x ∷ xs) n d)) (k (get_or (x ∷ xs) m d)) ≡ Less) e (up n d (omega (arith, lt))))
 
--- the key of an entry below the root
-pub entry_key : (dir : List ℕ) (id : ℕ) (e : Entry) → id ≢ 0 → IsEntry dir id e → key e.name ≡ key_at dir id
-entry_key dir zero e ne h = absurd (ne refl)
-entry_key dir (suc id) e ne h = let named : IsNamed (entry_at dir (suc id)) e.name = h.name in ap key named.units
+-- the key of the name of an entry below the root
+pub name_key : (dir : List ℕ) (id : ℕ) (name : List ℕ) → id ≢ 0 → IsNameOf id (entry_at dir id) name → key name ≡ key_at dir id
+name_key dir zero name ne h = absurd (ne refl)
+name_key dir (suc id) name ne h = let named : IsNamed (entry_at dir (suc id)) name = h in ap key named.units
 
 -- an entry behind the key of its name
 record IsKeyed (dir : List ℕ) (e : List ℕ × ℕ) : Type 0 where

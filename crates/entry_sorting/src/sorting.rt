@@ -56,7 +56,7 @@ fn push_within(list: &mut Vec<([u64; 4], u32)>, key: [u64; 4], id: u32)
 
 /// Lists the entries, each behind the key of its name, where there is room for all.
 ///
-/// Refused: as `Entries::entry`.
+/// Refused: as `Entries::name`.
 fn list_keys(
     entries: &Entries<'_>,
     ids: &[u32],
@@ -70,8 +70,11 @@ fn list_keys(
     ensures refused { IfErr result (MayRefuseOneOf entries.now.directory ids.now) }
 {
     for id in ids {
-        let entry = entries.entry(*id)?;
-        let key = entry.name.key();
+        let name = match entries.name(*id) {
+            Ok(name) => name,
+            Err(fault) => return Err(fault),
+        };
+        let key = name.key();
         push_within(list, numbers(&key), *id);
     }
     Ok(())
@@ -102,7 +105,7 @@ fn put_ids(list: &[([u64; 4], u32)], ids: &mut [u32])
 
 /// The entries in the order of their names. It takes no memory: it is given a list with room for all.
 ///
-/// Refused: as `Entries::entry`, and `DuplicateName` where two names are equal in upper case.
+/// Refused: as `Entries::name`, and `DuplicateName` where two names are equal in upper case.
 pub fn by_name(
     entries: &Entries<'_>,
     mut ids: Vec<u32>,

@@ -4,7 +4,7 @@ use Rattle.std.proofs.lemmas.List.Elements.{All-push}
 use Rattle.std.specs.List.{All}
 use Rattle.file_faults.specs.Faults.{key_at}
 use Rattle.entry_sorting.specs.Sorting.{AreBytes, keyed, numbers}
-use Rattle.entry_sorting.proofs.SortedNames.{entry_key}
+use Rattle.entry_sorting.proofs.SortedNames.{name_key}
 use Rattle.entry_sorting.proofs.sorting.list_keys.Goals as goal
 
 pub push_within-requires : goal.push_within-requires
@@ -20,7 +20,7 @@ loop-id-preserved c =
     let dir : List ℕ = c.args.entries.now.directory in
     let id : ℕ = get_or ids i 0 in
     let is : c.key-key.result ≡ key_at dir id =
-    c.key-key.ensures ∙ entry_key dir id c.in_ok-entry.entry (c.requires.below_root i 0 c.loop-id-test.true) c.in_ok-entry.ensures.read in
+    c.key-key.ensures ∙ name_key dir id c.in-Ok.name (c.requires.below_root i 0 c.loop-id-test.true) c.in-Ok.ensures.read in
     let key_is : c.numbers.result ≡ numbers (key_at dir id) = c.numbers.ensures.numbers ∙ ap numbers is in
     let more : take (i + 1) ids ≡ take i ids ++ id ∷ [] = take_more ids i 0 c.loop-id-test.true in
     let bytes : AreBytes (key_at dir id) = subst AreBytes is c.numbers.ensures.bytes in (
