@@ -12,7 +12,6 @@ use file_commands::seeking::list_source;
 use file_listings::getting::get_source;
 use file_listings::listing::{list_file_as, list_source_as};
 use file_listings::mapping::map_file;
-use file_making::making::make_file;
 use file_places::source::Sought;
 use listing_forms::form::Form;
 use listing_forms::json_form::Json;
@@ -47,18 +46,6 @@ fn end<R: Runtime>(rt: &R, path: &str, told: Result<(), ListFault>) -> ExitCode 
     match told {
         Ok(()) => ExitCode::SUCCESS,
         Err(fault) => refuse(rt, &fault.report(path)),
-    }
-}
-
-/// Makes the file that standard input describes.
-pub fn make<R: Runtime + AllocGlobal>(rt: &R, path: &str) -> ExitCode {
-    let mut new = NewFile::new(rt, path);
-    match make_file(rt.alloc(), &mut rt.reader(), &mut new) {
-        Ok(count) => keep(rt, new, path, count),
-        Err(fault) => {
-            new.discard();
-            refuse(rt, &fault.report(path))
-        }
     }
 }
 

@@ -1,11 +1,12 @@
 //! What a command line over files asks for.
 
 use crate::command_lines::{CHECK, EXTRACT, FOLDER, FORCE, MAP, PACK};
-use crate::running::{Listing, check, clean, get, list, make, map};
+use crate::running::{Listing, check, clean, get, list, map};
 use clap::ArgMatches;
 use fault_texts::telling::Form;
 use folder_program::extracting::extract;
 use folder_program::packing::pack;
+use make_program::making::make;
 use program_ends::command_lines::{CLEAN, FILE, GET, JSON, LIST, LONG, MAKE, OUT, PATH};
 use std::process::ExitCode;
 use std::rt::Runtime;

@@ -122,14 +122,16 @@ pub const AS_JSON: Argument<'static> = Argument {
     kind: Kind::Flag,
 };
 
-/// The commands that make, list and clean files. What is proved of a command's making is proved once, of any row.
+/// The command that makes files. What is proved of a command's making is proved once, of any row.
+const MAKING: &[Row<'static>] = &[Row {
+    name: MAKE,
+    about: ABOUT_MAKE,
+    after: LINES,
+    arguments: &[FILE_MADE],
+}];
+
+/// The commands that list and clean files.
 const ROWS: &[Row<'static>] = &[
-    Row {
-        name: MAKE,
-        about: ABOUT_MAKE,
-        after: LINES,
-        arguments: &[FILE_MADE],
-    },
     Row {
         name: LIST,
         about: ABOUT_LIST,
@@ -253,12 +255,22 @@ fn program<'a>(alloc: Global) -> Command<'a> {
         .subcommand_required(true)
 }
 
+/// The command line of the program `olecon` with `make` alone.
+///
+/// Refused for want of memory alone.
+pub fn making_line<'a>(alloc: Global) -> Result<Command<'a>, AllocError> {
+    let mut commands = Vec::new(alloc);
+    push_commands(alloc, MAKING, &mut commands)?;
+    program(alloc).subcommands(commands)
+}
+
 /// The command line of the program `olecon` with `make`, `list`, `get` and `clean`, and the commands of these rows behind
 /// them. A program with more commands adds them.
 ///
 /// Refused for want of memory alone.
 pub fn command_line<'a>(alloc: Global, rows: &[Row<'a>]) -> Result<Command<'a>, AllocError> {
     let mut commands = Vec::new(alloc);
+    push_commands(alloc, MAKING, &mut commands)?;
     push_commands(alloc, ROWS, &mut commands)?;
     push_commands(alloc, rows, &mut commands)?;
     program(alloc).subcommands(commands)
