@@ -1,6 +1,6 @@
 //! Entries of the directory (MS-CFB 2.6).
 
-ghost use Rattle.cfb_directory.specs.Entries.{AreFree, AreLinked, IsEntry, IsFree, IsKindOf, IsNameOf, IsNamed, MayRefuseChildren, MayRefuseEntry, MayRefuseLinked, MayRefuseLoad, child, class_of, entry_at, kind_number, left, marked, right};
+ghost use Rattle.cfb_directory.specs.Entries.{AreFree, AreLinked, IsEntry, IsFree, IsKindOf, IsNameOf, IsNamed, MayRefuseChildren, MayRefuseEntry, MayRefuseLinked, MayRefuseLoad, child, class_of, entry_at, first_of, kind_number, left, marked, right, size_of, state_of};
 ghost use Rattle.cfb_bytes.specs.Marks.{set_all};
 ghost use Rattle.cfb_names.specs.Names.{IsName};
 ghost use Rattle.cfb_directory.specs.Walk.{IsTaken, MayRefuseName, unmarked};
@@ -96,19 +96,42 @@ fn read_name(entry: &[u8; 128]) -> Result<Name, DirFault>
     let count = len as usize / 2 - 1;
     let mut units = [0; 32];
     units[0] = count as u8;
-    let mut plain = true;
+    let mut forbidden_at = 0;
     for k in 0..count {
         let unit = read_u16(entry, 2 * k);
         if unit > 127 {
             return Err(DirFault::NameNotAscii);
         }
         units[k + 1] = unit as u8;
-        plain = plain & !is_forbidden(unit as u8);
+        if is_forbidden(unit as u8) {
+            forbidden_at = k + 1;
+        }
     }
-    if plain {
-        return Ok(Name::from_units(units));
+    if forbidden_at != 0 {
+        return Err(DirFault::NameForbidden);
     }
-    Name::new(&units[1..=count])
+    Ok(Name::from_units(units))
+}
+
+/// What an entry says whose name and kind were read.
+fn entry_of(name: Name, kind: EntryKind, entry: &[u8; 128]) -> Entry
+    ensures name { result.name ≡ name }
+    ensures kind { result.kind ≡ kind }
+    ensures class { result.class ≡ class_of entry.now }
+    ensures state { result.state ≡ state_of entry.now }
+    ensures child { result.child ≡ child entry.now }
+    ensures first { result.first ≡ first_of entry.now }
+    ensures size { result.size ≡ size_of entry.now }
+{
+    Entry {
+        name,
+        kind,
+        class: class_of(entry),
+        state: read_u32(entry, 96),
+        child: read_u32(entry, 76),
+        first: read_u32(entry, 116),
+        size: read_u32(entry, 120),
+    }
 }
 
 /// Adds an entry to a list that has room for it.
@@ -203,20 +226,14 @@ impl<'a> Table<'a> {
         ensures valid { IfOk result (λ e. IsName e.name) }
         ensures refused { IfErr result (MayRefuseEntry self.now.directory id) }
     {
-        let name = match self.read_name(id, entry) {
-            Ok(name) => name,
-            Err(fault) => return Err(fault),
-        };
         let kind = kind_of(id, entry[66])?;
-        Ok(Entry {
-            name,
-            kind,
-            class: class_of(entry),
-            state: read_u32(entry, 96),
-            child: read_u32(entry, 76),
-            first: read_u32(entry, 116),
-            size: read_u32(entry, 120),
-        })
+        if id == 0 {
+            return Ok(entry_of(Name::root(), kind, entry));
+        }
+        match read_name(entry) {
+            Ok(name) => Ok(entry_of(name, kind, entry)),
+            Err(fault) => Err(fault),
+        }
     }
 
     /// Finds and marks what links reach from an entry, a parent before what it links to, in lists with room for all entries.

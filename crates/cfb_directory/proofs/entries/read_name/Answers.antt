@@ -1,10 +1,10 @@
-use Rattle.std.proofs.Common.{◌≡◌, ◌<◌, ◌≤◌, ◌+◌, ◌-◌, ◌*◌, ◌/◌, ◌%◌, ℕ, List, drop, take, get_or, replicate, refl, ◌∙◌, ap, sym, subst, arith}
+use Rattle.std.proofs.Common.{◌≡◌, ◌<◌, ◌≤◌, ◌+◌, ◌-◌, ◌*◌, ◌/◌, ◌%◌, ℕ, List, get_or, replicate, refl, ◌∙◌, ap, sym, subst, arith}
 use Rattle.std.proofs.lemmas.Grind.{get_or_tail}
 use Rattle.cfb_bytes.specs.Bytes.{u16_at}
 use Rattle.cfb_directory.specs.Entries.{IsNamed, name_length}
-use Rattle.cfb_names.specs.Names.{name_read}
-use Rattle.cfb_directory.proofs.Reading.{named, unnamed, unit_contained}
-use Rattle.cfb_directory.proofs.Kept.{is_held, named_so, tail_read, tail_room, zeros_at}
+use Rattle.cfb_names.specs.Names.{is_forbidden}
+use Rattle.cfb_directory.proofs.Reading.{unit_contained}
+use Rattle.cfb_directory.proofs.Kept.{is_held, named_so, zeros_at}
 use Rattle.cfb_directory.proofs.entries.read_name.Goals as goal
 
 pub loop-k-init : goal.loop-k-init
@@ -15,6 +15,8 @@ loop-k-init c = record {
   ascii = λ k lt. absurd (omega (arith, lt));
   zeros = λ k le. get_or_tail (c.read_u16-len.result / 2 - 1) (replicate 31 0) (k + 1) 0 (omega arith) ∙ zeros_at 31 (k + 1 - 1);
   allowed = λ p k lt. absurd (omega (arith, lt));
+  below = omega arith;
+  barred = λ lt. absurd (omega (arith, lt));
 }
 
 pub returns-then-unit-gt127-clause-refused : goal.returns-then-unit-gt127-clause-refused
@@ -31,10 +33,10 @@ from_units-requires c =
     is_held c.loop-k.units count c.loop-k.invariant.room few c.loop-k.invariant.count
     (λ k le. c.loop-k.invariant.zeros k (omega (arith, le))) some
     (λ k lt. c.loop-k.invariant.ascii k (omega (arith, lt)))
-    (λ k lt. c.loop-k.invariant.allowed c.if-plain.true k (omega (arith, lt)))
+    (λ k lt. c.loop-k.invariant.allowed (omega arith) k (omega (arith, lt)))
 
-pub returns-then-plain-clause-read : goal.returns-then-plain-clause-read
-returns-then-plain-clause-read c =
+pub returns-clause-read : goal.returns-clause-read
+returns-clause-read c =
     let entry : List ℕ = c.args.entry.now in
     let is : c.read_u16-len.result ≡ name_length entry = c.read_u16-len.ensures in
     let some : 4 ≤ name_length entry = omega arith in
@@ -44,27 +46,15 @@ returns-then-plain-clause-read c =
     subst (IsNamed entry) (sym c.from_units.ensures)
     (named_so entry c.loop-k.units c.loop-k.invariant.room some short (λ k h. c.loop-k.invariant.read k (omega (arith, h))) count even)
 
-pub returns-clause-read : goal.returns-clause-read
-returns-clause-read c =
+pub returns-then-forbidden_at-ne0-clause-refused : goal.returns-then-forbidden_at-ne0-clause-refused
+returns-then-forbidden_at-ne0-clause-refused c =
     let entry : List ℕ = c.args.entry.now in
-    let units : List ℕ = c.loop-k.units in
-    let is : c.read_u16-len.result ≡ name_length entry = c.read_u16-len.ensures in
-    let some : 4 ≤ name_length entry = omega arith in
-    let short : name_length entry ≤ 64 = omega arith in
-    let even : name_length entry % 2 ≡ 0 = ap (λ n. n % 2) (sym is) ∙ c.if-len-ne0.false in
-    let count : c.read_u16-len.result / 2 - 1 + 1 - 1 ≡ name_length entry / 2 - 1 = omega (arith, is) in
-    named entry (drop 1 units) (tail_room entry units c.loop-k.invariant.room some short) some short
-    (tail_read entry units c.loop-k.invariant.room some short (λ k h. c.loop-k.invariant.read k (omega (arith, h)))) c.new.result
-    (c.new.ensures ∙ ap (λ n. name_read (take n (drop 1 units))) count) even
-
-pub returns-clause-refused : goal.returns-clause-refused
-returns-clause-refused c =
-    let entry : List ℕ = c.args.entry.now in
-    let units : List ℕ = c.loop-k.units in
-    let is : c.read_u16-len.result ≡ name_length entry = c.read_u16-len.ensures in
-    let some : 4 ≤ name_length entry = omega arith in
-    let short : name_length entry ≤ 64 = omega arith in
-    let count : c.read_u16-len.result / 2 - 1 + 1 - 1 ≡ name_length entry / 2 - 1 = omega (arith, is) in
-    unnamed entry (drop 1 units) (tail_room entry units c.loop-k.invariant.room some short) some short
-    (tail_read entry units c.loop-k.invariant.room some short (λ k h. c.loop-k.invariant.read k (omega (arith, h)))) c.new.result
-    (c.new.ensures ∙ ap (λ n. name_read (take n (drop 1 units))) count)
+    let k : ℕ = c.loop-k.forbidden_at - 1 in
+    let n : k + 1 ≡ c.loop-k.forbidden_at = omega arith in
+    let lt : k < name_length entry / 2 - 1 = omega (arith, c.read_u16-len.ensures, c.loop-k.invariant.below) in
+    let some : 0 < c.loop-k.forbidden_at = omega arith in
+    let here : k < c.loop-k.k = omega (arith, c.loop-k.invariant.below) in (
+      u16_at entry (2 * k),
+      unit_contained entry k lt,
+      ap is_forbidden (sym (c.loop-k.invariant.read k here)) ∙ ap (λ j. is_forbidden (get_or c.loop-k.units j 0)) n ∙ c.loop-k.invariant.barred some,
+    )
