@@ -7,7 +7,7 @@ ghost use Rattle.cfb_header.specs.Header.{header_read};
 ghost use Rattle.file_model.specs.Alike.{Alike};
 ghost use Rattle.file_model.specs.Denotes.{Denotes};
 ghost use Rattle.std.specs.List.{range_with_len};
-ghost use Rattle.std.specs.Prelude.{◌*◌, ◌+◌, ◌/◌, ◌≡◌, ◌≤◌, IfOk, IfSome, List, Ok, drop, length, map, take, true, ℕ};
+ghost use Rattle.std.specs.Prelude.{◌*◌, ◌+◌, ◌/◌, ◌≡◌, ◌≤◌, IfOk, IfSome, List, Ok, length, map, take, true, ℕ};
 ghost use Rattle.storage_tree.specs.Tree.{Tree};
 ghost use Rattle.stream_seeking.specs.Chains.{walked};
 ghost use Rattle.stream_seeking.specs.Tables.{AreTablesOf, minis_read, read_by};
@@ -110,14 +110,6 @@ fn is_one_run(len: usize, mini_fat: &[u8], place: Place) -> bool
     are_in_a_row(mini_fat, place.first, count_minis(place))
 }
 
-/// So many of some bytes from a place on.
-fn part_of(bytes: &Bytes, alloc: Global, start: usize, len: usize) -> Result<Bytes, AllocError>
-    requires { start + len ≤ length bytes.now }
-    ensures { IfOk result (λ b. b ≡ take len (drop start bytes.now)) }
-{
-    Bytes::from_slice(alloc, &bytes.as_slice()[start..start + len])
-}
-
 /// A copy of the bytes of a stream that lies in mini sectors, given those of the mini stream and of the mini FAT.
 fn copy_short(
     alloc: Global,
@@ -154,7 +146,7 @@ fn read_short(
 {
     if is_one_run(mini_stream.len(), mini_fat, place) {
         let start = 64 * place.first as usize;
-        let part = part_of(mini_stream, alloc, start, place.size as usize)?;
+        let part = mini_stream.part(alloc, start, place.size as usize)?;
         return Ok(part);
     }
     let copy = copy_short(alloc, mini_stream.as_slice(), mini_fat, place)?;
