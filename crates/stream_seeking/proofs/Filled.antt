@@ -39,7 +39,7 @@ block_plus m n bytes at =
     block_is (m + n) bytes at ∙ pad_plus m n (drop at bytes) ∙ ap (λ ys. pad m (drop at bytes) ++ pad n ys) (drop-drop m at bytes)
     ∙ (λ i. sym (block_is m bytes at) i ++ sym (block_is n bytes (at + m)) i)
 
-block_none : (bytes : List ℕ) (at : ℕ) → block 0 bytes at ≡ []
+pub block_none : (bytes : List ℕ) (at : ℕ) → block 0 bytes at ≡ []
 block_none bytes at = block_is 0 bytes at
 
 -- the front of a block is a block

@@ -7,3 +7,4 @@ pub mod Placing
 pub mod Shown
 pub mod Alike
 pub mod Tabled
+pub mod Rows

@@ -2,7 +2,8 @@
 
 ghost use Rattle.cfb_chain.specs.Fat.{followed};
 ghost use Rattle.cfb_header.specs.Bytes.{block, joined, sector, u32_at};
-ghost use Rattle.std.specs.Prelude.{◌*◌, ◌++◌, ◌<◌, ◌≡◌, ◌≤◌, IfOk, List, OnOk, length, map, ℕ};
+ghost use Rattle.std.specs.List.{range_with_len};
+ghost use Rattle.std.specs.Prelude.{◌*◌, ◌++◌, ◌<◌, ◌≡◌, ◌≤◌, IfOk, List, OnOk, length, map, true, ℕ};
 ghost use Rattle.stream_seeking.specs.Chains.{begins_at, walked};
 
 use cfb_bytes::numbers::read_u32;
@@ -78,6 +79,24 @@ pub(crate) fn follow_minis(
         at = number(mini_fat, at);
     }
     Ok(minis)
+}
+
+/// Whether so many mini sectors from one on follow one another, each at the next number.
+pub(crate) fn are_in_a_row(mini_fat: &[u8], first: u32, count: usize) -> bool
+    requires whole { (m : ℕ) × (length mini_fat.now ≡ 4 * m) }
+    ensures { result ≡ true → walked (λ n. u32_at mini_fat.now (4 * n)) first count ≡ range_with_len first count }
+{
+    let mut at = first;
+    let mut left = count;
+    while left > 1 {
+        let next = number(mini_fat, at);
+        if next as usize != at as usize + 1 {
+            return false;
+        }
+        at = next;
+        left -= 1;
+    }
+    true
 }
 
 /// Where a mini sector begins in the file, given the sectors of the mini stream; 0 past their end.

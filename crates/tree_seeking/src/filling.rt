@@ -14,7 +14,6 @@ use file_outline::outline::{Outline, Part};
 use file_places::source::Source;
 use std::alloc::{AllocError, Global};
 use std::collections::BTreeMap;
-use storage_tree::bytes::Bytes;
 use storage_tree::storage::{Node, Storage};
 use stream_seeking::fault::SeekFault;
 use stream_seeking::tables::{Tables, read_place};
@@ -79,7 +78,7 @@ fn node_at<S: Source>(
     match part {
         Part::Stream(place) => {
             let bytes = read_place(alloc, source, tables, *place)?;
-            Ok(Node::Stream(Bytes::from_vec(alloc, bytes)?))
+            Ok(Node::Stream(bytes))
         }
         Part::Storage(outline) => {
             let inner = storage_at(alloc, source, tables, outline)?;

@@ -55,8 +55,9 @@ fn fill<S: Source>(
     Ok(root)
 }
 
-/// The root of the tree that a compound file denotes. Of the file it reads what its listing needs, the mini stream, and each
-/// long stream right into the memory where the tree has it; the file itself is never held.
+/// The root of the tree that a compound file denotes. Of the file it reads what its listing needs, the mini stream, of whose
+/// memory the short streams are parts, and each long stream right into the memory where the tree has it; the file itself is
+/// never held.
 ///
 /// Refused: `Input` where a read fails, for more than 134,217,728 bytes, and for want of memory; `Read` where the bytes denote
 /// no tree.
