@@ -167,7 +167,8 @@ impl Bytes {
         })
     }
 
-    /// So many of these bytes from a place on, which share the memory of these and take none.
+    /// So many of these bytes from a place on, which share the memory of these and take none. All of that memory is kept as
+    /// long as a part of it is there.
     ///
     /// Refused: where there are too many copies to be counted.
     pub fn part(&self, alloc: Global, start: usize, len: usize) -> Result<Bytes, AllocError>
