@@ -33,8 +33,9 @@ fn of_sending(fault: SendFault) -> CleanFault
 }
 
 /// Writes a compound file of the tree that a compound file holds, and gives its length. Nothing else of the file is
-/// looked at: what stands in free sectors, behind a stream's end or in entries without a link is left behind. A long stream is
-/// held once, as the tree has it, and a short one once more, in the mini stream that it is read from or written in.
+/// looked at: what stands in free sectors, behind a stream's end or in entries without a link is left behind. Each stream is held
+/// once: a long one in memory of its own, the short ones in that of the mini stream, which is read at once. A short one that lies
+/// scattered in it is copied.
 ///
 /// Refused: as `clean_file`. Nothing is written then. `Unwritable` where a write fails.
 pub fn clean_source<S: Source, W: Write>(
