@@ -1,12 +1,13 @@
 //! Entries of the directory (MS-CFB 2.6).
 
-ghost use Rattle.cfb_directory.specs.Entries.{AreFree, AreLinked, IsEntry, IsFree, IsKindOf, IsNameOf, IsNamed, MayRefuseChildren, MayRefuseEntry, MayRefuseLinked, MayRefuseLoad, child, class_of, entry_at, first_of, kind_number, left, marked, right, size_of, state_of};
+ghost use Rattle.cfb_directory.specs.Entries.{AreFree, AreLinked, IsEntry, IsFree, IsKindOf, IsNameOf, IsNamed, MayRefuseChildren, MayRefuseEntry, MayRefuseLinked, MayRefuseLoad, child, class_of, entry_at, first_of, kind_number, left, marked, name_length, right, size_of, state_of};
 ghost use Rattle.cfb_bytes.specs.Marks.{set_all};
-ghost use Rattle.cfb_names.specs.Names.{IsName};
+ghost use Rattle.cfb_bytes.specs.Bytes.{u16_at};
+ghost use Rattle.cfb_names.specs.Names.{IsName, is_forbidden};
 ghost use Rattle.cfb_directory.specs.Walk.{IsTaken, MayRefuseName, unmarked};
 ghost use Rattle.cfb_names.specs.declared.fault.DirFault.TheVariants.{BadEntry, NoMemory};
 ghost use Rattle.std.specs.List.{All};
-ghost use Rattle.std.specs.Prelude.{◌≡◌, ◌<◌, ◌≤◌, ◌*◌, ◌/◌, ◌∷◌, ◌++◌, [], false, replicate, length, vec_capacity, vec_len, IfErr, IfOk, OnErr, OnOk};
+ghost use Rattle.std.specs.Prelude.{◌≡◌, ◌<◌, ◌≤◌, ◌*◌, ◌/◌, ◌-◌, ◌∷◌, ◌++◌, [], false, true, replicate, length, vec_capacity, vec_len, IfErr, IfOk, OnErr, OnOk};
 
 use crate::bytes::{ENTRY_LEN, entry_bytes, entry_u32, whole_entry};
 use cfb_bytes::numbers::{read_u16, read_u32};
@@ -77,6 +78,23 @@ fn class_of(entry: &[u8; 128]) -> [u8; 16]
     class
 }
 
+/// What a name is refused for that has a forbidden character at a place, and none past ASCII before it: one past
+/// ASCII behind it goes first.
+fn forbidden_name(entry: &[u8; 128], count: usize, at: usize) -> DirFault
+    requires short { count ≤ 31 }
+    requires count { count ≡ name_length entry.now / 2 - 1 }
+    requires inside { at < count }
+    requires forbidden { is_forbidden (u16_at entry.now (2 * at)) ≡ true }
+    ensures { MayRefuseName entry.now result }
+{
+    for k in at + 1..count {
+        if read_u16(entry, 2 * k) > 127 {
+            return DirFault::NameNotAscii;
+        }
+    }
+    DirFault::NameForbidden
+}
+
 /// The name of an entry.
 fn read_name(entry: &[u8; 128]) -> Result<Name, DirFault>
     ensures read { IfOk result (IsNamed entry.now) }
@@ -96,19 +114,15 @@ fn read_name(entry: &[u8; 128]) -> Result<Name, DirFault>
     let count = len as usize / 2 - 1;
     let mut units = [0; 32];
     units[0] = count as u8;
-    let mut forbidden_at = 0;
     for k in 0..count {
         let unit = read_u16(entry, 2 * k);
         if unit > 127 {
             return Err(DirFault::NameNotAscii);
         }
-        units[k + 1] = unit as u8;
         if is_forbidden(unit as u8) {
-            forbidden_at = k + 1;
+            return Err(forbidden_name(entry, count, k));
         }
-    }
-    if forbidden_at != 0 {
-        return Err(DirFault::NameForbidden);
+        units[k + 1] = unit as u8;
     }
     Ok(Name::from_units(units))
 }

@@ -14,9 +14,7 @@ loop-k-init c = record {
   read = λ k lt. absurd (omega (arith, lt));
   ascii = λ k lt. absurd (omega (arith, lt));
   zeros = λ k le. get_or_tail (c.read_u16-len.result / 2 - 1) (replicate 31 0) (k + 1) 0 (omega arith) ∙ zeros_at 31 (k + 1 - 1);
-  allowed = λ p k lt. absurd (omega (arith, lt));
-  below = omega arith;
-  barred = λ lt. absurd (omega (arith, lt));
+  allowed = λ k lt. absurd (omega (arith, lt));
 }
 
 pub returns-then-unit-gt127-clause-refused : goal.returns-then-unit-gt127-clause-refused
@@ -33,7 +31,7 @@ from_units-requires c =
     is_held c.loop-k.units count c.loop-k.invariant.room few c.loop-k.invariant.count
     (λ k le. c.loop-k.invariant.zeros k (omega (arith, le))) some
     (λ k lt. c.loop-k.invariant.ascii k (omega (arith, lt)))
-    (λ k lt. c.loop-k.invariant.allowed (omega arith) k (omega (arith, lt)))
+    (λ k lt. c.loop-k.invariant.allowed k (omega (arith, lt)))
 
 pub returns-clause-read : goal.returns-clause-read
 returns-clause-read c =
@@ -46,15 +44,5 @@ returns-clause-read c =
     subst (IsNamed entry) (sym c.from_units.ensures)
     (named_so entry c.loop-k.units c.loop-k.invariant.room some short (λ k h. c.loop-k.invariant.read k (omega (arith, h))) count even)
 
-pub returns-then-forbidden_at-ne0-clause-refused : goal.returns-then-forbidden_at-ne0-clause-refused
-returns-then-forbidden_at-ne0-clause-refused c =
-    let entry : List ℕ = c.args.entry.now in
-    let k : ℕ = c.loop-k.forbidden_at - 1 in
-    let n : k + 1 ≡ c.loop-k.forbidden_at = omega arith in
-    let lt : k < name_length entry / 2 - 1 = omega (arith, c.read_u16-len.ensures, c.loop-k.invariant.below) in
-    let some : 0 < c.loop-k.forbidden_at = omega arith in
-    let here : k < c.loop-k.k = omega (arith, c.loop-k.invariant.below) in (
-      u16_at entry (2 * k),
-      unit_contained entry k lt,
-      ap is_forbidden (sym (c.loop-k.invariant.read k here)) ∙ ap (λ j. is_forbidden (get_or c.loop-k.units j 0)) n ∙ c.loop-k.invariant.barred some,
-    )
+pub forbidden_name-requires-clause-forbidden : goal.forbidden_name-requires-clause-forbidden
+forbidden_name-requires-clause-forbidden c = ap is_forbidden (sym c.read_u16-unit.ensures) ∙ sym c.is_forbidden.ensures ∙ c.if-is_forbidden.true

@@ -1,4 +1,4 @@
-use Rattle.std.proofs.Common.{◌≡◌, ◌<◌, ◌≤◌, ◌+◌, ◌*◌, ℕ, false, true, get_or, length}
+use Rattle.std.proofs.Common.{◌≡◌, ◌<◌, ◌≤◌, ◌+◌, ◌*◌, ℕ, false, get_or, length}
 use Rattle.cfb_bytes.specs.Bytes.{u16_at}
 use Rattle.cfb_names.specs.Names.{is_forbidden}
 use Rattle.cfb_directory.proofs.entries.read_name.Given as goal
@@ -10,7 +10,5 @@ invariant-loop-k l = record {
   read : (k : ℕ) → k < l.k → get_or l.units (k + 1) 0 ≡ u16_at l.entry (2 * k);
   ascii : (k : ℕ) → k < l.k → get_or l.units (k + 1) 0 < 128;
   zeros : (k : ℕ) → l.k ≤ k → get_or l.units (k + 1) 0 ≡ 0;
-  allowed : l.forbidden_at ≡ 0 → (k : ℕ) → k < l.k → is_forbidden (get_or l.units (k + 1) 0) ≡ false;
-  below : l.forbidden_at ≤ l.k;
-  barred : 0 < l.forbidden_at → is_forbidden (get_or l.units l.forbidden_at 0) ≡ true;
+  allowed : (k : ℕ) → k < l.k → is_forbidden (get_or l.units (k + 1) 0) ≡ false;
 }
