@@ -17,6 +17,17 @@ returns-in-Ok-None-clause-leaves c none =
     let g = (rw c.in-Ok-None.field-0-is at c.in-Ok-None.ensures.grows) all c.in-Ok.ensures in
     leaves_on c.args.waiting.now.items c.feed_body.new.waiting.items (held ++ piece) (all ++ c.split_at.result.1.now) c.of_body.result _ g.0 c.of_body.ensures (few_parts held piece all c.split_at.result.1.now n front c.split_at.ensures.back) g.1 g.2
 
+pub returns-in-Ok-Some-clause-leaves : goal.returns-in-Ok-Some-clause-leaves
+returns-in-Ok-Some-clause-leaves c none =
+    let held : List ℕ = c.args.held.now.front in
+    let piece : List ℕ = c.args.piece.now in
+    let n : ℕ = c.with-more.result.1 in
+    let all : List ℕ = c.as_slice-in-Ok-Partial.result.now in
+    let front : all ≡ held ++ take n piece = c.as_slice-in-Ok-Partial.ensures ∙ ap (λ (r : Rest). r.front) c.with-more.ensures.bytes in
+    let g = (rw c.in-Ok-Some.field-0-is at c.in-Ok-Some.ensures.grows) all c.in-Ok.ensures in
+    subst (λ (bytes : List ℕ). Leaves c.args.waiting.now.items c.feed_body.new.waiting.items bytes c.in-Ok-Some.taken.0 c.in-Ok-Some.taken.1)
+    (few_parts held piece all c.split_at.result.1.now n front c.split_at.ensures.back) g
+
 pub returns-in-Ok-Whole-clause-leaves : goal.returns-in-Ok-Whole-clause-leaves
 returns-in-Ok-Whole-clause-leaves c =
     let held : List ℕ = c.args.held.now.front in
