@@ -1,0 +1,4 @@
+use Rattle.script_run.proofs.opens.open.Goals as goal
+
+pub returns-in-Ok-None-clause-told : goal.returns-in-Ok-None-clause-told
+returns-in-Ok-None-clause-told g c = c.read.ensures.told c.args.core.now c.requires
