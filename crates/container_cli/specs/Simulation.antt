@@ -30,8 +30,8 @@ abbrev pub world_text : World → ℕ → Option Stop → List ℕ
 world_text w taken stop = answer_lines 1 w.answers ++ report w ++ stop_text taken stop
 
 -- The text of a run of events, from the world in which nothing has happened. The world that it reached is safe: no call
--- acted twice, no two activations have one frame's grant, no save was counted twice, both sides counted one content, and the
--- files hold what was counted.
+-- acted twice, no save was counted twice, and the files hold what was counted; and of servers of which no message was forged
+-- no two activations have one frame's grant, and both sides counted one content.
 pub record IsSimulated (numbers : ℕ) (stock : List Kind) (events : List Event) (stop : Option Stop) (out : List ℕ) : Type 0 where
   pub taken : ℕ
   pub w : World

@@ -44,7 +44,7 @@ pub trait Folder {
 
     /// Makes an entry, whose own folder is there.
     ///
-    /// Refused: `Exists` where something stands there; `Unwritable`; `NoMemory`. Nothing is made then.
+    /// Refused: `Exists` where something stands there; `Unwritable`; `NoMemory`. What is known to be made stays as it was then.
     fn make(&mut self, entry: &Entry) -> Result<(), FolderFault>
         ensures made { OnOk result (Adds (made self.old) (made self.new) (entry.now ∷ [])) }
         ensures kept { OnErr result (made self.new ≡ made self.old) };

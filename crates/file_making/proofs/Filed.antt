@@ -24,7 +24,7 @@ use Rattle.file_model.specs.declared.fault.WriteFault.TheVariants.{TooBig}
 use Rattle.file_model.proofs.LeastFat.{covers}
 use Rattle.file_layout.specs.Directory.{AreSpelled, IsSpelled}
 use Rattle.file_layout.proofs.Contents.{image-denotes}
-use Rattle.file_writer.specs.Laid.{file_of}
+use Rattle.file_writer.specs.Laid.{IsLaidOut, file_of}
 use Rattle.file_writer.specs.Sending.{MayRefuseSend, WritesFile}
 use Rattle.file_writer.specs.declared.sending.SendFault.{SendFault}
 use Rattle.file_writer.specs.declared.sending.SendFault.TheVariants as send
@@ -204,6 +204,7 @@ file_made text k is whole fits =
           few = few-sectors t fits;
           covered = covers (data_sectors t);
         }));
+        laid_out = refl;
       },
     )
 
@@ -211,7 +212,12 @@ file_made text k is whole fits =
 makes : (text : List ℕ) (k : Kept) (t : Tree) (old new : Option (List ℕ)) (count : ℕ) → described text ≡ Ok k → t ≡ k.now → ∥ IsTree 32 t ∥₁ → WritesFile t old new count → Makes text old new count
 makes text k t old new count is same whole sent = record {
   file = sent.file;
-  made = record { k = k; describes = is; denotes = subst (λ x. ∥ Denotes sent.file x ∥₁) same (sent.denotes whole) };
+  made = record {
+    k = k;
+    describes = is;
+    denotes = subst (λ x. ∥ Denotes sent.file x ∥₁) same (sent.denotes whole);
+    laid_out = subst (λ x. IsLaidOut x sent.file) same sent.laid_out;
+  };
   written = sent.written;
   counted = sent.counted;
 }

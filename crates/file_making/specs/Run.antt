@@ -4,16 +4,18 @@ use Rattle.std.specs.Io.KnownBytes.{Appends}
 use Rattle.storage_tree.specs.Kept.{Kept}
 use Rattle.file_model.specs.Denotes.{Denotes}
 use Rattle.file_model.specs.Refusals.{writable, Refuses}
+use Rattle.file_writer.specs.Laid.{IsLaidOut}
 use Rattle.texts.specs.Input.{MayRefuseInput}
 use Rattle.file_making.specs.Description.{described, RefusesDescription}
 use Rattle.file_making.specs.declared.fault.MakeFault.{MakeFault}
 use Rattle.file_making.specs.declared.fault.MakeFault.TheVariants as make
 
--- the file denotes the tree that the text describes
+-- the file denotes the tree that the text describes, and nothing else stands in it
 pub record IsMade (text file : List ℕ) : Type 0 where
   pub k : Kept
   pub describes : described text ≡ Ok k
   pub denotes : ∥ Denotes file k.now ∥₁
+  pub laid_out : IsLaidOut k.now file
 
 -- such a file was written, of so many bytes
 pub record Makes (text : List ℕ) (old new : Option (List ℕ)) (count : ℕ) : Type 0 where

@@ -8,6 +8,7 @@ use Rattle.storage_tree.specs.declared.fault.TreeFault.{TreeFault}
 use Rattle.storage_tree.specs.declared.fault.TreeFault.TheVariants.{NoMemory}
 use Rattle.file_model.specs.Denotes.{Denotes}
 use Rattle.file_model.specs.Refusals.{writable, Refuses}
+use Rattle.file_writer.specs.Laid.{IsLaidOut}
 use Rattle.file_folders.specs.declared.plan.Content.{Content}
 use Rattle.file_folders.specs.declared.plan.Content.TheVariants.{Folder, File}
 use Rattle.folder_packing.specs.declared.packing.Found.{Found}
@@ -31,12 +32,13 @@ abbrev pub packed : List Found → Kept → Result Kept TreeFault
 packed [] k = Ok k
 packed (item ∷ items) k = on_ok (packed items) (put_found item k)
 
--- a file of the tree of what was found was written, of so many bytes
+-- a file of the tree of what was found was written, of so many bytes, and nothing else stands in it
 pub record Packs (class : List ℕ) (state : ℕ) (found : List Found) (old new : Option (List ℕ)) (count : ℕ) : Type 0 where
   pub k : Kept
   pub holds : packed found (root class state) ≡ Ok k
   pub file : List ℕ
   pub denotes : ∥ Denotes file k.now ∥₁
+  pub laid_out : IsLaidOut k.now file
   pub written : Appends old new file
   pub counted : count ≡ length file
 

@@ -14,6 +14,7 @@ returns-in-Ok-write_all-clause-packed g c = record {
   holds = ap (λ k. packed c.args.found.items k) (sym c.new-tree.ensures) ∙ c.in-Ok.ensures.put;
   file = c.in-Ok-write_file.file.items;
   denotes = c.in-Ok-write_file.ensures.denotes;
+  laid_out = c.in-Ok-write_file.ensures.laid_out;
   written = subst (λ b. Appends (g.W.Write.contents c.args.writer.now) (g.W.Write.contents c.write_all.new.writer) b) c.deref.ensures.value c.in-Ok-write_all.ensures;
   counted = search rules;
 }
