@@ -1,5 +1,6 @@
 //! Saves: the file of a frame whose commit is asked for goes to a disk of the host, and the container is told what became of it.
-//! It goes into the sectors that the disk's document has, so that few blocks are written; what that frees is zeroed.
+//! It goes into the sectors that the disk's document has, so that few blocks are written; what that frees is zeroed. That these
+//! are few, and zero, is tested.
 
 ghost use Rattle.container_model.specs.Record.{Record};
 ghost use Rattle.doc_store.specs.Opened.{disk_of, needs_reopen_of};

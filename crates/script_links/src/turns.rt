@@ -184,7 +184,7 @@ fn turn<H: Host>(
     Ok(())
 }
 
-/// Turns, until nothing is pending on a link that isn't held.
+/// Turns, until nothing is pending on a link that isn't held, which is tested and in no clause.
 ///
 /// Refused: `Stalled` where something is pending after 1,000 turns.
 pub fn turns<H: Host>(
