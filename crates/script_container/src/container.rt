@@ -6,7 +6,7 @@ ghost use Rattle.document_model.specs.declared.object.DocObject.{DocObject};
 ghost use Rattle.script_model.specs.Bounds.{pace};
 ghost use Rattle.script_model.specs.Events.{running};
 ghost use Rattle.script_model.specs.Orders.{orders};
-ghost use Rattle.script_model.specs.Origins.{AreNext, giving, passed};
+ghost use Rattle.script_model.specs.Origins.{AreNext, IsJustEnded, giving, passed};
 ghost use Rattle.script_model.specs.Saved.{IsLost, IsReadFrom, IsSaved};
 ghost use Rattle.script_model.specs.declared.step.Step.TheVariants as given;
 ghost use Rattle.script_container.specs.Beside.{beside};
@@ -163,14 +163,15 @@ pub fn opened<H: Host>(
     noted(host, told)
 }
 
-/// Tells the container the end of a server.
+/// Tells the container the end of a server, which the last call ended.
 pub fn reap<H: Host>(
     alloc: Global,
     host: &mut H,
     core: &mut ContainerCore,
     inc: u32,
 ) -> Result<Answer, ContainerFault>
-    requires { IsTold ⟦<H::Disk as Disk>⟧ (H.told host.old) core.old }
+    requires told { IsTold ⟦<H::Disk as Disk>⟧ (H.told host.old) core.old }
+    requires ended { IsJustEnded inc (H.told host.old) }
     ensures told { IsTold ⟦<H::Disk as Disk>⟧ (H.told host.new) core.new }
     ensures still { (s : ℕ) → running s (H.told host.new) ≡ running s (H.told host.old) }
     ensures quiet { (s : ℕ) → passed s (H.told host.new) ≡ passed s (H.told host.old) }
