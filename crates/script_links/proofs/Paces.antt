@@ -7,7 +7,7 @@ use Rattle.container_model.specs.Record.{Record}
 use Rattle.store_model.specs.declared.disk.Disk.{Ghosts as Disks}
 use Rattle.script_links.specs.Links.{AreLinked, links_of}
 use Rattle.script_links.specs.Ready.{AreDue, AreReady, GoesOn, HadTurn, HasLeft, HaveHad, IsReady, IsUnderway, MayLink, pace_beside}
-use Rattle.script_links.specs.Told.{IsTold}
+use Rattle.script_container.specs.Told.{IsTold}
 use Rattle.script_links.specs.declared.links.Link.{Link}
 use Rattle.script_links.proofs.Served.{none_left, not_this, with_this}
 

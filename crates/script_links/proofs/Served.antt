@@ -16,7 +16,7 @@ use Rattle.script_model.specs.Events.{Event, Started, Connected, Heard, Ended, r
 use Rattle.script_model.specs.Origins.{AreFirst, AreNext, Begins, Passed, fresh, giving, hearing, messages_of, passed, relinked, unlinked}
 use Rattle.script_links.specs.Links.{AreLinked, AreServed, EachServed, IsServed, beside, links_of}
 use Rattle.script_links.specs.declared.links.Link.{Link}
-use Rattle.script_links.proofs.Given.{links_removed}
+use Rattle.script_links.proofs.Linked.{links_removed}
 
 -- ---- frames
 

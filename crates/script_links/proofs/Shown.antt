@@ -1,74 +1,20 @@
--- What a history shows of an error, and which links hold what comes.
-use Rattle.std.proofs.Common.{◌≡◌, inl, inr, ◌≤◌, ◌<◌, ◌+◌, ◌==◌, ◌&&◌, ℕ, zero, suc, Bool, true, false, List, [], ◌∷◌, length, remove, if◌then◌else◌, Option, Some, None, Result, Ok, Err, IfErr, refl, sym, ap, ◌∙◌, subst, arith, slice_index_or, slice_set}
+-- Which calls a history shows as not answered, and which links hold what comes.
+use Rattle.std.proofs.Common.{◌≡◌, ◌≤◌, ◌<◌, ◌+◌, ◌==◌, ◌&&◌, ℕ, zero, suc, Bool, true, false, List, [], ◌∷◌, length, remove, if◌then◌else◌, Option, Some, None, refl, sym, ap, ◌∙◌, subst, arith, slice_index_or, slice_set}
 use Rattle.std.specs.Prelude.{◌||◌, is_some}
-use Rattle.std.specs.Result.{IsErrAnd}
 use Rattle.std.proofs.lemmas.Bool.{eq-eqb}
-use Rattle.wire_msgs.specs.Found.{nth}
 use Rattle.container_model.specs.Record.{Record}
-use Rattle.container_model.specs.declared.record.Frame.{Frame}
 use Rattle.container_model.specs.declared.record.Link.{Link as Activation}
 use Rattle.container_model.specs.declared.record.Object.{Object}
-use Rattle.container_model.specs.Saves.{image as image_of}
 use Rattle.store_model.specs.declared.disk.Disk.{Ghosts as Disks}
 use Rattle.script_model.specs.Bounds.{pace}
-use Rattle.script_model.specs.Errors.{IsMissing, IsUnanswered, IsUnknown, IsUnopened, asks, is_asked}
-use Rattle.script_model.specs.Events.{Event, Opened, Shut}
-use Rattle.script_model.specs.Saved.{file_name}
+use Rattle.script_model.specs.Errors.{IsUnanswered, asks, is_asked}
+use Rattle.script_model.specs.Events.{Event}
+use Rattle.script_container.specs.Told.{IsTold}
 use Rattle.script_links.specs.Links.{AreLinked, HoldFor, links_of}
 use Rattle.script_links.specs.Ready.{AreDue}
-use Rattle.script_links.specs.Shown.{AreAsked, Shows, pending_of}
-use Rattle.script_links.specs.Told.{IsImage, IsTold}
-use Rattle.script_links.specs.declared.fault.ScriptFault.{ScriptFault}
-use Rattle.script_links.specs.declared.fault.ScriptFault.TheVariants as fault
+use Rattle.script_links.specs.Shown.{AreAsked, pending_of}
 use Rattle.script_links.specs.declared.links.Link.{Link}
 use Rattle.script_links.proofs.Paces.{one_past}
-
--- ---- errors
-
--- want of memory alone
-pub memory_shown : {A D : Type 0} (r : Result A ScriptFault) (es : List (Event D)) → IfErr r (λ e. e ≡ fault.NoMemory) → IfErr r (λ e. Shows es e)
-memory_shown (Ok x) es lacking = tt
-memory_shown (Err e) es lacking = subst (λ (x : ScriptFault). Shows es x) (sym lacking) tt
-
--- an error that is handed on
-pub passed_on : {X D : Type 0} (r : Result X ScriptFault) (e : ScriptFault) (es : List (Event D)) → IsErrAnd r (λ x. x ≡ e) → Shows es e → IfErr r (λ x. Shows es x)
-passed_on (Ok x) e es is shown = tt
-passed_on (Err x) e es is shown = subst (λ (f : ScriptFault). Shows es f) (sym is) shown
-
-pub memory_on : {X D : Type 0} (r : Result X ScriptFault) (es : List (Event D)) → IsErrAnd r (λ x. x ≡ fault.NoMemory) → IfErr r (λ x. Shows es x)
-memory_on r es is = passed_on r fault.NoMemory es is tt
-
-pub lacking_on : {X D : Type 0} (r : Result X ScriptFault) (e : ScriptFault) (es : List (Event D)) → IsErrAnd r (λ x. x ≡ e) → e ≡ fault.NoMemory → IfErr r (λ x. Shows es x)
-lacking_on r e es is lacking = passed_on r e es is (subst (λ (f : ScriptFault). Shows es f) (sym lacking) tt)
-
--- want of memory, where nothing else is told
-pub lacks : {X : Type 0} (r : Result X ScriptFault) → IsErrAnd r (λ x. x ≡ fault.NoMemory) → IfErr r (λ x. x ≡ fault.NoMemory)
-lacks (Ok x) is = tt
-lacks (Err x) is = is
-
-pub lacks_on : {X : Type 0} (r : Result X ScriptFault) (e : ScriptFault) → IsErrAnd r (λ x. x ≡ e) → e ≡ fault.NoMemory → IfErr r (λ x. x ≡ fault.NoMemory)
-lacks_on (Ok x) e is lacking = tt
-lacks_on (Err x) e is lacking = is ∙ lacking
-
--- ---- saves
-
-pub missing_twice : {D : Type 0} (name : List ℕ) (es after : List (Event D)) → IsMissing name es → after ≡ Opened name None ∷ es → IsUnopened name after
-missing_twice name es after missing twice = inl (missing.0, twice ∙ ap (λ h. Opened name None ∷ h) missing.1)
-
-pub given_back : {X E D : Type 0} (r : Result X E) (name : List ℕ) (es mid after : List (Event D)) (given disk : D) → mid ≡ Opened name (Some given) ∷ es → after ≡ Shut name disk ∷ mid → IfErr r (λ e. IsUnopened name after)
-given_back (Ok x) name es mid after given disk opened shut = tt
-given_back (Err e) name es mid after given disk opened shut = inr (given, disk, es, shut ∙ ap (λ h. Shut name disk ∷ h) opened)
-
-pub unknown_by : {D : Type 0} {disks : Disks D} (es : List (Event D)) (r : Record) (f : ℕ) (frame : Frame) (name bytes : List ℕ) → IsTold disks es r → IsUnopened name es → nth r.frames f ≡ Some frame → name ≡ file_name frame → IsImage r f bytes → IsUnknown es name
-unknown_by es r f frame name bytes t last found named image = record {
-  f = f;
-  frame = frame;
-  found = ap (λ (q : Record). nth q.frames f) t.recorded ∙ found;
-  named = named;
-  parts = image.0;
-  counted = ap (λ (q : Record). image_of q f) t.recorded ∙ image.1;
-  last = last;
-}
 
 -- ---- calls that aren't answered
 

@@ -1,4 +1,4 @@
 pub mod Links
 pub mod Ready
-pub mod Told
+pub use Rattle.script_container.specs.Told
 pub mod Shown

@@ -5,7 +5,8 @@ use Rattle.message_bytes.specs.Fronts.{Stands}
 use Rattle.message_model.specs.declared.frame.Frame.{Frame}
 use Rattle.wire_msgs.specs.declared.message.Message.{Message}
 use Rattle.script_model.specs.Events.{Event, running}
-use Rattle.script_model.specs.Origins.{AreFirst, Passed, messages_of, passed, unlinked}
+use Rattle.script_model.specs.Origins.{AreFirst, Passed, messages_of, passed}
+pub use Rattle.script_container.specs.Beside.{beside}
 use Rattle.script_links.specs.declared.links.Link.{Link}
 
 -- how many of these links are a server's
@@ -37,10 +38,6 @@ EachServed f ls = AllByRecursion (λ (l : Link). IsServed (f l.inc) l []) ls
 
 abbrev pub AreServed : {D : Type 0} → List (Event D) → List Link → Type 0
 AreServed es ls = EachServed (λ s. passed s es) ls
-
--- what passed between a server and the container, but for one server
-abbrev pub beside : {D : Type 0} → ℕ → ℕ → List (Event D) → Passed
-beside inc s es = if inc == s then unlinked else passed s es
 
 -- Of the server of each link that holds what comes, this is true.
 abbrev pub HoldFor : (ℕ → Bool) → List Link → Type 0

@@ -7,19 +7,20 @@ ghost use Rattle.script_model.specs.Orders.{orders};
 ghost use Rattle.script_model.specs.Origins.{AreHeard};
 ghost use Rattle.script_model.specs.Saved.{AreOpened, AreSaved};
 ghost use Rattle.script_model.specs.Turns.{AreTurns};
+ghost use Rattle.script_container.specs.Shown.{Shows};
+ghost use Rattle.script_container.specs.Told.{IsTold};
 ghost use Rattle.script_links.specs.Links.{AreLinked, AreServed, HoldFor, links_of};
 ghost use Rattle.script_links.specs.Ready.{AreDue, AreReady, HaveHad, IsUnderway};
-ghost use Rattle.script_links.specs.Shown.{Shows, AreAsked, pending_of};
-ghost use Rattle.script_links.specs.Told.{IsTold};
+ghost use Rattle.script_links.specs.Shown.{AreAsked, pending_of};
 ghost use Rattle.std.specs.Prelude.{◌≡◌, ◌+◌, ◌<◌, ◌≤◌, Bool, IfErr, OnOk, length, remove, true, ℕ};
 
-use crate::container::reap;
-use crate::fault::ScriptFault;
 use crate::links::{Link, serve};
-use crate::saves::save_all;
 use container_core::container::ContainerCore;
 use container_model::fault::ContainerFault;
 use container_model::record::Object;
+use script_container::container::reap;
+use script_container::fault::ScriptFault;
+use script_container::saves::save_all;
 use script_model::answer::Told;
 use script_model::host::Host;
 use std::alloc::Global;
@@ -183,7 +184,7 @@ fn turn<H: Host>(
     Ok(())
 }
 
-/// Turns, until nothing is pending on a link that isn't held.
+/// Turns, until nothing is pending on a link that isn't held, which is tested and in no clause.
 ///
 /// Refused: `Stalled` where something is pending after 1,000 turns.
 pub fn turns<H: Host>(

@@ -1,4 +1,4 @@
--- Where messages come from: what came on the links of a server, and what the container was given of it.
+-- Where messages come from: what came on the links of a server, and what the container was given of it, its end last.
 use Rattle.std.specs.Prelude.{◌≡◌, ◌==◌, ◌&&◌, ◌++◌, ℕ, List, [], ◌∷◌, if◌then◌else◌}
 use Rattle.std.specs.List.{AllByRecursion}
 use Rattle.wire_msgs.specs.declared.message.Message.{Message}
@@ -97,12 +97,17 @@ AreFirst (bytes ∷ earlier) ms = (before : List Message) × (last : List Messag
 abbrev pub AreNext : Passed → List Message → Type 0
 AreNext p ms = (more : List Message) × AreFirst p.came (p.given ++ (ms ++ more))
 
--- a step that gives the container a message, behind these calls: it is the next one that came on the links of its server
+-- The last call ended this server.
+abbrev pub IsJustEnded : {D : Type 0} → ℕ → List (Event D) → Type 0
+IsJustEnded {D = D} inc es = (before : List (Event D)) × (es ≡ Ended inc ∷ before)
+
+-- a step that gives the container a message, behind these calls: it is the next one that came on the links of its server; and one
+-- that tells it the end of a server, directly behind this end
 abbrev pub GivesNext : {D : Type 0} → Step → List (Event D) → Type 0
 GivesNext (step.Begins n) es = Unit {0}
 GivesNext (step.Command c) es = Unit {0}
 GivesNext (step.Message inc m) es = AreNext (passed inc es) (m ∷ [])
-GivesNext (step.Reap inc) es = Unit {0}
+GivesNext (step.Reap inc) es = IsJustEnded inc es
 GivesNext (step.Committed f) es = Unit {0}
 GivesNext (step.Failed f) es = Unit {0}
 GivesNext (step.Resolved f is_kept) es = Unit {0}
@@ -111,6 +116,6 @@ GivesNext step.NoMemory es = Unit {0}
 
 -- Each message that the container was given came on a link of its server, since this was started and before it was ended: it is
 -- the next one behind those that the container was given of this server. So none is made up, none comes twice, and none comes
--- before its bytes.
+-- before its bytes. Each end of a server that it was told stands directly behind the end of this server.
 abbrev pub AreHeard : {D : Type 0} → List (Event D) → Type 0
 AreHeard es = OfEachStep GivesNext es

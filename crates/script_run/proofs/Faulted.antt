@@ -2,8 +2,8 @@
 use Rattle.std.proofs.Common.{◌≡◌, ◌≤◌, ◌-◌, ◌==◌, ◌⊎◌, ⊎_elim, inl, inr, ℕ, Bool, true, false, List, [], ◌∷◌, if◌then◌else◌, Option, Result, Ok, Err, IfErr, refl, sym, ap, ◌∙◌, subst, arith}
 use Rattle.std.specs.Prelude.{IfSome}
 use Rattle.std.specs.Result.{IsErrAnd}
-use Rattle.script_links.specs.declared.fault.ScriptFault.{ScriptFault}
-use Rattle.script_links.specs.declared.fault.ScriptFault.TheVariants as fault
+use Rattle.script_container.specs.declared.fault.ScriptFault.{ScriptFault}
+use Rattle.script_container.specs.declared.fault.ScriptFault.TheVariants as fault
 use Rattle.script_links.specs.Shown.{Shows}
 use Rattle.script_model.specs.declared.command.ScriptCommand.{ScriptCommand}
 use Rattle.script_model.specs.Bounds.{MOST_TURNS, Pace, pace}

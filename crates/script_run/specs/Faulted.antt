@@ -2,8 +2,8 @@
 use Rattle.std.specs.Prelude.{◌≡◌, ◌⊎◌, ℕ, List, [], Option, IfSome, Ok}
 use Rattle.texts.specs.Input.{MayRefuseInput}
 use Rattle.texts.specs.Lines.{RefusesText}
-use Rattle.script_links.specs.declared.fault.ScriptFault.{ScriptFault}
-use Rattle.script_links.specs.declared.fault.ScriptFault.TheVariants as fault
+use Rattle.script_container.specs.declared.fault.ScriptFault.{ScriptFault}
+use Rattle.script_container.specs.declared.fault.ScriptFault.TheVariants as fault
 use Rattle.script_model.specs.declared.command.ScriptCommand.{ScriptCommand}
 use Rattle.script_model.specs.Errors.{IsLeftHeld, IsUnanswered, IsUnknown, IsUnstarted, before_ends}
 use Rattle.script_model.specs.Events.{Event}

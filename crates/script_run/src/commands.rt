@@ -12,7 +12,7 @@ ghost use Rattle.script_links.specs.Links.{AreLinked, AreServed, EachServed, Hol
 ghost use Rattle.script_links.specs.Ready.{AreReady, MayLink, pace_beside};
 ghost use Rattle.script_links.specs.Shown.{Shows};
 ghost use Rattle.script_links.specs.Told.{IsTold};
-ghost use Rattle.script_links.specs.declared.fault.ScriptFault.TheVariants.{NoMemory};
+ghost use Rattle.script_container.specs.declared.fault.ScriptFault.TheVariants.{NoMemory};
 ghost use Rattle.script_links.specs.declared.links.Link.{Link};
 ghost use Rattle.std.specs.Prelude.{◌≡◌, ◌≤◌, ◌<◌, ◌++◌, ◌∷◌, Bool, [], false, true, IfErr, IfNone, IfOk, IfSome, OnOk, length, ℕ, slice_index_or, slice_set, vec_capacity, vec_len};
 

@@ -8,7 +8,7 @@ ghost use Rattle.script_model.specs.Orders.{orders};
 ghost use Rattle.script_model.specs.Origins.{passed};
 ghost use Rattle.script_model.specs.Saved.{IsReadFrom, IsReadOf};
 ghost use Rattle.script_links.specs.Told.{IsTold};
-ghost use Rattle.script_links.specs.declared.fault.ScriptFault.TheVariants.{NoMemory};
+ghost use Rattle.script_container.specs.declared.fault.ScriptFault.TheVariants.{NoMemory};
 ghost use Rattle.std.specs.Prelude.{◌≡◌, ℕ, IfErr, IfOk, IfSome, Some};
 
 use container_core::container::ContainerCore;

@@ -108,6 +108,8 @@ fn carry_out_all<H: Host, W: Write>(
 /// commands are carried out: a server that isn't started (`Link`); what isn't answered in 1,000 turns, or a link that is held
 /// at the end (`Stalled`); a file that can't be opened, so that it isn't known what became of its save (`File`); no memory; a
 /// write that fails. Which of these it is, the host's history shows (`faulted`), but for the last two.
+///
+/// No clause says what is written of a command, nor that nothing is pending where it ends well: both are tested.
 pub fn run_script<H: Host, R: Read, W: Write>(
     alloc: Global,
     host: &mut H,

@@ -1,6 +1,6 @@
 use Rattle.std.proofs.Common.{◌≡◌, rules}
 use Rattle.std.specs.Result.{IsErrAnd}
-use Rattle.script_links.proofs.Shown.{passed_on}
+use Rattle.script_container.proofs.Shown.{passed_on}
 use Rattle.script_links.proofs.links.hand_over.Goals as goal
 
 pub returns-in_err-save_all-in-Ok-clause-shown : goal.returns-in_err-save_all-in-Ok-clause-shown

@@ -4,7 +4,7 @@ use Rattle.script_links.specs.Links.{beside}
 use Rattle.script_links.specs.Ready.{pace_beside}
 use Rattle.script_links.proofs.Paces.{apart_on, may_read, paced_on, read_on}
 use Rattle.std.specs.Result.{IsErrAnd}
-use Rattle.script_links.proofs.Shown.{passed_on}
+use Rattle.script_container.proofs.Shown.{passed_on}
 use Rattle.script_links.proofs.links.hear.Goals as goal
 
 pub read_some-requires-clause-within : goal.read_some-requires-clause-within

@@ -5,7 +5,7 @@ use Rattle.script_model.specs.Events.{running}
 use Rattle.script_model.specs.Origins.{passed}
 use Rattle.script_links.specs.Links.{IsServed, beside}
 use Rattle.script_links.specs.Ready.{GoesOn, pace_beside}
-use Rattle.script_links.specs.Told.{IsTold}
+use Rattle.script_container.specs.Told.{IsTold}
 use Rattle.script_links.proofs.links.hear.Given as goal
 
 abbrev pub invariant-loop-reads : goal.invariant-loop-reads

@@ -1,6 +1,6 @@
 use Rattle.script_model.specs.Origins.{passed}
 use Rattle.script_links.proofs.Served.{hand_next}
-use Rattle.script_links.proofs.Shown.{memory_on}
+use Rattle.script_container.proofs.Shown.{memory_on}
 use Rattle.script_links.proofs.links.meet.Goals as goal
 
 pub hand_over-requires-clause-next : goal.hand_over-requires-clause-next

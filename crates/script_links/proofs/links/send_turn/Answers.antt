@@ -1,7 +1,7 @@
 use Rattle.std.proofs.Common.{◌≡◌, rules}
 use Rattle.script_links.proofs.Paces.{sent_pace}
 use Rattle.std.specs.Result.{IsErrAnd}
-use Rattle.script_links.proofs.Shown.{lacking_on}
+use Rattle.script_container.proofs.Shown.{lacking_on}
 use Rattle.script_links.proofs.links.send_turn.Goals as goal
 
 pub returns-clause-sent : goal.returns-clause-sent

@@ -2,7 +2,7 @@ use Rattle.std.proofs.Common.{◌≡◌, rules}
 use Rattle.script_model.specs.Bounds.{pace}
 use Rattle.script_links.proofs.Paces.{all_left, left_again, may_link, may_send, may_send_again, turn_again, turn_over, turn_unlinked}
 use Rattle.std.specs.Result.{IsErrAnd}
-use Rattle.script_links.proofs.Shown.{passed_on}
+use Rattle.script_container.proofs.Shown.{passed_on}
 use Rattle.script_links.proofs.links.serve.Goals as goal
 
 pub exchange-requires-clause-within : goal.exchange-requires-clause-within

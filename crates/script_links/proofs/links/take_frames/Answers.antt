@@ -2,7 +2,7 @@ use Rattle.std.proofs.Common.{◌≡◌, rules}
 use Rattle.script_model.specs.Origins.{passed}
 use Rattle.script_links.proofs.Served.{message_taken, turn_taken}
 use Rattle.std.specs.Result.{IsErrAnd}
-use Rattle.script_links.proofs.Shown.{passed_on}
+use Rattle.script_container.proofs.Shown.{passed_on}
 use Rattle.script_links.proofs.links.take_frames.Goals as goal
 
 pub returns-in-Ok-Some-Turn-clause-served : goal.returns-in-Ok-Some-Turn-clause-served

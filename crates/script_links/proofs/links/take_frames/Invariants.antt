@@ -4,7 +4,7 @@ use Rattle.script_model.specs.Bounds.{pace}
 use Rattle.script_model.specs.Events.{running}
 use Rattle.script_model.specs.Origins.{passed}
 use Rattle.script_links.specs.Links.{IsServed, beside}
-use Rattle.script_links.specs.Told.{IsTold}
+use Rattle.script_container.specs.Told.{IsTold}
 use Rattle.script_links.proofs.links.take_frames.Given as goal
 
 abbrev pub invariant-loop : goal.invariant-loop

@@ -1,6 +1,6 @@
 use Rattle.std.proofs.Common.{◌≡◌, rules}
 use Rattle.std.specs.Result.{IsErrAnd}
-use Rattle.script_links.proofs.Shown.{lacks, lacks_on}
+use Rattle.script_container.proofs.Shown.{lacks, lacks_on}
 use Rattle.script_links.proofs.links.turn_bytes.Goals as goal
 
 pub returns-in_err-call-items-clause-lacking : goal.returns-in_err-call-items-clause-lacking

@@ -1,5 +1,5 @@
 use Rattle.std.proofs.Common.{rules}
-use Rattle.script_links.proofs.Given.{popped_linked}
+use Rattle.script_links.proofs.Linked.{popped_linked}
 use Rattle.script_links.proofs.turns.end_all.Goals as goal
 
 pub loop-link-preserved : goal.loop-link-preserved

@@ -1,5 +1,5 @@
 use Rattle.std.proofs.Common.{◌∙◌}
-use Rattle.script_links.proofs.Given.{ended_linked}
+use Rattle.script_links.proofs.Linked.{ended_linked}
 use Rattle.script_links.proofs.Served.{ended_served}
 use Rattle.script_links.proofs.turns.end_at.Goals as goal
 

@@ -1,7 +1,7 @@
 use Rattle.std.proofs.Common.{ap, sym, ◌∙◌}
 use Rattle.script_links.specs.declared.links.Link.{Link}
 use Rattle.std.proofs.lemmas.Result.{on_ok_weaker}
-use Rattle.script_links.proofs.Given.{same_links}
+use Rattle.script_links.proofs.Linked.{same_links}
 use Rattle.script_links.proofs.Paces.{had_on, is_next, single_linked, turn_goes_on}
 use Rattle.script_links.proofs.Served.{placed_served}
 use Rattle.script_links.proofs.Shown.{hold_set}

@@ -1,7 +1,7 @@
 use Rattle.std.proofs.Common.{◌<◌, ◌∙◌, length, arith, ◌≡◌, rules}
 use Rattle.script_links.proofs.Paces.{had_all, had_without, turn_without}
 use Rattle.std.specs.Result.{IsErrAnd}
-use Rattle.script_links.proofs.Shown.{passed_on}
+use Rattle.script_container.proofs.Shown.{passed_on}
 use Rattle.script_links.proofs.turns.turn.Goals as goal
 
 pub loop-place-preserved-then-branch : goal.loop-place-preserved-then-branch

@@ -2,7 +2,7 @@ use Rattle.std.proofs.Common.{length, ◌≡◌, ◌-◌, Bool, ℕ}
 use Rattle.script_model.specs.Orders.{orders}
 use Rattle.script_links.specs.Links.{AreLinked, AreServed, HoldFor}
 use Rattle.script_links.specs.Ready.{AreDue, AreReady, HaveHad, IsUnderway}
-use Rattle.script_links.specs.Told.{IsTold}
+use Rattle.script_container.specs.Told.{IsTold}
 use Rattle.script_links.proofs.turns.turn.Given as goal
 
 abbrev pub invariant-loop-place : goal.invariant-loop-place

@@ -2,7 +2,8 @@ use Rattle.std.proofs.Common.{◌+◌, ◌∙◌, ◌≡◌, List, arith, rules,
 use Rattle.std.specs.Result.{IsErrAnd}
 use Rattle.script_links.specs.Shown.{AreAsked}
 use Rattle.script_links.specs.declared.links.Link.{Link}
-use Rattle.script_links.proofs.Shown.{passed_on, unanswered_by}
+use Rattle.script_container.proofs.Shown.{passed_on}
+use Rattle.script_links.proofs.Shown.{unanswered_by}
 use Rattle.script_links.proofs.turns.turns.Goals as goal
 
 pub loop-done-preserved : goal.loop-done-preserved

@@ -2,7 +2,7 @@ use Rattle.std.proofs.Common.{◌≡◌, ◌+◌, Bool, ℕ}
 use Rattle.script_model.specs.Orders.{orders}
 use Rattle.script_links.specs.Links.{AreLinked, AreServed, HoldFor}
 use Rattle.script_links.specs.Ready.{AreDue, AreReady}
-use Rattle.script_links.specs.Told.{IsTold}
+use Rattle.script_container.specs.Told.{IsTold}
 use Rattle.script_links.proofs.turns.turns.Given as goal
 
 abbrev pub invariant-loop-done : goal.invariant-loop-done

@@ -2,7 +2,7 @@ use Rattle.std.proofs.Common.{◌∙◌, sym}
 use Rattle.script_links.specs.Ready.{AreReady}
 use Rattle.script_links.proofs.Paces.{all_rested, still_rested}
 use Rattle.script_links.proofs.Served.{on_ok}
-use Rattle.script_links.proofs.Shown.{memory_shown}
+use Rattle.script_container.proofs.Shown.{memory_shown}
 use Rattle.script_model.specs.Origins.{passed}
 use Rattle.script_run.proofs.Held.{as_command}
 use Rattle.script_run.proofs.commands.begin.Goals as goal

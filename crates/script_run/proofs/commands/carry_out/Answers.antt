@@ -1,7 +1,7 @@
 use Rattle.std.proofs.Common.{◌≡◌, rules}
 use Rattle.std.specs.Result.{IsErrAnd}
 use Rattle.script_model.specs.Errors.{behind_hold}
-use Rattle.script_links.proofs.Shown.{memory_on, passed_on}
+use Rattle.script_container.proofs.Shown.{memory_on, passed_on}
 use Rattle.script_run.proofs.commands.carry_out.Goals as goal
 
 pub returns-in_err-told-clause-shown : goal.returns-in_err-told-clause-shown

@@ -5,7 +5,7 @@ use Rattle.script_links.specs.Ready.{AreReady, MayLink, pace_beside}
 use Rattle.script_links.proofs.Paces.{any_at, cut_ended, cut_may, cut_ready, none_ended, rests_within}
 use Rattle.script_links.proofs.Served.{on_ok}
 use Rattle.std.specs.Result.{IsErrAnd}
-use Rattle.script_links.proofs.Shown.{passed_on}
+use Rattle.script_container.proofs.Shown.{passed_on}
 use Rattle.script_run.proofs.commands.cut.Goals as goal
 
 pub send_turn-requires-clause-within : goal.send_turn-requires-clause-within

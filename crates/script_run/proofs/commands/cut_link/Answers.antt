@@ -1,6 +1,6 @@
 use Rattle.std.proofs.Common.{◌≡◌, rules}
 use Rattle.std.specs.Result.{IsErrAnd}
-use Rattle.script_links.proofs.Shown.{passed_on}
+use Rattle.script_container.proofs.Shown.{passed_on}
 use Rattle.script_run.proofs.commands.cut_link.Goals as goal
 
 pub returns-in_err-cut-clause-shown : goal.returns-in_err-cut-clause-shown

@@ -3,7 +3,7 @@ use Rattle.std.specs.Vec.Iter.{into_iter_items}
 use Rattle.script_model.specs.Origins.{giving, passed}
 use Rattle.script_links.proofs.Served.{others_given, others_next}
 use Rattle.std.specs.Result.{IsErrAnd}
-use Rattle.script_links.proofs.Shown.{passed_on}
+use Rattle.script_container.proofs.Shown.{passed_on}
 use Rattle.script_run.proofs.commands.hand_all.Goals as goal
 
 pub loop-taken-preserved : goal.loop-taken-preserved

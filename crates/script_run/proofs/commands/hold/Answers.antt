@@ -1,6 +1,6 @@
 use Rattle.std.proofs.Common.{ap, true}
 use Rattle.script_links.specs.declared.links.Link.{Link}
-use Rattle.script_links.proofs.Given.{same_links}
+use Rattle.script_links.proofs.Linked.{same_links}
 use Rattle.script_links.proofs.Served.{hold_served}
 use Rattle.script_run.proofs.Held.{hold_this, server_at}
 use Rattle.script_run.proofs.commands.hold.Goals as goal

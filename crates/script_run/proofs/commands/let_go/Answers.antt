@@ -1,6 +1,6 @@
 use Rattle.std.proofs.Common.{ap}
 use Rattle.script_links.specs.declared.links.Link.{Link}
-use Rattle.script_links.proofs.Given.{same_links}
+use Rattle.script_links.proofs.Linked.{same_links}
 use Rattle.script_run.proofs.commands.let_go.Goals as goal
 
 pub returns-clause-same : goal.returns-clause-same

@@ -2,7 +2,7 @@ use Rattle.std.proofs.Common.{◌≡◌, ℕ, ap, subst, sym, ◌∙◌}
 use Rattle.script_model.specs.Bounds.{linking, pace}
 use Rattle.script_links.specs.declared.links.Link.{Link}
 use Rattle.script_links.specs.Ready.{MayLink, pace_beside}
-use Rattle.script_links.proofs.Given.{same_links}
+use Rattle.script_links.proofs.Linked.{same_links}
 use Rattle.script_links.proofs.Paces.{any_at, set_at}
 use Rattle.script_links.proofs.Served.{placed_served}
 use Rattle.script_links.proofs.Shown.{hold_set}

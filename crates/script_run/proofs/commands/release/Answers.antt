@@ -3,7 +3,7 @@ use Rattle.script_model.specs.Origins.{passed}
 use Rattle.script_links.specs.Links.{AreServed}
 use Rattle.script_links.proofs.Served.{on_ok, others_placed, release_next, release_served}
 use Rattle.std.specs.Result.{IsErrAnd}
-use Rattle.script_links.proofs.Shown.{passed_on}
+use Rattle.script_container.proofs.Shown.{passed_on}
 use Rattle.script_run.proofs.Held.{let_go_holds}
 use Rattle.script_run.proofs.commands.release.Goals as goal
 

@@ -2,7 +2,7 @@ use Rattle.std.proofs.Common.{◌≡◌, ◌∙◌, List, ap, sym, subst, rules}
 use Rattle.script_links.specs.Links.{IsLinkAt, links_of}
 use Rattle.script_links.specs.declared.links.Link.{Link}
 use Rattle.std.specs.Result.{IsErrAnd}
-use Rattle.script_links.proofs.Shown.{passed_on}
+use Rattle.script_container.proofs.Shown.{passed_on}
 use Rattle.script_run.proofs.Held.{release_none}
 use Rattle.script_run.proofs.commands.release_link.Goals as goal
 

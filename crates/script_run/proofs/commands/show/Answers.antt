@@ -1,4 +1,4 @@
-use Rattle.script_links.proofs.Shown.{lacks}
+use Rattle.script_container.proofs.Shown.{lacks}
 use Rattle.script_run.proofs.commands.show.Goals as goal
 
 pub returns-in_err-extend_from_slice-in-Ok : goal.returns-in_err-extend_from_slice-in-Ok

@@ -1,8 +1,8 @@
 use Rattle.std.proofs.Common.{◌≡◌, ◌++◌, ◌∷◌, [], ap, sym, ◌∙◌, rules}
 use Rattle.script_links.specs.Links.{links_of}
-use Rattle.script_links.proofs.Given.{started_linked}
+use Rattle.script_links.proofs.Linked.{started_linked}
 use Rattle.script_links.proofs.Served.{started_served, unstarted_served}
-use Rattle.script_links.proofs.Shown.{memory_on}
+use Rattle.script_container.proofs.Shown.{memory_on}
 use Rattle.script_run.proofs.Held.{hold_with}
 use Rattle.script_run.proofs.commands.start.Goals as goal
 

@@ -1,5 +1,5 @@
 use Rattle.doc_store.specs.Opened.{disk_of, needs_reopen_of}
-use Rattle.script_links.proofs.Kept.{read_on_opened}
+use Rattle.script_container.proofs.Kept.{read_on_opened}
 use Rattle.script_run.proofs.opens.document_on.Goals as goal
 
 pub returns-in-Ok : goal.returns-in-Ok

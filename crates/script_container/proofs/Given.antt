@@ -1,0 +1,71 @@
+-- What is given to the container leaves the record that the history tells.
+use Rattle.std.proofs.Common.{◌≡◌, List, ◌∷◌, Result, Ok, Err, IfOk, IfErr, OnErr, sym, ap, ◌∙◌, subst}
+use Rattle.container_model.specs.Record.{Record, Took, Refuses}
+use Rattle.container_model.specs.declared.answer.Answer.{Answer}
+use Rattle.container_model.specs.declared.fault.ContainerFault.{ContainerFault}
+use Rattle.container_model.specs.declared.fault.ContainerFault.TheVariants as fault
+use Rattle.script_model.specs.declared.step.Step.{Step}
+use Rattle.script_model.specs.declared.step.Step.TheVariants as step
+use Rattle.script_model.specs.Containers.{Given, given, given_by, gives, moved, record_of}
+use Rattle.script_model.specs.Events.{Event, Stepped}
+use Rattle.script_model.specs.Origins.{GivesNext}
+use Rattle.script_model.specs.Saved.{CountsSaved, OpensRead}
+use Rattle.store_model.specs.declared.disk.Disk.{Ghosts as Disks}
+use Rattle.script_container.specs.Told.{IsTold, noted_of}
+
+pub taken_step : (f : Record → Result Took ContainerFault) (now r : Record) (t : Took) → now ≡ r → f r ≡ Ok t → moved now (f now) ≡ t.rec
+taken_step f now r t is took = ap (λ n. moved n (f n)) is ∙ ap (moved r) took
+
+refused_step : (f : Record → Result Took ContainerFault) (now r : Record) (e : ContainerFault) → now ≡ r → f r ≡ Err e → moved now (f now) ≡ r
+refused_step f now r e is refused = ap (λ n. moved n (f n)) is ∙ ap (moved r) refused
+
+-- what the calls before a step are to be, of saves and of opened files
+abbrev pub IsBacked : {D : Type 0} (disks : Disks D) → Step → List (Event D) → Type 0
+IsBacked disks st es = CountsSaved disks st es × OpensRead disks st es
+
+-- a step of the container that f is
+abbrev pub IsBy : Step → (Record → Result Took ContainerFault) → Type 0
+IsBy st f = (g : Given) → given g st ≡ gives g (f g.now)
+
+module _ {D : Type 0} {disks : Disks D} where
+  pub one_step : (st : Step) (f : Record → Result Took ContainerFault) (es : List (Event D)) (r now : Record) → IsBy st f → (disks.follows_model → IsBacked disks st es) → GivesNext st es → (record_of es ≡ r → moved (record_of es) (f (record_of es)) ≡ now) → IsTold disks es r → IsTold disks (Stepped st ∷ es) now
+  one_step st f es r now by counts next is t = record { recorded = ap (λ g. g.now) (by (given_by es)) ∙ is t.recorded; sent = t.sent; bounded = t.bounded; heard = (next, t.heard); single = t.single; saved = λ m. ((counts m).0, t.saved m); opened = λ m. ((counts m).1, t.opened m) }
+
+  -- a step that was undone for want of memory
+  pub lost_step : (st : Step) (f : Record → Result Took ContainerFault) (es : List (Event D)) (r : Record) → IsBy st f → (disks.follows_model → IsBacked disks st es) → GivesNext st es → IsTold disks es r → IsTold disks (Stepped step.NoMemory ∷ Stepped st ∷ es) r
+  lost_step st f es r by counts next t = record { recorded = ap (λ g. g.before) (by (given_by es)) ∙ t.recorded; sent = t.sent; bounded = t.bounded; heard = (tt, (next, t.heard)); single = t.single; saved = λ m. (tt, ((counts m).0, t.saved m)); opened = λ m. (tt, ((counts m).1, t.opened m)) }
+
+  by_fault : (st : Step) (f : Record → Result Took ContainerFault) (es : List (Event D)) (r : Record) (e : ContainerFault) → IsBy st f → (disks.follows_model → IsBacked disks st es) → GivesNext st es → f r ≡ Err e → IsTold disks es r → IsTold disks (Stepped st ∷ es) r
+  by_fault st f es r e by counts next refused = one_step st f es r r by counts next (λ is. refused_step f (record_of es) r e is refused)
+
+  pub refused_given : (st : Step) (f : Record → Result Took ContainerFault) (es : List (Event D)) (r : Record) (e : ContainerFault) → IsBy st f → (disks.follows_model → IsBacked disks st es) → GivesNext st es → Refuses (f r) e → IsTold disks es r → IsTold disks (noted_of {A = Answer} (Err e) (Stepped st ∷ es)) r
+  refused_given st f es r fault.NoSuch by counts next refuses = by_fault st f es r fault.NoSuch by counts next refuses
+  refused_given st f es r fault.Busy by counts next refuses = by_fault st f es r fault.Busy by counts next refuses
+  refused_given st f es r fault.NotRunning by counts next refuses = by_fault st f es r fault.NotRunning by counts next refuses
+  refused_given st f es r fault.InDoubt by counts next refuses = by_fault st f es r fault.InDoubt by counts next refuses
+  refused_given st f es r fault.WrongLink by counts next refuses = by_fault st f es r fault.WrongLink by counts next refuses
+  refused_given st f es r fault.Stale by counts next refuses = by_fault st f es r fault.Stale by counts next refuses
+  refused_given st f es r fault.Full by counts next refuses = by_fault st f es r fault.Full by counts next refuses
+  refused_given st f es r fault.NumbersSpent by counts next refuses = by_fault st f es r fault.NumbersSpent by counts next refuses
+  refused_given st f es r fault.WrongState by counts next refuses = by_fault st f es r fault.WrongState by counts next refuses
+  refused_given st f es r fault.BadFile by counts next refuses = by_fault st f es r fault.BadFile by counts next refuses
+  refused_given st f es r fault.BadAnswer by counts next refuses = by_fault st f es r fault.BadAnswer by counts next refuses
+  refused_given st f es r fault.UnknownClass by counts next refuses = by_fault st f es r fault.UnknownClass by counts next refuses
+  refused_given st f es r fault.NoMemory by counts next refuses = lost_step st f es r by counts next
+
+  told_given : (st : Step) (f : Record → Result Took ContainerFault) (took : Answer → Took) (told : Result Answer ContainerFault) (es : List (Event D)) (r now : Record)
+      → IsBy st f → (disks.follows_model → IsBacked disks st es) → GivesNext st es → ((a : Answer) → (took a).rec ≡ now) → IfOk told (λ a. f r ≡ Ok (took a)) → IfErr told (Refuses (f r)) → OnErr told (now ≡ r)
+      → IsTold disks es r → IsTold disks (noted_of told (Stepped st ∷ es)) now
+  told_given st f took (Ok a) es r now by counts next rec ok err kept = one_step st f es r now by counts next (λ is. taken_step f (record_of es) r (took a) is ok ∙ rec a)
+  told_given st f took (Err e) es r now by counts next rec ok err kept =
+      let P : Record → Type 0 = λ n. IsTold disks es r → IsTold disks (noted_of {A = Answer} (Err e) (Stepped st ∷ es)) n in
+      subst P (sym kept) (refused_given st f es r e by counts next err)
+
+  -- What the container is given, and what is noted, leave it as the history tells.
+  pub step_told : (st : Step) (f : Record → Result Took ContainerFault) (took : Answer → Took) (told : Result Answer ContainerFault) (es mid after : List (Event D)) (r now : Record)
+      → IsBy st f → (disks.follows_model → IsBacked disks st es) → GivesNext st es → ((a : Answer) → (took a).rec ≡ now) → mid ≡ Stepped st ∷ es → after ≡ noted_of told mid
+      → IfOk told (λ a. f r ≡ Ok (took a)) → IfErr told (Refuses (f r)) → OnErr told (now ≡ r)
+      → IsTold disks es r → IsTold disks after now
+  step_told st f took told es mid after r now by counts next rec is note ok err kept =
+      let P : List (Event D) → Type 0 = λ h. IsTold disks es r → IsTold disks h now in
+      subst P (sym (note ∙ ap (noted_of told) is)) (told_given st f took told es r now by counts next rec ok err kept)

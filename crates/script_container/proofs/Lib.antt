@@ -1,0 +1,6 @@
+pub mod Filed
+pub mod Given
+pub mod Kept
+pub mod Opened
+pub mod Saved
+pub mod Shown

@@ -1,0 +1,16 @@
+use Rattle.std.proofs.Common.{◌≡◌, ℕ}
+use Rattle.script_model.specs.Orders.{orders}
+use Rattle.script_model.specs.Bounds.{pace}
+use Rattle.script_model.specs.Events.{running}
+use Rattle.script_model.specs.Origins.{passed}
+use Rattle.script_container.specs.Told.{IsTold}
+use Rattle.script_container.proofs.saves.save_all.Given as goal
+
+abbrev pub invariant-loop-action : goal.invariant-loop-action
+invariant-loop-action g l = record {
+  told : IsTold g.H.Disk.Disk (g.H.Host.told l.host) l.core;
+  still : (s : ℕ) → running s (g.H.Host.told l.host) ≡ running s (g.H.Host.told l.fn.host);
+  quiet : (s : ℕ) → passed s (g.H.Host.told l.host) ≡ passed s (g.H.Host.told l.fn.host);
+  paced : (s : ℕ) → pace s (g.H.Host.told l.host) ≡ pace s (g.H.Host.told l.fn.host);
+  ordered : orders (g.H.Host.told l.host) ≡ orders (g.H.Host.told l.fn.host);
+}

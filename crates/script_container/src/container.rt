@@ -1,0 +1,257 @@
+//! The container of a script, and what it is given: each thing is noted as it is given.
+
+ghost use Rattle.container_model.specs.Opens.{Given, IsReadAs};
+ghost use Rattle.container_model.specs.declared.command.Command.{Command};
+ghost use Rattle.document_model.specs.declared.object.DocObject.{DocObject};
+ghost use Rattle.script_model.specs.Bounds.{pace};
+ghost use Rattle.script_model.specs.Events.{running};
+ghost use Rattle.script_model.specs.Orders.{orders};
+ghost use Rattle.script_model.specs.Origins.{AreNext, IsJustEnded, giving, passed};
+ghost use Rattle.script_model.specs.Saved.{IsLost, IsReadFrom, IsSaved};
+ghost use Rattle.script_model.specs.declared.step.Step.TheVariants as given;
+ghost use Rattle.script_container.specs.Beside.{beside};
+ghost use Rattle.script_container.specs.Shown.{Shows};
+ghost use Rattle.script_container.specs.Told.{IsTold, noted_of};
+ghost use Rattle.script_container.specs.declared.fault.ScriptFault.TheVariants.{NoMemory};
+ghost use Rattle.std.specs.Prelude.{◌≡◌, ◌≤◌, ◌∷◌, [], IfErr, IfOk, List, Some, length, ℕ};
+ghost use Rattle.wire_msgs.specs.declared.message.Message.{Message};
+
+use crate::fault::ScriptFault;
+use container_core::container::ContainerCore;
+use container_laws::open_laws::files_give_one;
+use container_model::answer::Answer;
+use container_model::command::Command;
+use container_model::fault::ContainerFault;
+use ole_streams::doc::Doc;
+use script_model::host::Host;
+use script_model::step::Step;
+use std::alloc::Global;
+use storage_tree::bytes::Bytes;
+use store_model::disk::Disk;
+use wire_msgs::items::Items;
+use wire_msgs::message::Message;
+
+/// The command of a step.
+fn command_of(step: Step) -> Option<Command>
+    ensures { (c : Command) → step ≡ given.Command c → result ≡ Some c }
+{
+    match step {
+        Step::Command(command) => Some(command),
+        _ => None,
+    }
+}
+
+/// The message of a step.
+fn message_of(step: Step) -> Option<Message>
+    ensures { (inc : ℕ) (m : Message) → step ≡ given.Message inc m → result ≡ Some m }
+{
+    match step {
+        Step::Message(_, message) => Some(message),
+        _ => None,
+    }
+}
+
+/// The name of a step's file.
+fn name_of(step: Step) -> Option<Bytes>
+    ensures { (name : List ℕ) (w h : ℕ) (objects : List DocObject) → step ≡ given.Open name w h objects → result ≡ Some name }
+{
+    match step {
+        Step::Open(name, _, _, _) => Some(name),
+        _ => None,
+    }
+}
+
+/// Notes where the container had no memory for what it was given.
+fn noted<H: Host>(
+    host: &mut H,
+    told: Result<Answer, ContainerFault>,
+) -> Result<Answer, ContainerFault>
+    ensures same { result ≡ told }
+    ensures noted { H.told host.new ≡ noted_of told (H.told host.old) }
+    ensures still { (s : ℕ) → running s (H.told host.new) ≡ running s (H.told host.old) }
+    ensures quiet { (s : ℕ) → passed s (H.told host.new) ≡ passed s (H.told host.old) }
+    ensures paced { (s : ℕ) → pace s (H.told host.new) ≡ pace s (H.told host.old) }
+    ensures ordered { orders (H.told host.new) ≡ orders (H.told host.old) }
+{
+    match told {
+        Ok(answer) => Ok(answer),
+        Err(ContainerFault::NoMemory) => {
+            host.note(&Step::NoMemory);
+            Err(ContainerFault::NoMemory)
+        }
+        Err(fault) => Err(fault),
+    }
+}
+
+/// Gives the container a user's command.
+pub fn command<H: Host>(
+    alloc: Global,
+    host: &mut H,
+    core: &mut ContainerCore,
+    command: Command,
+) -> Result<Answer, ContainerFault>
+    requires { IsTold ⟦<H::Disk as Disk>⟧ (H.told host.old) core.old }
+    ensures told { IsTold ⟦<H::Disk as Disk>⟧ (H.told host.new) core.new }
+    ensures still { (s : ℕ) → running s (H.told host.new) ≡ running s (H.told host.old) }
+    ensures quiet { (s : ℕ) → passed s (H.told host.new) ≡ passed s (H.told host.old) }
+    ensures paced { (s : ℕ) → pace s (H.told host.new) ≡ pace s (H.told host.old) }
+    ensures ordered { orders (H.told host.new) ≡ Step.Command command ∷ orders (H.told host.old) }
+{
+    let step = Step::Command(command);
+    host.note(&step);
+    let Some(command) = command_of(step) else {
+        return Err(ContainerFault::NoMemory);
+    };
+    let told = core.command(alloc, command);
+    noted(host, told)
+}
+
+/// Gives the container a message, on the link of this server.
+pub fn message<H: Host>(
+    alloc: Global,
+    host: &mut H,
+    core: &mut ContainerCore,
+    inc: u32,
+    message: Message,
+) -> Result<Answer, ContainerFault>
+    requires told { IsTold ⟦<H::Disk as Disk>⟧ (H.told host.old) core.old }
+    requires next { AreNext (passed inc (H.told host.old)) (message ∷ []) }
+    ensures told { IsTold ⟦<H::Disk as Disk>⟧ (H.told host.new) core.new }
+    ensures still { (s : ℕ) → running s (H.told host.new) ≡ running s (H.told host.old) }
+    ensures apart { (s : ℕ) → beside inc s (H.told host.new) ≡ beside inc s (H.told host.old) }
+    ensures given { passed inc (H.told host.new) ≡ giving (message ∷ []) (passed inc (H.told host.old)) }
+    ensures paced { (s : ℕ) → pace s (H.told host.new) ≡ pace s (H.told host.old) }
+    ensures ordered { orders (H.told host.new) ≡ orders (H.told host.old) }
+{
+    let step = Step::Message(inc, message);
+    host.note(&step);
+    let Some(message) = message_of(step) else {
+        return Err(ContainerFault::NoMemory);
+    };
+    let told = core.on_message(alloc, inc, message);
+    noted(host, told)
+}
+
+/// Gives the container a file that is opened, with this document: the disk that was given back last had it.
+pub fn opened<H: Host>(
+    alloc: Global,
+    host: &mut H,
+    core: &mut ContainerCore,
+    name: Bytes,
+    width: u16,
+    height: u16,
+    document: Doc,
+    file: &[u8],
+) -> Result<Answer, ContainerFault>
+    requires told { IsTold ⟦<H::Disk as Disk>⟧ (H.told host.old) core.old }
+    requires read { H.Disk.follows_model → IsReadFrom ⟦<H::Disk as Disk>⟧ (H.told host.old) name file.now }
+    requires gives { IsReadAs (Some file.now) (Given.Holding document) }
+    ensures told { IsTold ⟦<H::Disk as Disk>⟧ (H.told host.new) core.new }
+    ensures still { (s : ℕ) → running s (H.told host.new) ≡ running s (H.told host.old) }
+    ensures quiet { (s : ℕ) → passed s (H.told host.new) ≡ passed s (H.told host.old) }
+    ensures paced { (s : ℕ) → pace s (H.told host.new) ≡ pace s (H.told host.old) }
+    ensures few { IfOk result (λ a. length a.objects ≤ 64) }
+    ensures ordered { orders (H.told host.new) ≡ orders (H.told host.old) }
+{
+    files_give_one();
+    let step = Step::Open(name, width, height, Items::from_vec(document.into_vec()));
+    host.note(&step);
+    let Some(name) = name_of(step) else {
+        return Err(ContainerFault::NoMemory);
+    };
+    let told = core.open_file(alloc, name, width, height, Some(file));
+    noted(host, told)
+}
+
+/// Tells the container the end of a server, which the last call ended.
+pub fn reap<H: Host>(
+    alloc: Global,
+    host: &mut H,
+    core: &mut ContainerCore,
+    inc: u32,
+) -> Result<Answer, ContainerFault>
+    requires told { IsTold ⟦<H::Disk as Disk>⟧ (H.told host.old) core.old }
+    requires ended { IsJustEnded inc (H.told host.old) }
+    ensures told { IsTold ⟦<H::Disk as Disk>⟧ (H.told host.new) core.new }
+    ensures still { (s : ℕ) → running s (H.told host.new) ≡ running s (H.told host.old) }
+    ensures quiet { (s : ℕ) → passed s (H.told host.new) ≡ passed s (H.told host.old) }
+    ensures paced { (s : ℕ) → pace s (H.told host.new) ≡ pace s (H.told host.old) }
+    ensures ordered { orders (H.told host.new) ≡ orders (H.told host.old) }
+{
+    host.note(&Step::Reap(inc));
+    let told = core.on_reap(alloc, inc);
+    noted(host, told)
+}
+
+/// What a call of the container leaves, where what it is told can be no fault but want of memory.
+fn heard(told: &Result<Answer, ContainerFault>) -> Result<(), ScriptFault>
+    ensures lacking { IfErr result (λ fault. fault ≡ NoMemory) }
+{
+    match told {
+        Err(ContainerFault::NoMemory) => Err(ScriptFault::NoMemory),
+        _ => Ok(()),
+    }
+}
+
+/// Tells the container that the file of a frame was committed: the disk that was given back last holds it.
+pub fn committed<H: Host>(
+    alloc: Global,
+    host: &mut H,
+    core: &mut ContainerCore,
+    frame: u32,
+) -> Result<(), ScriptFault>
+    requires saved { H.Disk.follows_model → IsSaved ⟦<H::Disk as Disk>⟧ (H.told host.old) frame }
+    requires told { IsTold ⟦<H::Disk as Disk>⟧ (H.told host.old) core.old }
+    ensures told { IsTold ⟦<H::Disk as Disk>⟧ (H.told host.new) core.new }
+    ensures still { (s : ℕ) → running s (H.told host.new) ≡ running s (H.told host.old) }
+    ensures quiet { (s : ℕ) → passed s (H.told host.new) ≡ passed s (H.told host.old) }
+    ensures paced { (s : ℕ) → pace s (H.told host.new) ≡ pace s (H.told host.old) }
+    ensures ordered { orders (H.told host.new) ≡ orders (H.told host.old) }
+    ensures shown { IfErr result (λ fault. Shows (H.told host.new) fault) }
+{
+    host.note(&Step::Committed(frame));
+    let told = core.commit_done(alloc, frame);
+    heard(&noted(host, told))
+}
+
+/// Tells the container that the commit of a frame's file failed: the disk that was given back last holds what it held before, or
+/// no file can hold its document.
+pub fn failed<H: Host>(
+    alloc: Global,
+    host: &mut H,
+    core: &mut ContainerCore,
+    frame: u32,
+) -> Result<(), ScriptFault>
+    requires lost { H.Disk.follows_model → IsLost ⟦<H::Disk as Disk>⟧ (H.told host.old) frame }
+    requires told { IsTold ⟦<H::Disk as Disk>⟧ (H.told host.old) core.old }
+    ensures told { IsTold ⟦<H::Disk as Disk>⟧ (H.told host.new) core.new }
+    ensures still { (s : ℕ) → running s (H.told host.new) ≡ running s (H.told host.old) }
+    ensures quiet { (s : ℕ) → passed s (H.told host.new) ≡ passed s (H.told host.old) }
+    ensures paced { (s : ℕ) → pace s (H.told host.new) ≡ pace s (H.told host.old) }
+    ensures ordered { orders (H.told host.new) ≡ orders (H.told host.old) }
+    ensures shown { IfErr result (λ fault. Shows (H.told host.new) fault) }
+{
+    host.note(&Step::Failed(frame));
+    let told = core.commit_failed(alloc, frame);
+    heard(&noted(host, told))
+}
+
+/// Tells the container that the file of a frame in doubt wasn't committed.
+pub fn dropped<H: Host>(
+    alloc: Global,
+    host: &mut H,
+    core: &mut ContainerCore,
+    frame: u32,
+) -> Result<(), ScriptFault>
+    requires { IsTold ⟦<H::Disk as Disk>⟧ (H.told host.old) core.old }
+    ensures told { IsTold ⟦<H::Disk as Disk>⟧ (H.told host.new) core.new }
+    ensures still { (s : ℕ) → running s (H.told host.new) ≡ running s (H.told host.old) }
+    ensures quiet { (s : ℕ) → passed s (H.told host.new) ≡ passed s (H.told host.old) }
+    ensures paced { (s : ℕ) → pace s (H.told host.new) ≡ pace s (H.told host.old) }
+    ensures ordered { orders (H.told host.new) ≡ orders (H.told host.old) }
+    ensures shown { IfErr result (λ fault. Shows (H.told host.new) fault) }
+{
+    host.note(&Step::Resolved(frame, false));
+    let told = core.resolve(alloc, frame, false);
+    heard(&noted(host, told))
+}

@@ -1,8 +1,0 @@
-use Rattle.script_links.proofs.Shown.{missing_twice, given_back}
-use Rattle.script_links.proofs.saves.commit_again.Goals as goal
-
-pub returns-in-Ok-clause-unopened : goal.returns-in-Ok-clause-unopened
-returns-in-Ok-clause-unopened g c = λ missing. given_back c.try_again-outcome.result.0 c.args.name.now (g.H.Host.told c.args.host.now) (g.H.Host.told c.disk.new.self) (g.H.Host.told c.shut.new.self) c.in-Ok.disk c.try_again-outcome.result.1 c.in-Ok.ensures c.shut.ensures
-
-pub returns-in-Err-clause-unopened : goal.returns-in-Err-clause-unopened
-returns-in-Err-clause-unopened g c = λ missing. missing_twice c.args.name.now (g.H.Host.told c.args.host.now) (g.H.Host.told c.disk.new.self) missing c.in-Err.ensures
