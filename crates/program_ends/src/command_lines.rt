@@ -196,13 +196,20 @@ fn argument_of<'a>(alloc: Global, row: &Argument<'a>) -> Result<Arg<'a>, AllocEr
     }
 }
 
+// A value of many fields is spelled out at each step of the proof of a function that holds one. So such a function takes few
+// steps, and this one, which has the way out by an error, is of any type.
+/// Adds an item that was made.
+fn add<T: Drop>(items: &mut Vec<T>, made: Result<T, AllocError>) -> Result<(), AllocError> {
+    items.push(made?)?;
+    Ok(())
+}
+
 fn push_argument<'a>(
     alloc: Global,
     row: &Argument<'a>,
     arguments: &mut Vec<Arg<'a>>,
 ) -> Result<(), AllocError> {
-    arguments.push(argument_of(alloc, row)?)?;
-    Ok(())
+    add(arguments, argument_of(alloc, row))
 }
 
 fn arguments_of<'a>(alloc: Global, row: &Row<'a>) -> Result<Vec<Arg<'a>>, AllocError> {
@@ -213,16 +220,21 @@ fn arguments_of<'a>(alloc: Global, row: &Row<'a>) -> Result<Vec<Arg<'a>>, AllocE
     Ok(arguments)
 }
 
-/// The command of a row, with its arguments.
+/// A command with no argument and no command yet.
+fn bare<'a>(alloc: Global, name: &'a str, about: &'a str, after: &'a str) -> Command<'a> {
+    Command::new(alloc, name).about(about).after_help(after)
+}
+
+/// The command of a row, with its arguments if they were made.
 fn command_of<'a>(
     alloc: Global,
     row: &Row<'a>,
-    arguments: Vec<Arg<'a>>,
+    arguments: Result<Vec<Arg<'a>>, AllocError>,
 ) -> Result<Command<'a>, AllocError> {
-    Command::new(alloc, row.name)
-        .about(row.about)
-        .after_help(row.after)
-        .args(arguments)
+    match arguments {
+        Ok(arguments) => bare(alloc, row.name, row.about, row.after).args(arguments),
+        Err(error) => Err(error),
+    }
 }
 
 fn push_command<'a>(
@@ -230,9 +242,7 @@ fn push_command<'a>(
     row: &Row<'a>,
     commands: &mut Vec<Command<'a>>,
 ) -> Result<(), AllocError> {
-    let arguments = arguments_of(alloc, row)?;
-    commands.push(command_of(alloc, row, arguments)?)?;
-    Ok(())
+    add(commands, command_of(alloc, row, arguments_of(alloc, row)))
 }
 
 fn push_commands<'a>(
@@ -246,22 +256,53 @@ fn push_commands<'a>(
     Ok(())
 }
 
+fn push_all<'a>(
+    alloc: Global,
+    rows: &[Row<'a>],
+    commands: &mut Vec<Command<'a>>,
+) -> Result<(), AllocError> {
+    push_commands(alloc, MAKING, commands)?;
+    push_commands(alloc, ROWS, commands)?;
+    push_commands(alloc, rows, commands)
+}
+
+/// The command `make` alone.
+fn making_alone<'a>(alloc: Global) -> Result<Vec<Command<'a>>, AllocError> {
+    let mut commands = Vec::new(alloc);
+    push_commands(alloc, MAKING, &mut commands)?;
+    Ok(commands)
+}
+
+/// The commands `make`, `list`, `get` and `clean`, and those of these rows behind them.
+fn commands_of<'a>(alloc: Global, rows: &[Row<'a>]) -> Result<Vec<Command<'a>>, AllocError> {
+    let mut commands = Vec::new(alloc);
+    push_all(alloc, rows, &mut commands)?;
+    Ok(commands)
+}
+
 /// The program with no command yet.
 fn program<'a>(alloc: Global) -> Command<'a> {
-    Command::new(alloc, "olecon")
+    bare(alloc, "olecon", ABOUT, STATUSES)
         .version(VERSION)
-        .about(ABOUT)
-        .after_help(STATUSES)
         .subcommand_required(true)
+}
+
+/// The program with these commands if they were made.
+fn program_of<'a>(
+    alloc: Global,
+    commands: Result<Vec<Command<'a>>, AllocError>,
+) -> Result<Command<'a>, AllocError> {
+    match commands {
+        Ok(commands) => program(alloc).subcommands(commands),
+        Err(error) => Err(error),
+    }
 }
 
 /// The command line of the program `olecon` with `make` alone.
 ///
 /// Refused for want of memory alone.
 pub fn making_line<'a>(alloc: Global) -> Result<Command<'a>, AllocError> {
-    let mut commands = Vec::new(alloc);
-    push_commands(alloc, MAKING, &mut commands)?;
-    program(alloc).subcommands(commands)
+    program_of(alloc, making_alone(alloc))
 }
 
 /// The command line of the program `olecon` with `make`, `list`, `get` and `clean`, and the commands of these rows behind
@@ -269,9 +310,5 @@ pub fn making_line<'a>(alloc: Global) -> Result<Command<'a>, AllocError> {
 ///
 /// Refused for want of memory alone.
 pub fn command_line<'a>(alloc: Global, rows: &[Row<'a>]) -> Result<Command<'a>, AllocError> {
-    let mut commands = Vec::new(alloc);
-    push_commands(alloc, MAKING, &mut commands)?;
-    push_commands(alloc, ROWS, &mut commands)?;
-    push_commands(alloc, rows, &mut commands)?;
-    program(alloc).subcommands(commands)
+    program_of(alloc, commands_of(alloc, rows))
 }

@@ -30,6 +30,11 @@ pub fn keep<R: Runtime + AllocGlobal>(
     if new.keep().is_err() {
         return refuse(rt, &Report::File(path, "Unwritable"));
     }
+    tell_bytes(rt, count)
+}
+
+/// Tells how many bytes a new file has.
+fn tell_bytes<R: Runtime>(rt: &R, count: usize) -> ExitCode {
     match println!(rt; "{count} bytes") {
         Ok(()) => ExitCode::SUCCESS,
         Err(_) => refuse(rt, &Report::File(STANDARD, "Unwritable")),

@@ -61,17 +61,12 @@ impl<'a, R: Files + AllocGlobal> NewFile<'a, R> {
     /// Puts what was written in the place of the path's file, once the device has all of it. A failure leaves the path
     /// as it was, and no new file.
     pub fn keep(self) -> io::Result<()> {
-        match &self.place {
-            Place::Beside(new) => remove_unless(self.rt, new, put_in_place(self.rt, new)),
-            _ => Ok(()),
-        }
+        keep_place(self.rt, &self.place)
     }
 
     /// Drops what was written: the path's file stays as it was.
     pub fn discard(self) {
-        if let Place::Beside(new) = &self.place {
-            let _ = fs::remove_file(self.rt, &new.name);
-        }
+        discard_place(self.rt, &self.place);
     }
 
     /// Opens what the bytes go to, once.
@@ -109,6 +104,21 @@ impl<'a, R: Files + AllocGlobal> io::Write for NewFile<'a, R> {
 
     fn flush(&mut self) -> io::Result<()> {
         self.place.flush()
+    }
+}
+
+/// Puts a new file in the place of its target, or removes it.
+fn keep_place<R: Files + AllocGlobal>(rt: &R, place: &Place<R::File>) -> io::Result<()> {
+    match place {
+        Place::Beside(new) => remove_unless(rt, new, put_in_place(rt, new)),
+        _ => Ok(()),
+    }
+}
+
+/// Removes a new file.
+fn discard_place<R: Files>(rt: &R, place: &Place<R::File>) {
+    if let Place::Beside(new) = place {
+        let _ = fs::remove_file(rt, &new.name);
     }
 }
 

@@ -14,10 +14,12 @@ use world_model::event::{Event, Stop};
 
 /// A container, its servers, the messages between them, and the files.
 ///
-/// Every world is safe, whatever happened in it: no call acted twice, a kept reply is the reply to its call, at most one
-/// activation of the servers that run has a frame's grant, and the frame names it, each content that was taken was sent under
-/// the storage grant that the container held open, no save was counted twice, both sides count one content for a save, and
-/// the file of a frame denotes the document of its last counted commit.
+/// Every world is safe, whatever happened in it: no call acted twice, a call has one answer, and a kept reply is the reply to
+/// its call; no save was counted twice; the file of a frame that isn't in doubt denotes the document of its last counted
+/// commit, and what any file gives is such a commit. Of honest servers, which are those of which no message was forged: at
+/// most one activation of those that run has a frame's grant, and the frame names it; each content that was taken was sent
+/// under the storage grant that the container held open; and what a server counted of a save the container counted with the
+/// same content.
 #[derive(Drop)]
 pub struct World {
     pub(crate) state: State,
