@@ -85,7 +85,7 @@ fn is_object(object: &Object) -> bool
 }
 
 /// Whether a file can hold the document of a frame: there are at most 64 objects, each within its limits, and the tree
-/// needs no more FAT sectors than a header names. It takes no memory.
+/// needs no more FAT sectors than a header names.
 pub fn fits(f: u32, objects: &[Object]) -> bool
     ensures { result ≡ is_ok (fitting (parts_in f objects.now)) }
 {

@@ -38,7 +38,8 @@ fn directory_of(alloc: Global, header: &Header, file: &[u8]) -> Option<Directory
     Some(Directory { sectors, bytes })
 }
 
-/// The directory of a file. None where the header, the FAT or the directory's chain is at fault, or for want of memory.
+/// The directory of a file. None where the header, the FAT or the directory's chain is at fault, or for want of memory, which
+/// is in no clause.
 pub fn read_directory(alloc: Global, file: &[u8]) -> Option<Directory>
     ensures { IfSome result (IsDirectoryOf file.now) }
 {

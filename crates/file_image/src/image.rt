@@ -307,7 +307,8 @@ impl Image {
     /// that are new, rising. Block 0 is the header, and block n + 1 is sector n.
     ///
     /// A stream whose number of sectors stays, and its table, has the sectors that it had; what is freed keeps its bytes,
-    /// and what is new takes the least free sectors. Where that would pass the limit the file is laid out anew.
+    /// and what is new takes the least free sectors. Where that would pass the limit the file is laid out anew. All this is
+    /// tested, and in no clause.
     ///
     /// Refused: as `write_file`: `TooBig`, then `NoMemory`. A refusal changes nothing.
     pub fn update(&mut self, alloc: Global, tree: &Tree) -> Result<Vec<u32>, WriteFault>
@@ -321,7 +322,8 @@ impl Image {
     }
 
     /// As `update`, but all that the tree doesn't take becomes zeros: free sectors, free mini sectors and unused entries. So
-    /// nothing of what the image held before can be read in its bytes, and more blocks may change than by `update`.
+    /// nothing of what the image held before can be read in its bytes, and more blocks may change than by `update`. That is
+    /// tested, and in no clause.
     pub fn update_zeroed(&mut self, alloc: Global, tree: &Tree) -> Result<Vec<u32>, WriteFault>
         ensures denotes { OnOk result (∥ Denotes self.new (kept tree.now).now ∥₁) }
         ensures changed { IfOk result (λ numbers. numbers.items ≡ changed_blocks self.old self.new) }

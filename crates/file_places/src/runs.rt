@@ -5,7 +5,8 @@ ghost use Rattle.std.specs.Prelude.{◌+◌, ◌<◌, ◌≡◌, ◌≤◌, leng
 /// The most sectors that are read at once: what is read of a file goes through 65,536 bytes of memory.
 const MOST_AT_ONCE: usize = 128;
 
-/// How many sectors from a place in a list on stand one after another in a file, of the next `MOST_AT_ONCE`.
+/// How many sectors from a place in a list on stand one after another in a file, at most `MOST_AT_ONCE`. No clause says
+/// that no more do.
 pub fn run_length(sectors: &[u32], at: usize) -> usize
     requires { at < length sectors.now }
     ensures some { 0 < result }

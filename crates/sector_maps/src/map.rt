@@ -26,8 +26,8 @@ use std::alloc::{AllocError, Global};
 /// The map of a compound file, which has this outline: its sectors in rows of 64, a character each, what the characters
 /// stand for and how often each stands there, and how many bytes are free, behind the ends of streams, and past the FAT.
 ///
-/// Refused: `NoMemory`, and `NoTree` for a file that denotes no tree. One that denotes a tree is refused for want of memory
-/// alone.
+/// Refused: a file that denotes a tree for want of memory alone. Of any other file nothing is promised, neither that it is
+/// refused nor what for.
 pub fn map_of(alloc: Global, file: &[u8], outline: &Outline) -> Result<Vec<u8>, MapFault>
     ensures mapped { IfOk result (λ v. (t : Tree) → (d : Denotes file.now t) → v.items ≡ mapped file.now d.layout d.used.sectors (outline_view outline.now)) }
     ensures refused { (t : Tree) → Denotes file.now t → IfErr result (λ e. e ≡ NoMemory) }
