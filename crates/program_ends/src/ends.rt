@@ -2,11 +2,11 @@
 
 use crate::new_file::NewFile;
 use clap::Error;
+use fault_lines::report::{Report, STANDARD};
 use std::io;
 use std::io::ErrorKind;
 use std::process::ExitCode;
 use std::rt::Runtime;
-use texts::report::{Report, STANDARD};
 
 /// The status where the command line is refused.
 const USAGE: u8 = 2;

@@ -6,6 +6,8 @@ pub mod laws;
 pub mod lines;
 pub mod output;
 pub mod path;
-pub mod report;
+
+pub use fault_lines::report;
+
 pub mod words;
 pub mod writing;

@@ -15,7 +15,7 @@ pub enum Report<'a> {
 }
 
 impl<'a> fmt::Display for Report<'a> {
-    ghost use Rattle.texts.specs.Reports.{report_text};
+    ghost use Rattle.fault_lines.specs.Reports.{report_text};
     ghost use Rattle.std.specs.Prelude.{Some};
 
     ghost output = { λ report. Some (report_text report) };

@@ -1,8 +1,8 @@
 -- The lines in which faults are printed.
 use Rattle.std.specs.Prelude.{◌++◌, ℕ, List, codes}
 use Rattle.std.specs.Fmt.{decimal}
-use Rattle.texts.specs.declared.report.Report.{Report}
-use Rattle.texts.specs.declared.report.Report.TheVariants as report
+use Rattle.fault_lines.specs.declared.report.Report.{Report}
+use Rattle.fault_lines.specs.declared.report.Report.TheVariants as report
 
 -- the name of a standard stream
 abbrev pub standard : List ℕ

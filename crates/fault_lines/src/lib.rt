@@ -1,0 +1,4 @@
+//! The lines in which faults are printed. It needs nothing of other texts, so what programs end with is proved early.
+#![tactic(auto)]
+
+pub mod report;
