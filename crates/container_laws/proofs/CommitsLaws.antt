@@ -18,9 +18,9 @@ use Rattle.container_model.specs.declared.record.Phase.TheVariants.{Saving, Hand
 use Rattle.container_model.specs.declared.answer.Part.{Part}
 use Rattle.container_model.specs.declared.fault.ContainerFault.{ContainerFault}
 use Rattle.container_model.specs.declared.fault.ContainerFault.TheVariants.{Full, WrongState}
-use Rattle.container_model.specs.Record.{Record, Took, ask_at, asked_all, asked_sent, sends}
-use Rattle.container_model.specs.Saves.{awaits, commit_at, commit_done, commit_fitting, commit_made, completed, completion, document, document_tree, fitting, fitting_in, is_document, has_image, image, image_at, is_awaited_link, is_away, is_committing, is_keeping_link, is_ready, keeps, kept_by, kept_in, part_of, parts_in}
-use Rattle.container_laws.specs.CommitLaws.{AreParts, CommitCounts, CommitTells, Gives, HandOffWaits, HasAnswered, HasGivenAway, IsPart, SaveWaits, free_link, free_links, none, one, other, stored_part, stored_parts, telling}
+use Rattle.container_model.specs.Record.{Record, Took, ask_at, asked_all, asked_sent, is_doubtful, sends}
+use Rattle.container_model.specs.Saves.{awaits, commit_at, commit_done, commit_fitting, commit_made, completed, completion, document, document_tree, fitting, fitting_in, is_document, has_image, image, image_at, is_awaited_link, is_away, is_committing, is_keeping_link, is_ready, keeps, kept_by, kept_in, part_of, parts_in, resolved_at}
+use Rattle.container_laws.specs.CommitLaws.{AreParts, CommitCounts, CommitTells, Gives, HandOffWaits, HasAnswered, HasGivenAway, IsCommit, IsPart, SaveWaits, free_link, free_links, none, one, other, stored_part, stored_parts, telling}
 use Rattle.container_steady.proofs.SteadyLookups.{each_weaker, none_keeping}
 use Rattle.container_steady.proofs.SteadyRecords.{ready_at}
 use Rattle.container_steps.proofs.SteadyHandOffs.{handing_at}
@@ -43,29 +43,34 @@ image_parts r f (Some frame) ps h = if_told (λ (z : Result (List Part) Containe
     (λ t g. fitting_parts (parts_in f r.objects) ps g)
     (λ t g. cc) h
 
-pub record Done (r : Record) (f : ℕ) (t : Took) : Type 0 where
+pub record IsDone (r : Record) (f : ℕ) (t : Took) : Type 0 where
   pub frame : Frame
   pub here : nth r.frames f ≡ Some frame
   pub counts : image r f ≡ Ok (parts_in f r.objects)
   pub made : t ≡ commit_made r f frame
 
 fitted : (r : Record) (f : ℕ) (t : Took) (frame : Frame) (told : Result (List Part) ContainerFault) → nth r.frames f ≡ Some frame → image r f ≡ told
-    → commit_fitting r f frame told ≡ Ok t → Done r f t
+    → commit_fitting r f frame told ≡ Ok t → IsDone r f t
 fitted r f t frame (Err fault) here e h = absurd (cc)
 fitted r f t frame (Ok ps) here e h =
     record { frame = frame; here = here; counts = e ∙ ap (λ (xs : List Part). Ok xs) (image_parts r f (nth r.frames f) ps e); made = cc }
 
 done_if : (r : Record) (f : ℕ) (t : Took) (frame : Frame) (b : Bool) → nth r.frames f ≡ Some frame
-    → (if b then commit_fitting r f frame (image r f) else Err WrongState) ≡ Ok t → Done r f t
+    → (if b then commit_fitting r f frame (image r f) else Err WrongState) ≡ Ok t → IsDone r f t
 done_if r f t frame true here h = fitted r f t frame (image r f) here refl h
 done_if r f t frame false here h = absurd (cc)
 
-done_at : (r : Record) (f : ℕ) (t : Took) (found : Option Frame) → nth r.frames f ≡ found → commit_at r f found ≡ Ok t → Done r f t
+done_at : (r : Record) (f : ℕ) (t : Took) (found : Option Frame) → nth r.frames f ≡ found → commit_at r f found ≡ Ok t → IsDone r f t
 done_at r f t None e h = absurd (cc)
 done_at r f t (Some frame) e h = done_if r f t frame (is_committing frame.phase) e h
 
-pub done_from : (r : Record) (f : ℕ) (t : Took) → commit_done r f ≡ Ok t → Done r f t
-done_from r f t h = done_at r f t (nth r.frames f) refl h
+kept_at : (r : Record) (f : ℕ) (t : Took) (found : Option Frame) → nth r.frames f ≡ found → resolved_at r f true found ≡ Ok t → IsDone r f t
+kept_at r f t None e h = absurd (cc)
+kept_at r f t (Some frame) e h = done_if r f t frame (is_doubtful frame.phase) e h
+
+pub done_from : (r : Record) (f : ℕ) (t : Took) → IsCommit r f t → IsDone r f t
+done_from r f t (inl h) = done_at r f t (nth r.frames f) refl h
+done_from r f t (inr h) = kept_at r f t (nth r.frames f) refl h
 
 -- ---- what is counted
 gives_at : (o : Object) (link : Option Link) → o.link ≡ link → Gives o (kept_by o.work link)
@@ -104,8 +109,8 @@ stored_after f frame (o ∷ os) =
 
 pub commit_counts : CommitCounts
 commit_counts r f t h =
-    let d : Done r f t = done_from r f t h in
-    (parts_in f r.objects, d.counts, are_parts f r.objects, ap (λ (x : Took). stored_parts f x.rec.objects) d.made ∙ stored_after f d.frame r.objects)
+    let d : IsDone r f t = done_from r f t h in
+    (d.frame, d.here, parts_in f r.objects, d.counts, are_parts f r.objects, ap (λ (x : Took). x.counted) d.made, ap (λ (x : Took). stored_parts f x.rec.objects) d.made ∙ stored_after f d.frame r.objects)
 
 -- ---- whom it tells
 tells_at : (frame : Frame) (l : Link) (p : Option Operation) → l.pending ≡ p → sends (ask_at l (completion frame) p).sent ≡ map (telling frame) (elim p [ None ↦ l ∷ [] | Some op ↦ [] ])
@@ -127,7 +132,7 @@ tells_all f frame (o ∷ os) =
 
 pub commit_tells : CommitTells
 commit_tells r f t h =
-    let d : Done r f t = done_from r f t h in
+    let d : IsDone r f t = done_from r f t h in
     (d.frame, d.here, ap (λ (x : Took). x.answer.actions) d.made ∙ tells_all f d.frame r.objects)
 
 -- ---- whom a save waits for

@@ -12,10 +12,11 @@ use Rattle.container_model.specs.declared.record.Frame.{Frame}
 use Rattle.container_model.specs.declared.record.Phase.TheVariants.{Saving, HandingOff, Committing}
 use Rattle.container_model.specs.declared.answer.Action.{Action}
 use Rattle.container_model.specs.declared.answer.Action.TheVariants.{Send}
+use Rattle.container_model.specs.declared.answer.Done.{Done}
 use Rattle.container_model.specs.declared.answer.Part.{Part}
 use Rattle.container_model.specs.Record.{Record, Took}
 use Rattle.container_model.specs.HandOffs.{hands_off}
-use Rattle.container_model.specs.Saves.{commit_done, image, is_some_name, settled_frame}
+use Rattle.container_model.specs.Saves.{commit_done, image, is_some_name, resolve, settled_frame}
 
 -- An object gives to a save its work content while it is passive, else the content that it answered in this save.
 pub record Gives (o : Object) (content : Stored) : Type 0 where
@@ -45,10 +46,19 @@ abbrev pub stored_parts : ℕ → List Object → List Part
 stored_parts f [] = []
 stored_parts f (o ∷ os) = if o.frame == f then stored_part o ∷ stored_parts f os else stored_parts f os
 
--- A commit counts the frame's objects with what each gave, and after it their work contents are what was counted.
+-- a commit that is done, or one in doubt that is resolved as kept
+abbrev pub IsCommit : Record → ℕ → Took → Type 0
+IsCommit r f t = (commit_done r f ≡ Ok t) ⊎ (resolve r f true ≡ Ok t)
+
+-- the entry of a part in the log of what was counted, under the number of its save
+abbrev pub counted_part : ℕ → Part → Done
+counted_part k p = record { object = p.object; k = k; content = p.content }
+
+-- A commit counts the frame's objects with what each gave, under the number of the frame's save, and nothing else; after it
+-- their work contents are what was counted.
 abbrev pub CommitCounts : Type 0
-CommitCounts = (r : Record) (f : ℕ) (t : Took) → commit_done r f ≡ Ok t
-    → (parts : List Part) × (image r f ≡ Ok parts) × AreParts f r.objects parts × (stored_parts f t.rec.objects ≡ parts)
+CommitCounts = (r : Record) (f : ℕ) (t : Took) → IsCommit r f t
+    → (frame : Frame) × (nth r.frames f ≡ Some frame) × (parts : List Part) × (image r f ≡ Ok parts) × AreParts f r.objects parts × (t.counted ≡ map (counted_part frame.k) parts) × (stored_parts f t.rec.objects ≡ parts)
 
 -- the activations of a frame that have no pending call
 abbrev pub free_link : Option Link → List Link
@@ -65,7 +75,7 @@ telling frame l = Send (Call l.inc l.act (l.last + 1) (SaveCompleted frame.k (is
 
 -- A commit asks for one call to each activation of the frame that has no pending one, and for nothing else.
 abbrev pub CommitTells : Type 0
-CommitTells = (r : Record) (f : ℕ) (t : Took) → commit_done r f ≡ Ok t
+CommitTells = (r : Record) (f : ℕ) (t : Took) → IsCommit r f t
     → (frame : Frame) × (nth r.frames f ≡ Some frame) × (t.answer.actions ≡ map (telling frame) (free_links f r.objects))
 
 -- A save goes on to its commit only when each object of the frame that isn't passive has answered its content; under another

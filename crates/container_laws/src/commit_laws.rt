@@ -2,14 +2,15 @@
 
 ghost use Rattle.container_laws.specs.CommitLaws.{CommitCounts, CommitTells, HandOffWaits, SaveWaits};
 
-/// A commit counts the objects of its frame in their order, each with its work content while it is passive, else with
-/// the content that it answered in this save. After it each object's work content is what was counted.
+/// A commit, whether it is done or was in doubt and is resolved as kept, counts the objects of its frame in their order, each
+/// with its work content while it is passive, else with the content that it answered in this save, under the number of the
+/// frame's save, and counts nothing else. After it each object's work content is what was counted.
 pub fn commit_counts()
     ensures { CommitCounts }
 {}
 
-/// A commit asks for one call to each activation of its frame that has no pending one, which tells the number of the
-/// frame's save, and for nothing else.
+/// A commit, done or resolved as kept, asks for one call to each activation of its frame that has no pending one, which tells the
+/// number of the frame's save, and for nothing else.
 pub fn commit_tells()
     ensures { CommitTells }
 {}
