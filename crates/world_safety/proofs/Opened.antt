@@ -1,4 +1,4 @@
--- What the files of a world give where they are opened.
+-- What the files of a world give where they are opened, and that they hold what both sides counted.
 use Rattle.std.proofs.Common.{◌≡◌, ℕ, true, false, List, Option, Some, None, refl, sym, ap, ◌∙◌, subst}
 use Rattle.wire_msgs.specs.Found.{find, nth}
 use Rattle.container_model.specs.Opens.{Given, IsReadAs}
