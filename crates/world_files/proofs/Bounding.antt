@@ -58,13 +58,13 @@ bounded_more frames ids news last more dones past b = record {
   counted_once = b.counted_once;
 }
 
+pub object_past : (last f : ℕ) (x : Id) → Among (record { number = last + 1; frame = f } ∷ []) x → last < x.number
+object_past last f x (inl e) = (let n : x.number ≡ last + 1 = ap (λ (v : Id). v.number) e in omega arith)
+object_past last f x (inr h) = absurd h
+
 pub bounded_object : (frames : List Frame) (ids : List Id) (last f : ℕ) (dones : List Done) → CountedBounded frames ids last dones
     → CountedBounded frames (ids ++ record { number = last + 1; frame = f } ∷ []) (last + 1) dones
-bounded_object frames ids last f dones b = bounded_more frames ids (record { number = last + 1; frame = f } ∷ []) last 1 dones (past last f) b
-  where
-    past : (last f : ℕ) (x : Id) → Among (record { number = last + 1; frame = f } ∷ []) x → last < x.number
-    past last f x (inl e) = (let n : x.number ≡ last + 1 = ap (λ (v : Id). v.number) e in omega arith)
-    past last f x (inr h) = absurd h
+bounded_object frames ids last f dones b = bounded_more frames ids (record { number = last + 1; frame = f } ∷ []) last 1 dones (object_past last f) b
 
 pub opened_past : (last f : ℕ) (ds : List DocObject) (x : Id) → Among (map id_of (opened_objects last f ds)) x → last < x.number
 opened_past last f [] x h = absurd h

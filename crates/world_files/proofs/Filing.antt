@@ -17,7 +17,7 @@ use Rattle.world_model.specs.declared.logs.Document.{Document}
 use Rattle.world_model.specs.declared.logs.File.{File}
 use Rattle.world_model.specs.World.{done_entry, is_file, put_file}
 use Rattle.world_model.specs.Safe.{Among}
-use Rattle.world_files.specs.Files.{Bears, IsFiled, IsOfCommit, FilesCounted, IsSameFrame, AreSameFrames}
+use Rattle.world_files.specs.Files.{Bears, IsFiled, FilesCounted, IsSameFrame, AreSameFrames}
 use Rattle.world_facts.proofs.Lookups.{among_old, among_new, among_map, nth_old, nth_one, nth_aligned, nth_set_apart, length_set_nth}
 
 -- what is counted stays counted
@@ -37,7 +37,6 @@ stored_same frames after files counted dones s h = record {
   names_apart = λ f g a b name fa gb x y. (let p = s.from f a fa in let q = s.from g b gb in
       h.names_apart f g p.0 q.0 name p.1 q.1 (bears_same p.0 a name p.2 x) (bears_same q.0 b name q.2 y));
   file_counted = λ f document frame c at. (let p = s.from f frame at in filed_same files p.0 frame document dones p.2 (h.file_counted f document p.0 c p.1));
-  each_counted = h.each_counted;
 }
 
 -- a name that no frame bears
@@ -94,7 +93,6 @@ stored_framed frames new files counted dones un own s =
             subst (λ v. IsFiled files v document dones) is (s.file_counted f document p.0 old p.1))
         | inr none ↦ absurd (let e = none.0 in cc)
       ];
-      each_counted = s.each_counted;
     }
 
 -- a name that no other frame bears; of these frames the first has number i
@@ -156,7 +154,6 @@ module _ (frames : List Frame) (f : ℕ) (frame : Frame) (name : List ℕ) (file
       | inl h ↦ subst (λ v. IsFiled files v d dones) (sym h.1) (asks_filed d (s.file_counted g d frame c (ap (nth frames) h.0 ∙ at)))
       | inr h ↦ s.file_counted g d fr c h.1
     ];
-    each_counted = s.each_counted;
   }
 
 -- files by name
@@ -181,7 +178,7 @@ found_other name other bytes (file ∷ files) ne =
     ] refl
 
 -- a file after a commit is the one that it made, or it was there
-put_one : (name bytes : List ℕ) (files : List File) (file : File) → Among (put_file name bytes files) file → (file ≡ record { name = name; bytes = bytes }) ⊎ Among files file
+pub put_one : (name bytes : List ℕ) (files : List File) (file : File) → Among (put_file name bytes files) file → (file ≡ record { name = name; bytes = bytes }) ⊎ Among files file
 put_one name bytes [] file (inl e) = inl e
 put_one name bytes [] file (inr z) = absurd z
 put_one name bytes (old ∷ files) file h =
@@ -192,10 +189,6 @@ put_one name bytes (old ∷ files) file h =
         | inr k ↦ elim (put_one name bytes files file k) [ inl e ↦ inl e | inr m ↦ inr (inr m) ]
       ])
     ] h
-
--- what is counted of a file stays counted
-of_commit_more : (file : File) (dones more : List Done) → IsOfCommit file dones → IsOfCommit file (dones ++ more)
-of_commit_more file dones more h = record { document = h.document; denotes = h.denotes; holds = h.holds; counted = λ p g. among_old dones more (done_entry h.document.k p) (h.counted p g) }
 
 -- the name after a commit was the frame's
 bears_after : (frame : Frame) (name : List ℕ) → Bears (committed_frame frame) name → Bears frame name
@@ -234,15 +227,6 @@ module _ (frames : List Frame) (f : ℕ) (frame : Frame) (files : List File) (co
     counted_with = more.counted_with;
   })
 
-  -- the file that the commit made
-  made : (file : File) → file ≡ record { name = name; bytes = bytes } → IsOfCommit file (dones ++ entries)
-  made file e = subst (λ v. IsOfCommit v (dones ++ entries)) (sym e) (record {
-    document = document;
-    denotes = denotes;
-    holds = holds;
-    counted = λ p g. among_new dones entries (done_entry frame.k p) (among_map (done_entry frame.k) parts p g);
-  })
-
   bears_at : (g : ℕ) (a : Frame) (n : List ℕ) → nth (set_nth frames f (committed_frame frame)) g ≡ Some a → Bears a n → (b : Frame) × (nth frames g ≡ Some b) × Bears b n
   bears_at g a n e x = elim (nth_set_apart frames f g (committed_frame frame) a e) [
     | inl h ↦ (frame, ap (nth frames) h.0 ∙ at, bears_after frame n (subst (λ v. Bears v n) h.1 x))
@@ -263,9 +247,5 @@ module _ (frames : List Frame) (f : ℕ) (frame : Frame) (files : List File) (co
         | inl y ↦ absurd (x.0 y.0)
         | inr y ↦ elsewhere g d fr x.0 y.1 (s.file_counted g d fr x.1 y.1)
       ]
-    ];
-    each_counted = λ file h. elim (put_one name bytes files file h) [
-      | inl e ↦ made file e
-      | inr old ↦ of_commit_more file dones entries (s.each_counted file old)
     ];
   }

@@ -1,5 +1,6 @@
 -- Each event keeps the files and what was counted.
 use Rattle.std.proofs.Common.{◌≡◌, ◌==◌, ℕ, zero, suc, ◌+◌, Bool, true, false, inl, List, [], ◌∷◌, ◌++◌, length, map, Option, Some, None, Result, Ok, Err, refl, sym, ap, ◌∙◌, subst, nat_le, if◌then◌else◌}
+use Rattle.std.proofs.lemmas.Bool.{eqb-true}
 use Rattle.std.proofs.lemmas.List.{append-nil}
 use Rattle.wire_msgs.specs.Found.{find, nth, set_nth}
 use Rattle.wire_msgs.specs.declared.message.Message.{Message}
@@ -33,27 +34,34 @@ use Rattle.world_model.specs.declared.event.Event.TheVariants as event
 use Rattle.world_model.specs.declared.event.Stop.{Stop}
 use Rattle.world_model.specs.declared.event.Stop.TheVariants.{EventLimit}
 use Rattle.world_model.specs.World.{World, Instance, document_in, empty_world, joined, took, commanded, served, stocked, called_wanting, called_in, called, delivered, taken_at, with_taken, server_of, deliver, forged_on, forged, forge, spoken_by, spoken, scribble, ask, crashed, crash, ended, reap, kept_commit, done_taken, done_imaged, done_in, only_taken, resolved, happened, limited, IsImage, IsImageOf, is_of, MOST_EVENTS, Choice}
-use Rattle.world_model.specs.Safe.{Commit, IsCounted}
+use Rattle.world_model.specs.Safe.{IsCounted}
 use Rattle.container_steady.specs.Steady.{Steady}
 use Rattle.container_steady.proofs.Settling.{IsCommitOf, done_commits, is_dropped, is_failed, kept_commits, not_idle}
 use Rattle.world_files.specs.Files.{id_of, CountedBounded, FilesCounted, HasCommits, Files}
-use Rattle.world_facts.proofs.Lookups.{map_map_same}
+use Rattle.world_facts.proofs.Lookups.{among_map, find_among, find_passes, map_map_same}
 use Rattle.world_files.proofs.Numbering.{numbered}
 use Rattle.world_files.proofs.Moving.{id_asked}
 use Rattle.world_files.proofs.Quiet.{IsQuiet, doubt_quiet, drop_quiet, leaving_quiet, linked_quiet, message_quiet, named, reap_quiet, renaming_quiet, same_quiet, save_quiet, taking_quiet}
 use Rattle.container_steady.specs.Made.{IsMade, IsOtherName, makes_activation, makes_edit, makes_end, makes_fewer, makes_frame, makes_nothing, makes_object, makes_save, makes_server, makes_steps, makes_taking, run_by}
 use Rattle.container_steady.proofs.Opening.{is_opened}
 use Rattle.container_steady.proofs.Taken.{command_made}
-use Rattle.world_files.proofs.Bounding.{bounded_asking, bounded_same, bounded_framed, bounded_more, bounded_object, bounded_fewer, bounded_committed, among_without, opened_past}
-use Rattle.world_files.proofs.Commits.{counted_framed, counted_committed}
+use Rattle.world_files.proofs.Bounding.{bounded_asking, bounded_same, bounded_framed, bounded_more, bounded_object, bounded_fewer, bounded_committed, among_without, object_past, opened_past}
+use Rattle.world_files.proofs.Commits.{commits_moved, commits_framed, commits_committed}
+use Rattle.world_files.proofs.InTurn.{turns_asking, turns_fewer, turns_more, turns_same}
 use Rattle.world_files.proofs.Filing.{stored_asking, stored_same, stored_framed, stored_committed}
 
 -- the world in which nothing has happened
 pub empty_files : (numbers : ℕ) (stock : List Kind) → Files (empty_world numbers stock)
 empty_files numbers stock = record {
   counted_bounded = record { counted = λ d h. absurd h; below = λ x d frame h g e at. absurd h; counted_once = tt };
-  filed = record { aligned = refl; names_apart = λ f g a b name fa gb x y. none_there f a fa; file_counted = λ f d frame c at. none_there f frame at; each_counted = λ file h. absurd h };
-  commits = ([], record { entries = refl; last = λ f. none_counted f });
+  filed = record { aligned = refl; names_apart = λ f g a b name fa gb x y. none_there f a fa; file_counted = λ f d frame c at. none_there f frame at };
+  commits = record {
+    commits = [];
+    entries = refl;
+    last = λ f. none_counted f;
+    bounded = record { drawn = λ c p h. absurd h; owned = λ x c p h. absurd h; placed = λ c h. absurd h; below = λ c frame h. absurd h; in_turn = tt };
+    each_counted = λ file h. absurd h;
+  };
 }
   where
     none_there : {B : Type 0} (f : ℕ) (a : Frame) → nth {A = Frame} [] f ≡ Some a → B
@@ -72,7 +80,11 @@ files_quiet w t k q = record {
       (bounded_same w.rec.frames t.rec.frames (map id_of w.rec.objects) w.rec.last_object w.container_done q.frames k.counted_bounded));
   filed = rw q.frame (subst (λ cs. FilesCounted t.rec.frames w.files cs w.container_done) (sym (append-nil w.counted))
       (stored_same w.rec.frames t.rec.frames w.files w.counted w.container_done q.frames k.filed));
-  commits = rw q.frame (subst (λ cs. HasCommits cs w.container_done) (sym (append-nil w.counted)) k.commits);
+  commits = rw q.frame (subst (λ cs. HasCommits t.rec.frames (map id_of t.rec.objects) t.rec.last_object w.files cs w.container_done) (sym (append-nil w.counted))
+      (subst (λ ids. HasCommits t.rec.frames ids t.rec.last_object w.files w.counted w.container_done) (sym q.ids)
+      (subst (λ n. HasCommits t.rec.frames (map id_of w.rec.objects) n w.files w.counted w.container_done) (sym q.last)
+      (commits_moved w.rec.frames t.rec.frames (map id_of w.rec.objects) (map id_of w.rec.objects) w.rec.last_object w.rec.last_object w.files w.counted w.container_done
+      (λ cs b. turns_same w.rec.frames t.rec.frames (map id_of w.rec.objects) w.rec.last_object cs q.frames b) k.commits))));
 }
 
 files_told : (w : World) (told : Result Took ContainerFault) → Files w → ((t : Took) → told ≡ Ok t → Files (joined w t)) → Files (took w told)
@@ -100,7 +112,8 @@ files_saving w f frame (Some name) at other k =
     let asked : Files asking = record {
       counted_bounded = bounded_asking r.frames f frame name (map id_of r.objects) r.last_object w.container_done at k.counted_bounded;
       filed = stored_asking r.frames f frame name w.files w.counted w.container_done at other.0 k.filed;
-      commits = k.commits;
+      commits = commits_moved r.frames (set_nth r.frames f (record frame { asked = Some name })) (map id_of r.objects) (map id_of r.objects) r.last_object r.last_object w.files w.counted w.container_done
+          (λ cs b. turns_asking r.frames f frame name (map id_of r.objects) r.last_object cs at b) k.commits;
     } in
     let h : Files (joined asking (save_made r f frame (Some name))) = files_quiet asking (save_made r f frame (Some name)) asked (renaming_quiet r f frame name at) in
     record { counted_bounded = h.counted_bounded; filed = h.filed; commits = h.commits }
@@ -113,14 +126,17 @@ files_made w _ t s k (makes_frame name x y new made) =
     subst (λ (v : Took). Files (joined w v)) made (record {
       counted_bounded = bounded_framed r.frames (new_frame name x y) (map id_of r.objects) r.last_object w.container_done (numbered r s) k.counted_bounded;
       filed = stored_framed r.frames (new_frame name x y) w.files w.counted w.container_done new.unnamed refl k.filed;
-      commits = counted_framed w.counted w.container_done k.commits;
+      commits = commits_framed r.frames (map id_of r.objects) r.last_object w.files w.counted w.container_done (new_frame name x y) k.commits;
     })
 files_made w _ t s k (makes_object f kind area at made) =
     let r = w.rec in
     subst (λ (v : Took). Files (joined w v)) made (record {
       counted_bounded = subst (λ ids. CountedBounded r.frames ids (r.last_object + 1) w.container_done) (sym (map_one id_of r.objects _)) (bounded_object r.frames (map id_of r.objects) r.last_object f w.container_done k.counted_bounded);
       filed = subst (λ cs. FilesCounted r.frames w.files cs w.container_done) (sym (append-nil w.counted)) k.filed;
-      commits = subst (λ cs. HasCommits cs w.container_done) (sym (append-nil w.counted)) k.commits;
+      commits = subst (λ ids. HasCommits r.frames ids (r.last_object + 1) w.files (w.counted ++ []) w.container_done) (sym (map_one id_of r.objects _))
+          (subst (λ cs. HasCommits r.frames (map id_of r.objects ++ record { number = r.last_object + 1; frame = f } ∷ []) (r.last_object + 1) w.files cs w.container_done) (sym (append-nil w.counted))
+          (commits_moved r.frames r.frames (map id_of r.objects) (map id_of r.objects ++ record { number = r.last_object + 1; frame = f } ∷ []) r.last_object (r.last_object + 1) w.files w.counted w.container_done
+          (λ cs b. turns_more r.frames (map id_of r.objects) (record { number = r.last_object + 1; frame = f } ∷ []) r.last_object 1 cs (object_past r.last_object f) b) k.commits));
     })
 files_made w _ t s k (makes_fewer n at passive made) =
     let r = w.rec in
@@ -128,7 +144,9 @@ files_made w _ t s k (makes_fewer n at passive made) =
     subst (λ (v : Took). Files (joined w v)) made (record {
       counted_bounded = bounded_fewer r.frames (map id_of r.objects) (map id_of (without_first (is_object x.number) r.objects)) r.last_object w.container_done (among_without id_of (is_object x.number) r.objects) k.counted_bounded;
       filed = subst (λ cs. FilesCounted r.frames w.files cs w.container_done) (sym (append-nil w.counted)) k.filed;
-      commits = subst (λ cs. HasCommits cs w.container_done) (sym (append-nil w.counted)) k.commits;
+      commits = subst (λ cs. HasCommits r.frames (map id_of (without_first (is_object x.number) r.objects)) r.last_object w.files cs w.container_done) (sym (append-nil w.counted))
+          (commits_moved r.frames r.frames (map id_of r.objects) (map id_of (without_first (is_object x.number) r.objects)) r.last_object r.last_object w.files w.counted w.container_done
+          (λ cs b. turns_fewer r.frames (map id_of r.objects) (map id_of (without_first (is_object x.number) r.objects)) r.last_object cs (among_without id_of (is_object x.number) r.objects) b) k.commits);
     })
 files_made w _ t s k (makes_server started made) = files_quiet w t k (subst (IsQuiet w.rec) made (same_quiet w.rec _ refl refl refl refl))
 files_made w _ t s k (makes_end inc alive made) = files_quiet w t k (subst (IsQuiet w.rec) made (same_quiet w.rec _ refl refl refl refl))
@@ -157,7 +175,10 @@ files_opened w name x y given t s k e =
       counted_bounded = subst (λ ids. CountedBounded (r.frames ++ new ∷ []) ids (r.last_object + length o.ds) w.container_done) (sym (map_join id_of r.objects news))
           (bounded_more (r.frames ++ new ∷ []) (map id_of r.objects) (map id_of news) r.last_object (length o.ds) w.container_done (opened_past r.last_object (length r.frames + 1) o.ds) framed);
       filed = stored_framed r.frames new w.files w.counted w.container_done o.unnamed refl k.filed;
-      commits = counted_framed w.counted w.container_done k.commits;
+      commits = subst (λ ids. HasCommits (r.frames ++ new ∷ []) ids (r.last_object + length o.ds) w.files (w.counted ++ None ∷ []) w.container_done) (sym (map_join id_of r.objects news))
+          (commits_moved (r.frames ++ new ∷ []) (r.frames ++ new ∷ []) (map id_of r.objects) (map id_of r.objects ++ map id_of news) r.last_object (r.last_object + length o.ds) w.files (w.counted ++ None ∷ []) w.container_done
+          (λ cs b. turns_more (r.frames ++ new ∷ []) (map id_of r.objects) (map id_of news) r.last_object (length o.ds) cs (opened_past r.last_object (length r.frames + 1) o.ds) b)
+          (commits_framed r.frames (map id_of r.objects) r.last_object w.files w.counted w.container_done new k.commits));
     })
 
 -- deliveries
@@ -292,8 +313,9 @@ files_done_taken w f bytes frame parts (Ok t) v s k at im commits den held e =
           (bounded_committed r.frames f frame r.objects r.last_object w.container_done at (not_idle frame.phase c.0) (numbered r s) k.counted_bounded);
       filed = subst (λ cs. FilesCounted (set_nth r.frames f (committed_frame frame)) after.files cs after.container_done) (sym (append-nil _))
           (stored_committed r.frames f frame w.files w.counted w.container_done (parts_in f r.objects) bytes at den2 held2 k.filed);
-      commits = subst (λ cs. HasCommits cs after.container_done) (sym (append-nil _))
-          (counted_committed w.counted r.frames f frame w.container_done (parts_in f r.objects) k.filed.aligned at k.commits);
+      commits = subst (λ x. HasCommits (set_nth r.frames f (committed_frame frame)) x r.last_object after.files after.counted after.container_done) (sym ids)
+          (subst (λ cs. HasCommits (set_nth r.frames f (committed_frame frame)) (map id_of r.objects) r.last_object after.files cs after.container_done) (sym (append-nil _))
+          (commits_committed r.frames f frame r.objects r.last_object w.files w.counted w.container_done bytes k.filed.aligned at (not_idle frame.phase c.0) (numbered r s) den2 held2 k.commits));
     } in
     let one : Files (joined (kept_commit w f frame parts (commit_made r f frame).counted bytes) (commit_made r f frame)) = subst (λ x. Files (joined (kept_commit w f frame x (commit_made r f frame).counted bytes) (commit_made r f frame))) ps keeps in
     let two : Files (joined (kept_commit w f frame parts t.counted bytes) t) = subst (λ x. Files (joined (kept_commit w f frame parts x.counted bytes) x)) c.1 one in
@@ -342,5 +364,10 @@ limited_ok w (Err stop) v e = cc
 limited_ok w (Ok u) v e = elim (nat_le MOST_EVENTS (length w.answers)) as (λ b. ◌≡◌ {A = Result World Stop} (if b then Err EventLimit else Ok u) (Ok v) → ◌≡◌ {A = Result World Stop} (Ok u) (Ok v)) [ true ↦ (λ g. cc) | false ↦ (λ g. g) ] e
 
 -- the commits of a world
-pub commits_kept : (w : World) → Files w → (commits : List Commit) × IsCounted w commits
-commits_kept w k = (k.commits.0, record { entries = k.commits.1.entries; last = k.commits.1.last })
+pub commits_kept : (w : World) → (k : Files w) → IsCounted w k.commits.commits
+commits_kept w k = record {
+  entries = k.commits.entries;
+  last = k.commits.last;
+  in_turn = k.commits.bounded.in_turn;
+  owned = λ c p o g h e. k.commits.bounded.owned (id_of o) c p (among_map id_of w.rec.objects o (find_among (is_object p.object) w.rec.objects o e)) g h (sym (eqb-true o.number p.object (find_passes (is_object p.object) w.rec.objects o e)));
+}

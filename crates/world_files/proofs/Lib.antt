@@ -1,5 +1,6 @@
 pub mod Numbering
 pub mod Bounding
+pub mod InTurn
 pub mod Filing
 pub mod Frames
 pub mod Commits

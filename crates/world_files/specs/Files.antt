@@ -15,7 +15,7 @@ use Rattle.container_model.specs.declared.answer.Done.{Done}
 use Rattle.world_model.specs.declared.logs.Document.{Document}
 use Rattle.world_model.specs.declared.logs.File.{File}
 use Rattle.world_model.specs.World.{World, document_in, done_entry, is_file}
-use Rattle.world_model.specs.Safe.{Among, Commit, CountedOnce, entries_of, last_commit}
+use Rattle.world_model.specs.Safe.{Among, AreInTurn, Commit, CountedOnce, entries_of, last_commit}
 
 -- the objects by their numbers and frames, which no step changes
 pub record Id : Type 0 where
@@ -64,31 +64,40 @@ pub record IsFiled (files : List File) (frame : Frame) (document : Document) (do
   pub holds : DocOf (document_tree document.parts) (saves.document document.parts)
   pub counted_with : (p : Part) → Among document.parts p → Among dones (done_entry document.k p)
 
--- A file that holds the document of a commit that was counted, whichever frame it was of.
-pub record IsOfCommit (file : File) (dones : List Done) : Type 0 where
-  pub document : Document
-  pub denotes : ∥ Denotes file.bytes (document_tree document.parts) ∥₁
-  pub holds : DocOf (document_tree document.parts) (saves.document document.parts)
-  pub counted : (p : Part) → Among document.parts p → Among dones (done_entry document.k p)
-
 pub record FilesCounted (frames : List Frame) (files : List File) (counted : List (Option Document)) (dones : List Done) : Type 0 where
   pub aligned : length counted ≡ length frames
   pub names_apart : Apart frames
   pub file_counted : (f : ℕ) (document : Document) (frame : Frame) → nth counted f ≡ Some (Some document) → nth frames f ≡ Some frame → IsFiled files frame document dones
-  pub each_counted : (file : File) → Among files file → IsOfCommit file dones
 
--- what was counted, commit by commit
-pub record CommitsCounted (counted : List (Option Document)) (dones : List Done) (commits : List Commit) : Type 0 where
+-- Commits of objects whose numbers were drawn, for frames that are there. An object that is there still is counted for the
+-- frame that it stands in; so no two frames share one. A commit's number is at most that of its frame's last save, and below
+-- it while that one isn't counted; so each commit of a frame has a greater number than those before it.
+pub record CommitsBounded (frames : List Frame) (ids : List Id) (last_object : ℕ) (commits : List Commit) : Type 0 where
+  pub drawn : (c : Commit) (p : Part) → Among commits c → Among c.parts p → p.object ≤ last_object
+  pub owned : (x : Id) (c : Commit) (p : Part) → Among ids x → Among commits c → Among c.parts p → p.object ≡ x.number → x.frame ≡ c.frame
+  pub placed : (c : Commit) → Among commits c → (frame : Frame) × (nth frames c.frame ≡ Some frame)
+  pub below : (c : Commit) (frame : Frame) → Among commits c → nth frames c.frame ≡ Some frame → IsBelow frame c.k
+  pub in_turn : AreInTurn commits
+
+-- A file that holds the document of one of these commits, whichever frame it was of.
+pub record IsOfCommit (file : File) (commits : List Commit) : Type 0 where
+  pub commit : Commit
+  pub counted : Among commits commit
+  pub denotes : ∥ Denotes file.bytes (document_tree commit.parts) ∥₁
+  pub holds : DocOf (document_tree commit.parts) (saves.document commit.parts)
+
+-- what was counted, commit by commit, and that all files are of these commits
+pub record HasCommits (frames : List Frame) (ids : List Id) (last_object : ℕ) (files : List File) (counted : List (Option Document)) (dones : List Done) : Type 0 where
+  pub commits : List Commit
   pub entries : dones ≡ flat_map entries_of commits
   pub last : (f : ℕ) → document_in (nth counted f) ≡ last_commit f commits
-
-abbrev pub HasCommits : List (Option Document) → List Done → Type 0
-HasCommits counted dones = (commits : List Commit) × CommitsCounted counted dones commits
+  pub bounded : CommitsBounded frames ids last_object commits
+  pub each_counted : (file : File) → Among files file → IsOfCommit file commits
 
 pub record Files (w : World) : Type 0 where
   pub counted_bounded : CountedBounded w.rec.frames (map id_of w.rec.objects) w.rec.last_object w.container_done
   pub filed : FilesCounted w.rec.frames w.files w.counted w.container_done
-  pub commits : HasCommits w.counted w.container_done
+  pub commits : HasCommits w.rec.frames (map id_of w.rec.objects) w.rec.last_object w.files w.counted w.container_done
 
 -- a frame after a step that isn't a commit; it may ask for no name any more
 pub record IsSameFrame (old new : Frame) : Type 0 where

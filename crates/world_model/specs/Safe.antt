@@ -1,5 +1,5 @@
 -- What holds of every world, whatever happened in it.
-use Rattle.std.specs.Prelude.{◌≡◌, ◌≢◌, ◌⊎◌, ◌≤◌, ◌==◌, ℕ, Bool, true, false, List, [], ◌∷◌, map, Option, Some, None, Ok, if◌then◌else◌, ⊤}
+use Rattle.std.specs.Prelude.{◌≡◌, ◌≢◌, ◌⊎◌, ◌<◌, ◌≤◌, ◌==◌, ℕ, Bool, true, false, List, [], ◌∷◌, map, Option, Some, None, Ok, if◌then◌else◌, ⊤}
 use Rattle.std.specs.List.{flat_map}
 use Rattle.wire_msgs.specs.Found.{find, nth}
 use Rattle.wire_msgs.specs.declared.message.Message.{Message}
@@ -172,11 +172,24 @@ abbrev pub last_commit : ℕ → List Commit → Option Document
 last_commit f [] = None
 last_commit f (c ∷ cs) = or_else (last_commit f cs) (commit_of f c)
 
+-- Of two commits the earlier and the later one: a frame's later commit has a greater number, and an object that stands in
+-- both is counted for one frame.
+pub record Precedes (c d : Commit) : Type 0 where
+  pub rising : c.frame ≡ d.frame → c.k < d.k
+  pub apart : (p q : Part) → Among c.parts p → Among d.parts q → p.object ≡ q.object → c.frame ≡ d.frame
+
+abbrev pub AreInTurn : List Commit → Type 0
+AreInTurn [] = ⊤
+AreInTurn (c ∷ cs) = ((d : Commit) → Among cs d → Precedes c d) × AreInTurn cs
+
 -- The container counted these commits, one after the other: what it counted are just their entries, and the document
--- counted for a frame is that of its last commit.
+-- counted for a frame is that of its last commit. A frame's numbers rise, so it has one commit of a number at most; and what
+-- is counted of an object is counted for one frame, the one that it stands in as long as it is there.
 pub record IsCounted (w : World) (commits : List Commit) : Type 0 where
   pub entries : w.container_done ≡ flat_map entries_of commits
   pub last : (f : ℕ) → counted_document w f ≡ last_commit f commits
+  pub in_turn : AreInTurn commits
+  pub owned : (c : Commit) (p : Part) (o : Object) → Among commits c → Among c.parts p → find (is_object p.object) w.rec.objects ≡ Some o → o.frame ≡ c.frame
 
 -- The file of a frame holds the document of its last counted commit, whose contents are those counted with it. Where it is
 -- opened it gives that commit's objects again, and nothing else.
@@ -187,12 +200,23 @@ pub record IsKept (w : World) (f : ℕ) (document : Document) : Type 0 where
   pub counted : (p : Part) → Among document.parts p → Among w.container_done (done_entry document.k p)
   pub again : (given : Given) → IsReadAs (Some bytes) given → given ≡ Given.Holding (saves.document document.parts)
 
--- What a file gives where it is opened: the objects of a commit that was counted, with the contents that were counted. It is
--- never a bad one.
-abbrev pub GivesCommit : World → Given → Type 0
-GivesCommit w Given.Missing = ⊤
-GivesCommit w Given.Broken = ⊥
-GivesCommit w (Given.Holding ds) = (document : Document) × (ds ≡ saves.document document.parts) × ((p : Part) → Among document.parts p → Among w.container_done (done_entry document.k p))
+-- A save that a server counted as complete: it is counted in one of these commits, with the same content. Where that is the
+-- last commit of its frame, which isn't in doubt, the frame's file has bytes that denote the tree of the commit's document.
+pub record IsShared (w : World) (commits : List Commit) (e : ServerDone) : Type 0 where
+  pub commit : Commit
+  pub counted : Among commits commit
+  pub part : Part
+  pub holds : Among commit.parts part
+  pub same : done_entry commit.k part ≡ record { object = e.object; k = e.k; content = e.content }
+  pub denoted : (frame : Frame) (document : Document) → nth w.rec.frames commit.frame ≡ Some frame → is_doubtful frame.phase ≡ false → nth w.counted commit.frame ≡ Some (Some document) → document.k ≡ e.k
+      → (bytes : List ℕ) × (frame_file w commit.frame ≡ Some bytes) × ∥ Denotes bytes (document_tree commit.parts) ∥₁
+
+-- What a file gives where it is opened: the objects of one of these commits, all of them and nothing else. It is never a bad
+-- one.
+abbrev pub GivesCommit : List Commit → Given → Type 0
+GivesCommit commits Given.Missing = ⊤
+GivesCommit commits Given.Broken = ⊥
+GivesCommit commits (Given.Holding ds) = (c : Commit) × Among commits c × (ds ≡ saves.document c.parts)
 
 pub record Safe (w : World) : Type 0 where
   -- a call acts at most once: delivered again once it is answered, it leaves every server as it is and counts nothing
@@ -217,8 +241,11 @@ pub record Safe (w : World) : Type 0 where
   -- every number of a message is at most the limit of the world's numbers
   pub numbered : (m : Message) → WasSent w m → IsWithin w.rec.numbers m
   -- the container counts by commits alone
-  pub commits : (commits : List Commit) × IsCounted w commits
+  pub commits : List Commit
+  pub counted : IsCounted w commits
+  -- and whenever both sides count a save, they name one content, which the committed file's bytes denote
+  pub shared : (e : ServerDone) → Among w.server_done e → IsHonest w.hostile e.inc → IsShared w commits e
   -- the file of each frame with a counted commit, unless it is in doubt whether a later one was done
   pub files : (f : ℕ) (frame : Frame) (document : Document) → nth w.rec.frames f ≡ Some frame → is_doubtful frame.phase ≡ false → nth w.counted f ≡ Some (Some document) → IsKept w f document
   -- and any file of the world, also one that is no frame's any more
-  pub opened : (name : List ℕ) (given : Given) → IsReadAs (file_of w name) given → GivesCommit w given
+  pub opened : (name : List ℕ) (given : Given) → IsReadAs (file_of w name) given → GivesCommit commits given

@@ -18,7 +18,7 @@ use Rattle.world_safety.proofs.Events.{agrees_happened}
 use Rattle.world_safety.proofs.Granting.{granted_happened}
 use Rattle.world_safety.proofs.Holders.{holder, one_holder}
 use Rattle.world_safety.proofs.Numbering.{empty_numbers, numbers_happened}
-use Rattle.world_safety.proofs.Opened.{files_kept, files_opened_give}
+use Rattle.world_safety.proofs.Opened.{files_kept, files_opened_give, shared_kept}
 use Rattle.world_safety.proofs.Once.{once_answered}
 
 has_saved : (a : Option Activation) (c : Stored) → HasSaved c a → (b : Activation) × (a ≡ Some b) × (b.saved ≡ Some c)
@@ -40,7 +40,9 @@ safe_held w h = (let f = h.agrees.facts in record {
   server_once = f.counts.server_once;
   agreed = λ e g honest. f.counts.server_counted e g honest;
   numbered = h.numbers.sent;
-  commits = commits_kept w h.files;
+  commits = h.files.commits.commits;
+  counted = commits_kept w h.files;
+  shared = λ e g honest. shared_kept w h.files e (f.counts.server_counted e g honest);
   files = λ f frame document at sure. files_kept w h.files f frame document at sure;
   opened = λ name given read. files_opened_give w h.files name given read;
 })

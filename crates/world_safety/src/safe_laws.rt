@@ -9,9 +9,10 @@ ghost use Rattle.world_model.specs.declared.event.Event.{Event};
 /// Every world that events reach is safe, whatever the events, their number and their order, and whatever messages were
 /// forged: no call acts twice, at most one activation of an honest server that runs has a frame's menus and border, and the
 /// frame names it, each content that the container took of an honest server was sent under the storage grant that it held
-/// open, no save is counted twice, what an honest server counts the container has counted with the same content, the file of
-/// a frame holds the document of its last counted commit, any file gives the objects of a counted commit where it is opened,
-/// and every number of a message that was sent is at most the limit of the world's numbers.
+/// open, no save is counted twice, the container counts commit by commit, where a frame's numbers rise and an object is
+/// counted for one frame, what an honest server counts stands in one of these commits with the same content, the file of a
+/// frame that isn't in doubt has bytes that denote the document of its last one, any file gives the objects of one counted
+/// commit where it is opened, and every number of a message that was sent is at most the limit of the world's numbers.
 pub fn every_world_is_safe()
     ensures { (numbers : ℕ) (stock : List Kind) (events : List Event) (w : World) → Run (empty_world numbers stock) events w → Safe w }
 {}
