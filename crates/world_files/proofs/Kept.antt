@@ -368,6 +368,7 @@ pub commits_kept : (w : World) → (k : Files w) → IsCounted w k.commits.commi
 commits_kept w k = record {
   entries = k.commits.entries;
   last = k.commits.last;
+  placed = λ c g. (let p = k.commits.bounded.placed c g in (p.0, p.1, (k.commits.bounded.below c p.0 g p.1).last));
   in_turn = k.commits.bounded.in_turn;
   owned = λ c p o g h e. k.commits.bounded.owned (id_of o) c p (among_map id_of w.rec.objects o (find_among (is_object p.object) w.rec.objects o e)) g h (sym (eqb-true o.number p.object (find_passes (is_object p.object) w.rec.objects o e)));
 }

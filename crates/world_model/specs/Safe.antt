@@ -183,11 +183,13 @@ AreInTurn [] = ⊤
 AreInTurn (c ∷ cs) = ((d : Commit) → Among cs d → Precedes c d) × AreInTurn cs
 
 -- The container counted these commits, one after the other: what it counted are just their entries, and the document
--- counted for a frame is that of its last commit. A frame's numbers rise, so it has one commit of a number at most; and what
--- is counted of an object is counted for one frame, the one that it stands in as long as it is there.
+-- counted for a frame is that of its last commit. Each is of a frame that is there, whose last save has its number or a greater
+-- one. A frame's numbers rise, so it has one commit of a number at most; and what is counted of an object is counted for one
+-- frame, the one that it stands in as long as it is there.
 pub record IsCounted (w : World) (commits : List Commit) : Type 0 where
   pub entries : w.container_done ≡ flat_map entries_of commits
   pub last : (f : ℕ) → counted_document w f ≡ last_commit f commits
+  pub placed : (c : Commit) → Among commits c → (frame : Frame) × (nth w.rec.frames c.frame ≡ Some frame) × (c.k ≤ frame.k)
   pub in_turn : AreInTurn commits
   pub owned : (c : Commit) (p : Part) (o : Object) → Among commits c → Among c.parts p → find (is_object p.object) w.rec.objects ≡ Some o → o.frame ≡ c.frame
 
