@@ -70,7 +70,8 @@ spells so: a backslash and two lower-case hexadecimal digits are a byte up to 32
 A file !storage of a folder has the class id and the state bits of its storage, which are zero
 without it. Links, and what is neither a folder nor a file, are refused.
 
-FILE is replaced only once all of it is written; until then the old one stays as it was.
+FILE is replaced only once all of it is written; until then the old one stays as it was. It isn't
+replaced where a save of it was cut off, so that FILE.journal is open: JournalOpen.
 
 Example: olecon pack mail mail.msg";
 

@@ -17,6 +17,7 @@ use listing_forms::form::Form;
 use listing_forms::json_form::Json;
 use listing_forms::long_form::Long;
 use program_ends::ends::{keep, refuse, refuse_path};
+use program_ends::journals::{refuse_unfinished, tell_unfinished};
 use program_ends::new_file::NewFile;
 use std::fs::OpenFile;
 use std::process::ExitCode;
@@ -25,10 +26,14 @@ use std::{fs, io};
 use texts::path::Path;
 use texts::report::Report;
 
-/// Opens a file, or tells that it can't be read and gives the status to end with.
+/// Opens a file, and tells it where a save of the file was cut off; or tells that it can't be read and gives the status to end
+/// with.
 fn open<R: Runtime + AllocGlobal>(rt: &R, path: &str) -> Result<R::File, ExitCode> {
     match fs::open(rt, path) {
-        Ok(source) => Ok(source),
+        Ok(source) => {
+            tell_unfinished(rt, path);
+            Ok(source)
+        }
         Err(_) => Err(refuse(rt, &Report::File(path, "Unreadable"))),
     }
 }
@@ -144,7 +149,7 @@ pub fn map<R: Runtime + AllocGlobal>(rt: &R, path: &str) -> ExitCode {
 pub fn get<R: Runtime + AllocGlobal>(rt: &R, path: &str, word: &str) -> ExitCode {
     match Path::parse(rt.alloc(), word.as_bytes()) {
         Ok(Some(spelled)) => get_spelled(rt, path, word, &spelled),
-        Ok(None) => refuse_path(rt, word, "no path is spelled so"),
+        Ok(None) => refuse_path(rt, word, "no path is spelled so; a space is \\20"),
         Err(_) => refuse(rt, &Report::File(path, "NoMemory")),
     }
 }
@@ -192,8 +197,11 @@ fn get_open<R: Runtime + AllocGlobal>(
     }
 }
 
-/// Writes the tree of a file to another, or to the same.
+/// Writes the tree of a file to another, or to the same, unless a save of the one that is replaced was cut off.
 pub fn clean<R: Runtime + AllocGlobal>(rt: &R, path: &str, out: &str) -> ExitCode {
+    if let Err(code) = refuse_unfinished(rt, out) {
+        return code;
+    }
     match open(rt, path) {
         Ok(source) => clean_into(rt, path, source, out),
         Err(code) => code,

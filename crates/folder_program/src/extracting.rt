@@ -4,6 +4,7 @@ use crate::disk_folder::{DiskFolder, path_in};
 use folder_commands::extracting::extract_file;
 use folder_commands::fault::{ExtractFault, Stop};
 use program_ends::ends::refuse;
+use program_ends::journals::tell_unfinished;
 use std::fs;
 use std::process::ExitCode;
 use std::rt::Runtime;
@@ -19,6 +20,7 @@ pub fn extract<R: Runtime + AllocGlobal>(
     let Ok(mut source) = fs::open(rt, path) else {
         return refuse(rt, &Report::File(path, "Unreadable"));
     };
+    tell_unfinished(rt, path);
     let mut made = DiskFolder::new(rt, folder, is_forced);
     match extract_file(rt.alloc(), &mut source, &mut made) {
         Ok(count) => tell(rt, count, ExitCode::SUCCESS),

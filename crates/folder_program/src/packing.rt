@@ -6,14 +6,18 @@ use cfb_names::name::Name;
 use file_folders::path::FolderPath;
 use folder_packing::packing::{PackFault, pack_found};
 use program_ends::ends::{keep, refuse};
+use program_ends::journals::refuse_unfinished;
 use program_ends::new_file::NewFile;
 use std::alloc::{AllocError, Global};
 use std::process::ExitCode;
 use std::rt::Runtime;
 use texts::report::Report;
 
-/// Makes a file of a folder.
+/// Makes a file of a folder, unless a save of the file in whose place it is to be was cut off.
 pub fn pack<R: Runtime + AllocGlobal>(rt: &R, folder: &str, path: &str) -> ExitCode {
+    if let Err(code) = refuse_unfinished(rt, path) {
+        return code;
+    }
     match find_all(rt, folder) {
         Ok(whole) => pack_whole(rt, folder, path, whole),
         Err(Refusal { path, fault }) => refuse(rt, &Report::File(path.as_str(), fault)),

@@ -45,7 +45,8 @@ Words are parted by one space. Empty lines and lines that begin with # are skipp
 The names of a PATH are joined by /. A byte up to 32, or 127, is written \\ and two
 lower-case hexadecimal digits.
 
-FILE is replaced only once all of it is written; until then the old one stays as it was.
+FILE is replaced only once all of it is written; until then the old one stays as it was. It isn't
+replaced where a save of it was cut off, so that FILE.journal is open: JournalOpen.
 
 Example: echo 'stream Greeting 68656c6c6f' | olecon make greeting.ole";
 
@@ -66,7 +67,8 @@ Example: olecon get mail.msg __properties_version1.0 > properties";
 const LEFT_BEHIND: &str =
     "What stands in free sectors or behind a stream's end, times, and entries that nothing
 links to are left behind: deleted text often is still there. OUT may be FILE itself. It is
-replaced only once all of it is written; until then the old one stays as it was.
+replaced only once all of it is written; until then the old one stays as it was. It isn't
+replaced where a save of it was cut off, so that OUT.journal is open: JournalOpen.
 
 Example: olecon clean letter.doc letter.doc";
 

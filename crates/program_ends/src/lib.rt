@@ -4,4 +4,5 @@
 
 pub mod command_lines;
 pub mod ends;
+pub mod journals;
 pub mod new_file;
