@@ -32,13 +32,15 @@ const SECTORS: &str =
 rows stands what the characters mean, and how many sectors each stands for. A stream's last
 sector is told apart, as what stands behind its end may be deleted text. The last line counts
 the bytes of free sectors, those in the sectors of streams and of the mini stream that are no
-stream's, and those past all sectors that the FAT knows. clean leaves all these out.
+stream's, and those past all sectors that the FAT knows. clean leaves out what these bytes hold: in
+the file that it writes they are zeros.
 
 Example: olecon map letter.doc";
 
 const PLACES: &str =
-    "Prints ok where the file holds a tree. Else one line is printed with the fault's name, and where it
-is, as far as that is found: in the header, in the lists of the FAT and the DIFAT, in the chain of
+    "Prints ok where the file holds a tree; of one that is cut within a sector, what is missing there
+reads as zeros. Else one line is printed with the fault's name, and where it is, as far as that is
+found: in the header, in the lists of the FAT and the DIFAT, in the chain of
 the directory, of the mini FAT, of the mini stream or of a stream, with the sector whose entry is
 at fault and the number that stands there, or in an entry of the directory. An entry is told by its
 number, the root's being 0, and by its path as far as its names can be read, as list spells it; one
