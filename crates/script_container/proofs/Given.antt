@@ -21,24 +21,24 @@ refused_step f now r e is refused = ap (λ n. moved n (f n)) is ∙ ap (moved r)
 
 -- what the calls before a step are to be, of saves and of opened files
 abbrev pub IsBacked : {D : Type 0} (disks : Disks D) → Step → List (Event D) → Type 0
-IsBacked disks st es = CountsSaved disks st es × OpensRead disks st es
+IsBacked disks st es = CountsSaved disks st es × (disks.follows_model → OpensRead disks st es)
 
 -- a step of the container that f is
 abbrev pub IsBy : Step → (Record → Result Took ContainerFault) → Type 0
 IsBy st f = (g : Given) → given g st ≡ gives g (f g.now)
 
 module _ {D : Type 0} {disks : Disks D} where
-  pub one_step : (st : Step) (f : Record → Result Took ContainerFault) (es : List (Event D)) (r now : Record) → IsBy st f → (disks.follows_model → IsBacked disks st es) → GivesNext st es → (record_of es ≡ r → moved (record_of es) (f (record_of es)) ≡ now) → IsTold disks es r → IsTold disks (Stepped st ∷ es) now
-  one_step st f es r now by counts next is t = record { recorded = ap (λ g. g.now) (by (given_by es)) ∙ is t.recorded; sent = t.sent; bounded = t.bounded; heard = (next, t.heard); single = t.single; saved = λ m. ((counts m).0, t.saved m); opened = λ m. ((counts m).1, t.opened m) }
+  pub one_step : (st : Step) (f : Record → Result Took ContainerFault) (es : List (Event D)) (r now : Record) → IsBy st f → IsBacked disks st es → GivesNext st es → (record_of es ≡ r → moved (record_of es) (f (record_of es)) ≡ now) → IsTold disks es r → IsTold disks (Stepped st ∷ es) now
+  one_step st f es r now by counts next is t = record { recorded = ap (λ g. g.now) (by (given_by es)) ∙ is t.recorded; sent = t.sent; bounded = t.bounded; heard = (next, t.heard); single = t.single; saved = (counts.0, t.saved); opened = λ m. (counts.1 m, t.opened m) }
 
   -- a step that was undone for want of memory
-  pub lost_step : (st : Step) (f : Record → Result Took ContainerFault) (es : List (Event D)) (r : Record) → IsBy st f → (disks.follows_model → IsBacked disks st es) → GivesNext st es → IsTold disks es r → IsTold disks (Stepped step.NoMemory ∷ Stepped st ∷ es) r
-  lost_step st f es r by counts next t = record { recorded = ap (λ g. g.before) (by (given_by es)) ∙ t.recorded; sent = t.sent; bounded = t.bounded; heard = (tt, (next, t.heard)); single = t.single; saved = λ m. (tt, ((counts m).0, t.saved m)); opened = λ m. (tt, ((counts m).1, t.opened m)) }
+  pub lost_step : (st : Step) (f : Record → Result Took ContainerFault) (es : List (Event D)) (r : Record) → IsBy st f → IsBacked disks st es → GivesNext st es → IsTold disks es r → IsTold disks (Stepped step.NoMemory ∷ Stepped st ∷ es) r
+  lost_step st f es r by counts next t = record { recorded = ap (λ g. g.before) (by (given_by es)) ∙ t.recorded; sent = t.sent; bounded = t.bounded; heard = (tt, (next, t.heard)); single = t.single; saved = (tt, (counts.0, t.saved)); opened = λ m. (tt, (counts.1 m, t.opened m)) }
 
-  by_fault : (st : Step) (f : Record → Result Took ContainerFault) (es : List (Event D)) (r : Record) (e : ContainerFault) → IsBy st f → (disks.follows_model → IsBacked disks st es) → GivesNext st es → f r ≡ Err e → IsTold disks es r → IsTold disks (Stepped st ∷ es) r
+  by_fault : (st : Step) (f : Record → Result Took ContainerFault) (es : List (Event D)) (r : Record) (e : ContainerFault) → IsBy st f → IsBacked disks st es → GivesNext st es → f r ≡ Err e → IsTold disks es r → IsTold disks (Stepped st ∷ es) r
   by_fault st f es r e by counts next refused = one_step st f es r r by counts next (λ is. refused_step f (record_of es) r e is refused)
 
-  pub refused_given : (st : Step) (f : Record → Result Took ContainerFault) (es : List (Event D)) (r : Record) (e : ContainerFault) → IsBy st f → (disks.follows_model → IsBacked disks st es) → GivesNext st es → Refuses (f r) e → IsTold disks es r → IsTold disks (noted_of {A = Answer} (Err e) (Stepped st ∷ es)) r
+  pub refused_given : (st : Step) (f : Record → Result Took ContainerFault) (es : List (Event D)) (r : Record) (e : ContainerFault) → IsBy st f → IsBacked disks st es → GivesNext st es → Refuses (f r) e → IsTold disks es r → IsTold disks (noted_of {A = Answer} (Err e) (Stepped st ∷ es)) r
   refused_given st f es r fault.NoSuch by counts next refuses = by_fault st f es r fault.NoSuch by counts next refuses
   refused_given st f es r fault.Busy by counts next refuses = by_fault st f es r fault.Busy by counts next refuses
   refused_given st f es r fault.NotRunning by counts next refuses = by_fault st f es r fault.NotRunning by counts next refuses
@@ -54,7 +54,7 @@ module _ {D : Type 0} {disks : Disks D} where
   refused_given st f es r fault.NoMemory by counts next refuses = lost_step st f es r by counts next
 
   told_given : (st : Step) (f : Record → Result Took ContainerFault) (took : Answer → Took) (told : Result Answer ContainerFault) (es : List (Event D)) (r now : Record)
-      → IsBy st f → (disks.follows_model → IsBacked disks st es) → GivesNext st es → ((a : Answer) → (took a).rec ≡ now) → IfOk told (λ a. f r ≡ Ok (took a)) → IfErr told (Refuses (f r)) → OnErr told (now ≡ r)
+      → IsBy st f → IsBacked disks st es → GivesNext st es → ((a : Answer) → (took a).rec ≡ now) → IfOk told (λ a. f r ≡ Ok (took a)) → IfErr told (Refuses (f r)) → OnErr told (now ≡ r)
       → IsTold disks es r → IsTold disks (noted_of told (Stepped st ∷ es)) now
   told_given st f took (Ok a) es r now by counts next rec ok err kept = one_step st f es r now by counts next (λ is. taken_step f (record_of es) r (took a) is ok ∙ rec a)
   told_given st f took (Err e) es r now by counts next rec ok err kept =
@@ -63,7 +63,7 @@ module _ {D : Type 0} {disks : Disks D} where
 
   -- What the container is given, and what is noted, leave it as the history tells.
   pub step_told : (st : Step) (f : Record → Result Took ContainerFault) (took : Answer → Took) (told : Result Answer ContainerFault) (es mid after : List (Event D)) (r now : Record)
-      → IsBy st f → (disks.follows_model → IsBacked disks st es) → GivesNext st es → ((a : Answer) → (took a).rec ≡ now) → mid ≡ Stepped st ∷ es → after ≡ noted_of told mid
+      → IsBy st f → IsBacked disks st es → GivesNext st es → ((a : Answer) → (took a).rec ≡ now) → mid ≡ Stepped st ∷ es → after ≡ noted_of told mid
       → IfOk told (λ a. f r ≡ Ok (took a)) → IfErr told (Refuses (f r)) → OnErr told (now ≡ r)
       → IsTold disks es r → IsTold disks after now
   step_told st f took told es mid after r now by counts next rec is note ok err kept =

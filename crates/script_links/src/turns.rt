@@ -49,7 +49,7 @@ pub fn end_at<H: Host>(
     ensures rest { links.new.items ≡ remove links.old.items place }
     ensures paced { (s : ℕ) → pace s (H.told host.new) ≡ pace s (H.told host.old) }
     ensures ordered { orders (H.told host.new) ≡ orders (H.told host.old) }
-    ensures shown { IfErr result (λ fault. Shows (H.told host.new) fault) }
+    ensures shown { IfErr result (λ fault. Shows ⟦<H::Disk as Disk>⟧ (H.told host.new) fault) }
     ensures holding { (f : ℕ → Bool) → HoldFor f links.old.items → HoldFor f links.new.items }
 {
     let link = links.remove(place);
@@ -66,13 +66,13 @@ pub fn end_all<H: Host>(host: &mut H, links: &mut Vec<Link>)
     requires sent { AreTurns (H.told host.old) }
     requires bounded { AreBounded (H.told host.old) }
     requires heard { AreHeard (H.told host.old) }
-    requires saved { H.Disk.follows_model → AreSaved ⟦<H::Disk as Disk>⟧ (H.told host.old) }
+    requires saved { AreSaved ⟦<H::Disk as Disk>⟧ (H.told host.old) }
     requires opened { H.Disk.follows_model → AreOpened ⟦<H::Disk as Disk>⟧ (H.told host.old) }
     requires linked { AreLinked (H.told host.old) links.old.items }
     ensures sent { AreTurns (H.told host.new) }
     ensures bounded { AreBounded (H.told host.new) }
     ensures heard { AreHeard (H.told host.new) }
-    ensures saved { H.Disk.follows_model → AreSaved ⟦<H::Disk as Disk>⟧ (H.told host.new) }
+    ensures saved { AreSaved ⟦<H::Disk as Disk>⟧ (H.told host.new) }
     ensures opened { H.Disk.follows_model → AreOpened ⟦<H::Disk as Disk>⟧ (H.told host.new) }
     ensures ended { (s : ℕ) → running s (H.told host.new) ≡ 0 }
     ensures ordered { orders (H.told host.new) ≡ orders (H.told host.old) }
@@ -145,7 +145,7 @@ fn serve_at<H: Host>(
     ensures many { length links.new.items ≡ length links.old.items }
     ensures ready { (n : ℕ) → IsUnderway n (H.told host.old) links.old.items place → OnOk result (IsUnderway n (H.told host.new) links.new.items (place + 1)) }
     ensures ordered { orders (H.told host.new) ≡ orders (H.told host.old) }
-    ensures shown { IfErr result (λ fault. Shows (H.told host.new) fault) }
+    ensures shown { IfErr result (λ fault. Shows ⟦<H::Disk as Disk>⟧ (H.told host.new) fault) }
     ensures holding { (f : ℕ → Bool) → HoldFor f links.old.items → HoldFor f links.new.items }
     ensures due { (n : ℕ) → HaveHad n (H.told host.old) links.old.items place → OnOk result (HaveHad n (H.told host.new) links.new.items (place + 1)) }
 {
@@ -169,7 +169,7 @@ fn turn<H: Host>(
     ensures served { OnOk result (AreServed (H.told host.new) links.new.items) }
     ensures ready { (n : ℕ) → AreReady n (H.told host.old) links.old.items → OnOk result (AreReady (n + 1) (H.told host.new) links.new.items) }
     ensures ordered { orders (H.told host.new) ≡ orders (H.told host.old) }
-    ensures shown { IfErr result (λ fault. Shows (H.told host.new) fault) }
+    ensures shown { IfErr result (λ fault. Shows ⟦<H::Disk as Disk>⟧ (H.told host.new) fault) }
     ensures holding { (f : ℕ → Bool) → HoldFor f links.old.items → HoldFor f links.new.items }
     ensures due { (n : ℕ) → AreDue n (H.told host.old) links.old.items → OnOk result (AreDue (n + 1) (H.told host.new) links.new.items) }
 {
@@ -202,7 +202,7 @@ pub fn turns<H: Host>(
     ensures linked { AreLinked (H.told host.new) links.new.items }
     ensures served { OnOk result (AreServed (H.told host.new) links.new.items) }
     ensures ordered { orders (H.told host.new) ≡ orders (H.told host.old) }
-    ensures shown { IfErr result (λ fault. Shows (H.told host.new) fault) }
+    ensures shown { IfErr result (λ fault. Shows ⟦<H::Disk as Disk>⟧ (H.told host.new) fault) }
     ensures holding { (f : ℕ → Bool) → HoldFor f links.old.items → HoldFor f links.new.items }
 {
     for done in 0..MOST_TURNS {

@@ -79,7 +79,7 @@ fn start<H: Host>(
     ensures served { AreServed (H.told host.new) links.new.items }
     ensures paced { (s : ℕ) → pace s (H.told host.new) ≡ pace s (H.told host.old) }
     ensures ordered { orders (H.told host.new) ≡ orders (H.told host.old) }
-    ensures shown { IfErr result (λ fault. Shows (H.told host.new) fault) }
+    ensures shown { IfErr result (λ fault. Shows ⟦<H::Disk as Disk>⟧ (H.told host.new) fault) }
     ensures holding { (f : ℕ → Bool) → HoldFor f links.old.items → HoldFor f links.new.items }
 {
     if is_linked(links, inc) {
@@ -120,7 +120,7 @@ fn end<H: Host>(
     ensures served { AreServed (H.told host.new) links.new.items }
     ensures paced { (s : ℕ) → pace s (H.told host.new) ≡ pace s (H.told host.old) }
     ensures ordered { orders (H.told host.new) ≡ orders (H.told host.old) }
-    ensures shown { IfErr result (λ fault. Shows (H.told host.new) fault) }
+    ensures shown { IfErr result (λ fault. Shows ⟦<H::Disk as Disk>⟧ (H.told host.new) fault) }
     ensures holding { (f : ℕ → Bool) → HoldFor f links.old.items → HoldFor f links.new.items }
 {
     match place_of(links, inc) {
@@ -146,7 +146,7 @@ fn act_on<H: Host>(
     ensures served { AreServed (H.told host.new) links.new.items }
     ensures paced { (s : ℕ) → pace s (H.told host.new) ≡ pace s (H.told host.old) }
     ensures ordered { orders (H.told host.new) ≡ orders (H.told host.old) }
-    ensures shown { IfErr result (λ fault. Shows (H.told host.new) fault) }
+    ensures shown { IfErr result (λ fault. Shows ⟦<H::Disk as Disk>⟧ (H.told host.new) fault) }
     ensures holding { (f : ℕ → Bool) → HoldFor f links.old.items → HoldFor f links.new.items }
 {
     match action {
@@ -173,7 +173,7 @@ fn act<H: Host>(
     ensures served { AreServed (H.told host.new) links.new.items }
     ensures paced { (s : ℕ) → pace s (H.told host.new) ≡ pace s (H.told host.old) }
     ensures ordered { orders (H.told host.new) ≡ orders (H.told host.old) }
-    ensures shown { IfErr result (λ fault. Shows (H.told host.new) fault) }
+    ensures shown { IfErr result (λ fault. Shows ⟦<H::Disk as Disk>⟧ (H.told host.new) fault) }
     ensures holding { (f : ℕ → Bool) → HoldFor f links.old.items → HoldFor f links.new.items }
 {
     for action in answer.actions.as_slice() {
@@ -199,7 +199,7 @@ fn order<H: Host>(
     ensures served { AreServed (H.told host.new) links.new.items }
     ensures paced { (s : ℕ) → pace s (H.told host.new) ≡ pace s (H.told host.old) }
     ensures ordered { orders (H.told host.new) ≡ Step.Command ordered ∷ orders (H.told host.old) }
-    ensures shown { IfErr result (λ fault. Shows (H.told host.new) fault) }
+    ensures shown { IfErr result (λ fault. Shows ⟦<H::Disk as Disk>⟧ (H.told host.new) fault) }
     ensures holding { (f : ℕ → Bool) → HoldFor f links.old.items → HoldFor f links.new.items }
 {
     match command(alloc, host, core, ordered) {
@@ -231,7 +231,7 @@ fn cut<H: Host>(
     ensures served { AreServed (H.told host.new) links.new.items }
     ensures ready { OnOk result (AreReady 1 (H.told host.new) links.new.items) }
     ensures ordered { orders (H.told host.new) ≡ orders (H.told host.old) }
-    ensures shown { IfErr result (λ fault. Shows (H.told host.new) fault) }
+    ensures shown { IfErr result (λ fault. Shows ⟦<H::Disk as Disk>⟧ (H.told host.new) fault) }
     ensures holding { (f : ℕ → Bool) → HoldFor f links.old.items → HoldFor f links.new.items }
 {
     let inc = links[place].inc;
@@ -259,7 +259,7 @@ fn hand_all<H: Host>(
     ensures given { IfOk result (λ all. all ≡ true → passed inc (H.told host.new) ≡ giving waiting (passed inc (H.told host.old))) }
     ensures paced { (s : ℕ) → pace s (H.told host.new) ≡ pace s (H.told host.old) }
     ensures ordered { orders (H.told host.new) ≡ orders (H.told host.old) }
-    ensures shown { IfErr result (λ fault. Shows (H.told host.new) fault) }
+    ensures shown { IfErr result (λ fault. Shows ⟦<H::Disk as Disk>⟧ (H.told host.new) fault) }
 {
     for taken in waiting.into_vec() {
         if !hand_over(alloc, host, core, inc, taken, noticed)? {
@@ -320,7 +320,7 @@ fn release<H: Host>(
     ensures served { OnOk result (AreServed (H.told host.new) links.new.items) }
     ensures paced { (s : ℕ) → pace s (H.told host.new) ≡ pace s (H.told host.old) }
     ensures ordered { orders (H.told host.new) ≡ orders (H.told host.old) }
-    ensures shown { IfErr result (λ fault. Shows (H.told host.new) fault) }
+    ensures shown { IfErr result (λ fault. Shows ⟦<H::Disk as Disk>⟧ (H.told host.new) fault) }
     ensures holding { (f : ℕ → Bool) (inc : ℕ) → IsLinkAt links.old.items place inc → HoldFor f links.old.items → HoldFor (λ s. behind_hold (script.Release inc) s (f s)) links.new.items }
 {
     let inc = links[place].inc;
@@ -359,7 +359,7 @@ fn cut_link<H: Host>(
     ensures served { OnOk result (AreServed (H.told host.new) links.new.items) }
     ensures ready { OnOk result (AreReady 1 (H.told host.new) links.new.items) }
     ensures ordered { orders (H.told host.new) ≡ orders (H.told host.old) }
-    ensures shown { IfErr result (λ fault. Shows (H.told host.new) fault) }
+    ensures shown { IfErr result (λ fault. Shows ⟦<H::Disk as Disk>⟧ (H.told host.new) fault) }
     ensures holding { (f : ℕ → Bool) → HoldFor f links.old.items → HoldFor f links.new.items }
 {
     let Some(place) = place_of(links, inc) else {
@@ -387,7 +387,7 @@ fn release_link<H: Host>(
     ensures served { OnOk result (AreServed (H.told host.new) links.new.items) }
     ensures ready { OnOk result (AreReady 1 (H.told host.new) links.new.items) }
     ensures ordered { orders (H.told host.new) ≡ orders (H.told host.old) }
-    ensures shown { IfErr result (λ fault. Shows (H.told host.new) fault) }
+    ensures shown { IfErr result (λ fault. Shows ⟦<H::Disk as Disk>⟧ (H.told host.new) fault) }
     ensures holding { (f : ℕ → Bool) → HoldFor f links.old.items → HoldFor (λ s. behind_hold (script.Release inc) s (f s)) links.new.items }
 {
     let Some(place) = place_of(links, inc) else {
@@ -448,7 +448,7 @@ fn begin<H: Host>(
     ensures served { OnOk result (AreServed (H.told host.new) links.new.items) }
     ensures ready { OnOk result (AreReady 1 (H.told host.new) links.new.items) }
     ensures ordered { orders (H.told host.new) ≡ behind_command command (orders (H.told host.old)) }
-    ensures shown { IfErr result (λ fault. Shows (H.told host.new) fault) }
+    ensures shown { IfErr result (λ fault. Shows ⟦<H::Disk as Disk>⟧ (H.told host.new) fault) }
     ensures holding { (f : ℕ → Bool) → HoldFor f links.old.items → HoldFor (λ s. behind_hold command s (f s)) links.new.items }
 {
     match command {
@@ -478,7 +478,7 @@ pub(crate) fn carry_out<H: Host, W: Write>(
     ensures linked { AreLinked (H.told host.new) links.new.items }
     ensures served { OnOk result (AreServed (H.told host.new) links.new.items) }
     ensures ordered { orders (H.told host.new) ≡ behind_command command (orders (H.told host.old)) }
-    ensures shown { IfErr result (λ fault. Shows (H.told host.new) fault) }
+    ensures shown { IfErr result (λ fault. Shows ⟦<H::Disk as Disk>⟧ (H.told host.new) fault) }
     ensures holding { (f : ℕ → Bool) → HoldFor f links.old.items → HoldFor (λ s. behind_hold command s (f s)) links.new.items }
 {
     let mut noticed = None;

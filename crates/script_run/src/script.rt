@@ -88,7 +88,7 @@ fn carry_out_all<H: Host, W: Write>(
     ensures linked { AreLinked (H.told host.new) links.new.items }
     ensures ordered { OnOk result (orders (H.told host.new) ≡ behind_commands 0 commands.items []) }
     ensures begun { HaveBegun (H.told host.new) commands.items }
-    ensures shown { IfErr result (λ fault. ShowsOf commands.items (H.told host.new) fault) }
+    ensures shown { IfErr result (λ fault. ShowsOf ⟦<H::Disk as Disk>⟧ commands.items (H.told host.new) fault) }
 {
     for (place, command) in commands.into_iter().enumerate() {
         begins(host, place);
@@ -121,11 +121,11 @@ pub fn run_script<H: Host, R: Read, W: Write>(
     ensures turns { AreTurns (H.told host.new) }
     ensures bounded { AreBounded (H.told host.new) }
     ensures heard { AreHeard (H.told host.new) }
-    ensures saved { H.Disk.follows_model → AreSaved ⟦<H::Disk as Disk>⟧ (H.told host.new) }
+    ensures saved { AreSaved ⟦<H::Disk as Disk>⟧ (H.told host.new) }
     ensures opened { H.Disk.follows_model → AreOpened ⟦<H::Disk as Disk>⟧ (H.told host.new) }
     ensures carried { OnOk result (IfSome (R.remaining reader.old) (λ text. AreCarriedOut (H.told host.new) text)) }
     ensures begun { IfSome (R.remaining reader.old) (λ text. MayHaveBegun (H.told host.new) text) }
-    ensures faulted { IfErr result (λ fault. IsFaultOf (R.remaining reader.old) (H.told host.new) fault) }
+    ensures faulted { IfErr result (λ fault. IsFaultOf ⟦<H::Disk as Disk>⟧ (R.remaining reader.old) (H.told host.new) fault) }
 {
     let commands = match read_script(alloc, reader) {
         Ok(commands) => commands,

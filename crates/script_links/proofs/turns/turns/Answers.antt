@@ -20,7 +20,7 @@ loop-done-preserved g c = record {
 pub returns-in_err-turn-clause-shown : goal.returns-in_err-turn-clause-shown
 returns-in_err-turn-clause-shown g c =
     let again : IsErrAnd c.from_residual.result (λ x. x ≡ c.in_err-turn.field-0.0) = search rules in
-    passed_on c.from_residual.result c.in_err-turn.field-0.0 (g.H.Host.told c.turn.new.host) again c.in_err-turn.ensures.shown
+    passed_on g.H.Disk.Disk c.from_residual.result c.in_err-turn.field-0.0 (g.H.Host.told c.turn.new.host) again c.in_err-turn.ensures.shown
 
 pub returns-then-is_pending-clause-shown : goal.returns-then-is_pending-clause-shown
 returns-then-is_pending-clause-shown g c =

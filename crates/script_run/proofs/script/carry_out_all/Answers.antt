@@ -33,7 +33,7 @@ returns-in_err-carry_out-clause-begun g c =
 pub returns-in_err-carry_out-clause-shown : goal.returns-in_err-carry_out-clause-shown
 returns-in_err-carry_out-clause-shown g c =
     let again : IsErrAnd c.from_residual.result (λ x. x ≡ c.in_err-carry_out.field-0.0) = search rules in
-    handed_on c.from_residual.result c.in_err-carry_out.field-0.0 c.args.commands.items (g.H.Host.told c.carry_out.new.host) again c.in_err-carry_out.ensures.shown
+    handed_on g.H.Disk.Disk c.from_residual.result c.in_err-carry_out.field-0.0 c.args.commands.items (g.H.Host.told c.carry_out.new.host) again c.in_err-carry_out.ensures.shown
 
 pub returns-then-is_any_held-clause-shown : goal.returns-then-is_any_held-clause-shown
 returns-then-is_any_held-clause-shown g c =
