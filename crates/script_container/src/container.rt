@@ -6,12 +6,12 @@ ghost use Rattle.document_model.specs.declared.object.DocObject.{DocObject};
 ghost use Rattle.script_model.specs.Bounds.{pace};
 ghost use Rattle.script_model.specs.Events.{running};
 ghost use Rattle.script_model.specs.Orders.{orders};
-ghost use Rattle.script_model.specs.Origins.{AreNext, IsJustEnded, giving, passed};
+ghost use Rattle.script_model.specs.Origins.{AreNext, giving, passed};
 ghost use Rattle.script_model.specs.Saved.{IsLost, IsReadFrom, IsSavedThere};
 ghost use Rattle.script_model.specs.declared.step.Step.TheVariants as given;
 ghost use Rattle.script_container.specs.Beside.{beside};
 ghost use Rattle.script_container.specs.Shown.{Shows};
-ghost use Rattle.script_container.specs.Told.{IsTold, noted_of};
+ghost use Rattle.script_container.specs.Told.{IsEnded, IsTold, noted_of};
 ghost use Rattle.script_container.specs.declared.fault.ScriptFault.TheVariants.{NoMemory};
 ghost use Rattle.std.specs.Prelude.{◌≡◌, ◌≤◌, ◌∷◌, [], IfErr, IfOk, List, Some, length, ℕ};
 ghost use Rattle.wire_msgs.specs.declared.message.Message.{Message};
@@ -170,8 +170,7 @@ pub fn reap<H: Host>(
     core: &mut ContainerCore,
     inc: u32,
 ) -> Result<Answer, ContainerFault>
-    requires told { IsTold ⟦<H::Disk as Disk>⟧ (H.told host.old) core.old }
-    requires ended { IsJustEnded inc (H.told host.old) }
+    requires { IsEnded ⟦<H::Disk as Disk>⟧ inc (H.told host.old) core.old }
     ensures told { IsTold ⟦<H::Disk as Disk>⟧ (H.told host.new) core.new }
     ensures still { (s : ℕ) → running s (H.told host.new) ≡ running s (H.told host.old) }
     ensures quiet { (s : ℕ) → passed s (H.told host.new) ≡ passed s (H.told host.old) }

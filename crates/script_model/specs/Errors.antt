@@ -18,7 +18,7 @@ use Rattle.script_model.specs.Bounds.{MOST_TURNS, pace}
 use Rattle.script_model.specs.Containers.{record_of}
 use Rattle.script_model.specs.Events.{Event, Started, Connected, Sent, Heard, Ended, Opened, Found, Shut, Stepped, running}
 use Rattle.script_model.specs.Orders.{behind_commands, orders}
-use Rattle.script_model.specs.Saved.{HasFailed, file_name}
+use Rattle.script_model.specs.Saved.{HasFailed, file_name, is_any_unsaved}
 
 -- A history without the ends of servers that are its last calls: however a script ends, the servers that still run are ended then.
 abbrev pub before_ends : {D : Type 0} → List (Event D) → List (Event D)
@@ -55,6 +55,14 @@ pub record IsUnanswered {D : Type 0} (es : List (Event D)) : Type 0 where
   pub runs : 1 ≤ running server es
   pub turned : MOST_TURNS ≤ (pace server es).turns
   pub asked : is_asked server (record_of es).objects ≡ true
+
+-- The file of a frame is to be committed, or in doubt.
+abbrev pub HasUnsaved : {D : Type 0} → List (Event D) → Type 0
+HasUnsaved es = is_any_unsaved (record_of es).frames ≡ true
+
+-- What a command leads to isn't done.
+abbrev pub IsUnsettled : {D : Type 0} → List (Event D) → Type 0
+IsUnsettled es = IsUnanswered es ⊎ HasUnsaved es
 
 -- whether what comes from a server is held behind a command
 abbrev pub behind_hold : ScriptCommand → ℕ → Bool → Bool

@@ -1,5 +1,5 @@
 -- What a history says of files: which disk stands behind each commit that the container counts, and behind each file that is opened.
-use Rattle.std.specs.Prelude.{◌≡◌, ◌<◌, ◌⊎◌, ℕ, Bool, true, false, List, [], ◌∷◌, length, Option, Some, None, Ok, Err}
+use Rattle.std.specs.Prelude.{◌≡◌, ◌<◌, ◌⊎◌, ◌||◌, ℕ, Bool, true, false, List, [], ◌∷◌, length, Option, Some, None, Ok, Err}
 use Rattle.file_model.specs.Denotes.{Denotes}
 use Rattle.document_model.specs.DocOf.{DocOf}
 use Rattle.document_model.specs.declared.object.DocObject.{DocObject}
@@ -11,6 +11,8 @@ use Rattle.store_model.specs.declared.disk.Disk.{Ghosts as Disks}
 use Rattle.wire_msgs.specs.Found.{nth}
 use Rattle.container_model.specs.declared.answer.Part.{Part}
 use Rattle.container_model.specs.declared.record.Frame.{Frame}
+use Rattle.container_model.specs.declared.record.Phase.{Phase}
+use Rattle.container_model.specs.declared.record.Phase.TheVariants.{Idle, Saving, HandingOff, Committing, InDoubt}
 use Rattle.container_model.specs.Opens.{Given, IsReadAs}
 use Rattle.container_model.specs.Record.{Record}
 use Rattle.container_model.specs.Saves.{document, document_tree, image}
@@ -75,6 +77,19 @@ asked_name None name = name
 
 abbrev pub file_name : Frame → List ℕ
 file_name frame = asked_name frame.asked frame.name
+
+-- whether a frame's file is to be committed, or it isn't known whether it was
+abbrev pub is_unsaved : Phase → Bool
+is_unsaved Idle = false
+is_unsaved Saving = false
+is_unsaved HandingOff = false
+is_unsaved Committing = true
+is_unsaved InDoubt = true
+
+-- whether the file of one of these frames is
+abbrev pub is_any_unsaved : List Frame → Bool
+is_any_unsaved [] = false
+is_any_unsaved (frame ∷ frames) = is_unsaved frame.phase || is_any_unsaved frames
 
 -- Bytes are the file of a frame whose commit is asked for: this is its name, they denote a tree, and what this holds is the
 -- document of its save.

@@ -10,9 +10,10 @@ use Rattle.script_links.specs.Shown.{Shows}
 use Rattle.script_model.specs.declared.command.ScriptCommand.{ScriptCommand}
 use Rattle.script_model.specs.Bounds.{MOST_TURNS, Pace, pace}
 use Rattle.script_model.specs.Containers.{Given, given_by}
-use Rattle.script_model.specs.Errors.{IsLeftHeld, IsUnanswered, IsUnknown, IsUnopened, IsUnstarted, before_ends, is_asked}
+use Rattle.script_model.specs.Errors.{IsLeftHeld, IsUnanswered, IsUnknown, IsUnopened, IsUnsettled, IsUnstarted, before_ends, is_asked}
 use Rattle.script_model.specs.Events.{Event, Started, Connected, Sent, Heard, Ended, Opened, Found, Shut, Stepped, running}
 use Rattle.script_model.specs.Orders.{orders}
+use Rattle.script_model.specs.Saved.{is_any_unsaved}
 use Rattle.script_texts.specs.Commands.{commands_read}
 use Rattle.script_run.specs.Faulted.{IsFaultOf, IsHeldToTheEnd, RefusesScript, ShowsOf}
 
@@ -84,6 +85,9 @@ module _ {D : Type 0} where
     asked = ap (λ (g : Given). is_asked u.server g.now.objects) (recorded es) ∙ u.asked;
   }
 
+  unsettled_still : (es : List (Event D)) → IsUnsettled es → IsUnsettled (before_ends es)
+  unsettled_still es u = ⊎_elim (λ asked. inl (unanswered_still es asked)) (λ unsaved. inr (ap (λ (g : Given). is_any_unsaved g.now.frames) (recorded es) ∙ unsaved)) u
+
   held_still : (es : List (Event D)) (commands : List ScriptCommand) → IsLeftHeld es commands → IsLeftHeld (before_ends es) commands
   held_still es commands h = record {
     ordered = ordered es ∙ h.ordered;
@@ -122,7 +126,7 @@ module _ {D : Type 0} where
   still disks input commands es (fault.Input why) read shows = absurd shows
   still disks input commands es (fault.Line n why) read shows = absurd shows
   still disks input commands es (fault.Link inc) read shows = unstarted_still inc es shows
-  still disks input commands es fault.Stalled read shows = ⊎_elim (λ u. inl (unanswered_still es u)) (λ h. inr (record { commands = commands; read = read; left = held_still es commands h })) shows
+  still disks input commands es fault.Stalled read shows = ⊎_elim (λ u. inl (unsettled_still es u)) (λ h. inr (record { commands = commands; read = read; left = held_still es commands h })) shows
   still disks input commands es (fault.File name why) read shows = unknown_still disks name.items why es shows
   still disks input commands es fault.NoMemory read shows = tt
   still disks input commands es fault.Unwritable read shows = tt
@@ -132,7 +136,7 @@ module _ {D : Type 0} where
   ends_on disks input commands es after (fault.Input why) same shows is = absurd shows
   ends_on disks input commands es after (fault.Line n why) same shows is = absurd shows
   ends_on disks input commands es after (fault.Link inc) same shows is = subst (λ (h : List (Event D)). IsUnstarted inc h) (sym same) is
-  ends_on disks input commands es after fault.Stalled same shows is = subst (λ (h : List (Event D)). IsUnanswered h ⊎ IsHeldToTheEnd input h) (sym same) is
+  ends_on disks input commands es after fault.Stalled same shows is = subst (λ (h : List (Event D)). IsUnsettled h ⊎ IsHeldToTheEnd input h) (sym same) is
   ends_on disks input commands es after (fault.File name why) same shows is = subst (λ (h : List (Event D)). IsUnknown disks h name.items why) (sym same) is
   ends_on disks input commands es after fault.NoMemory same shows is = tt
   ends_on disks input commands es after fault.Unwritable same shows is = tt

@@ -6,17 +6,19 @@ ghost use Rattle.script_model.specs.Errors.{behind_hold};
 ghost use Rattle.script_model.specs.Events.{running};
 ghost use Rattle.script_model.specs.Orders.{behind_command, orders};
 ghost use Rattle.script_model.specs.Origins.{AreNext, Passed, giving, passed};
+ghost use Rattle.script_model.specs.Saved.{is_any_unsaved};
 ghost use Rattle.script_model.specs.declared.command.ScriptCommand.TheVariants as script;
 ghost use Rattle.script_model.specs.declared.step.Step.{Step};
 ghost use Rattle.script_links.specs.Links.{AreLinked, AreServed, EachServed, HoldFor, IsLinkAt, beside, links_of};
 ghost use Rattle.script_links.specs.Ready.{AreReady, MayLink, pace_beside};
-ghost use Rattle.script_links.specs.Shown.{Shows};
+ghost use Rattle.script_links.specs.Shown.{AreQuiet, Shows};
 ghost use Rattle.script_links.specs.Told.{IsTold};
 ghost use Rattle.script_container.specs.declared.fault.ScriptFault.TheVariants.{NoMemory};
 ghost use Rattle.script_links.specs.declared.links.Link.{Link};
 ghost use Rattle.std.specs.Prelude.{◌≡◌, ◌≤◌, ◌<◌, ◌++◌, ◌∷◌, Bool, [], false, true, IfErr, IfNone, IfOk, IfSome, OnOk, length, ℕ, slice_index_or, slice_set, vec_capacity, vec_len};
 
 use crate::opens::open;
+use crate::unsaved::is_any_unsaved;
 use container_core::container::ContainerCore;
 use container_model::answer::{Action, Answer};
 use container_model::command::Command;
@@ -462,6 +464,8 @@ fn begin<H: Host>(
 }
 
 /// Carries a command out, with the turns that it leads to, and writes what is told of it.
+///
+/// Refused: as its parts, and `Stalled` too where a frame's file is still to be committed.
 pub(crate) fn carry_out<H: Host, W: Write>(
     alloc: Global,
     host: &mut H,
@@ -477,6 +481,8 @@ pub(crate) fn carry_out<H: Host, W: Write>(
     ensures told { IsTold ⟦<H::Disk as Disk>⟧ (H.told host.new) core.new }
     ensures linked { AreLinked (H.told host.new) links.new.items }
     ensures served { OnOk result (AreServed (H.told host.new) links.new.items) }
+    ensures quiet { OnOk result (AreQuiet core.new.objects links.new.items) }
+    ensures saved { OnOk result (is_any_unsaved core.new.frames ≡ false) }
     ensures ordered { orders (H.told host.new) ≡ behind_command command (orders (H.told host.old)) }
     ensures shown { IfErr result (λ fault. Shows ⟦<H::Disk as Disk>⟧ (H.told host.new) fault) }
     ensures holding { (f : ℕ → Bool) → HoldFor f links.old.items → HoldFor (λ s. behind_hold command s (f s)) links.new.items }
@@ -485,6 +491,9 @@ pub(crate) fn carry_out<H: Host, W: Write>(
     let mut text = Vec::new(alloc);
     let told = begin(alloc, host, core, links, command, &mut noticed, &mut text)?;
     turns(alloc, host, core, links, &mut noticed)?;
+    if is_any_unsaved(core) {
+        return Err(ScriptFault::Stalled);
+    }
     push_told(alloc, &mut text, further(told, noticed))?;
     match write_all(writer, &text) {
         Ok(()) => Ok(()),

@@ -1,6 +1,8 @@
-use Rattle.std.proofs.Common.{◌≡◌, rules}
+use Rattle.std.proofs.Common.{◌≡◌, ◌∙◌, ap, inr, sym, rules}
 use Rattle.std.specs.Result.{IsErrAnd}
+use Rattle.container_model.specs.Record.{Record}
 use Rattle.script_model.specs.Errors.{behind_hold}
+use Rattle.script_model.specs.Saved.{is_any_unsaved}
 use Rattle.script_container.proofs.Shown.{memory_on, passed_on}
 use Rattle.script_run.proofs.commands.carry_out.Goals as goal
 
@@ -28,3 +30,9 @@ returns-in-Ok-clause-holding g c = λ f hold. c.turns.ensures.holding (λ s. beh
 
 pub returns-clause-holding : goal.returns-clause-holding
 returns-clause-holding g c = λ f hold. c.turns.ensures.holding (λ s. behind_hold c.args.command s (f s)) (c.begin.ensures.holding f hold)
+
+pub returns-then-is_any_unsaved-clause-shown : goal.returns-then-is_any_unsaved-clause-shown
+returns-then-is_any_unsaved-clause-shown g c = inr (ap (λ (r : Record). is_any_unsaved r.frames) c.turns.ensures.told.recorded ∙ sym c.is_any_unsaved.ensures ∙ c.if-is_any_unsaved.true)
+
+pub returns-then-is_any_unsaved-clause-holding : goal.returns-then-is_any_unsaved-clause-holding
+returns-then-is_any_unsaved-clause-holding g c = λ f hold. c.turns.ensures.holding (λ s. behind_hold c.args.command s (f s)) (c.begin.ensures.holding f hold)
