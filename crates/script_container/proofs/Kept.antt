@@ -94,6 +94,11 @@ module _ {D : Type 0} (disks : Disks D) where
   lost_again (Ok o) given mid disk bytes first has = lost_then o (IsLostOn disks mid bytes disk) (IsLostOn disks given bytes disk) (again_left given mid disk bytes first) has
   lost_again (Err e) given mid disk bytes first has = tt
 
+  -- Calls that change no byte, of the disk of a store that was opened.
+  pub quiet_on_opened : (given mid held disk : D) → IsSince disks given mid (IsAsGiven disks given) → held ≡ mid → IsSince disks held disk (disks.may_leave held) → IsSince disks given disk (IsAsGiven disks given)
+  quiet_on_opened given mid held disk first is quiet =
+      joined given mid disk (IsAsGiven disks given) (disks.may_leave mid) (IsAsGiven disks given) first (λ c stands. stands) (subst (λ (d : D). IsSince disks d disk (disks.may_leave d)) is quiet) first.now
+
   -- What a store that is opened and read leaves of the disk that it was opened on.
   pub looked_on_opened : (given mid held disk : D) → disks.may_leave given (disks.reads given) → restored (disks.reads given) ≡ Some (disks.reads mid).document
       → IsSince disks given mid (IsAsGiven disks given) → IsSince disks mid held (StandsFor (disks.reads mid).document) → disk ≡ held → IsSince disks given disk (IsAsGiven disks given)

@@ -1,3 +1,4 @@
+pub mod Causes
 pub mod Filed
 pub mod Given
 pub mod Kept

@@ -19,7 +19,7 @@ use Rattle.script_model.specs.Events.{Event, Stepped}
 use Rattle.script_model.specs.Origins.{GivesNext}
 use Rattle.script_model.specs.Saved.{IsOpened, IsReadFrom}
 use Rattle.store_model.specs.declared.disk.Disk.{Ghosts as Disks}
-use Rattle.script_container.proofs.Given.{IsBacked, IsBy, lost_step, one_step, refused_given, taken_step}
+use Rattle.script_container.proofs.Given.{IsBacked, IsBy, as_noted, lost_step, one_step, refused_given, taken_step}
 use Rattle.script_container.specs.Told.{IsTold, noted_of}
 
 -- what the container makes of a document
@@ -68,9 +68,9 @@ refuses one r name w h ds file e gives (as_given given reads refused) = inr (sub
 refuses one r name w h ds file e gives (reading is looked some) = inl is
 
 module _ {D : Type 0} {disks : Disks D} where
-  either_refused : (st : Step) (f : Record → Result Took ContainerFault) (es : List (Event D)) (r : Record) (e : ContainerFault) → IsBy st f → (disks.follows_model → IsBacked disks st es) → GivesNext st es → (e ≡ fault.NoMemory) ⊎ Refuses (f r) e → IsTold disks es r → IsTold disks (noted_of {A = Answer} (Err e) (Stepped st ∷ es)) r
-  either_refused st f es r e by counts next (inr refused) t = refused_given st f es r e by counts next refused t
-  either_refused st f es r e by counts next (inl is) t = subst (λ x. IsTold disks (noted_of {A = Answer} (Err x) (Stepped st ∷ es)) r) (sym is) (lost_step st f es r by counts next t)
+  either_refused : (st : Step) (f : Record → Result Took ContainerFault) (es : List (Event D)) (r : Record) (e : ContainerFault) → IsBy st f → IsBacked disks st es → GivesNext st es → (e ≡ fault.NoMemory) ⊎ Refuses (f r) e → IsTold disks es r → IsTold disks (noted_of {A = Answer} (Err e) (Stepped st ∷ es)) r
+  either_refused st f es r e by counts next (inr refused) t = refused_given st f es r e by counts next refused (as_noted es r t)
+  either_refused st f es r e by counts next (inl is) t = subst (λ x. IsTold disks (noted_of {A = Answer} (Err x) (Stepped st ∷ es)) r) (sym is) (lost_step st f es r by counts next (as_noted es r t))
 
   file_given : (one : FilesGiveOne) (name : List ℕ) (w h : ℕ) (ds : List DocObject) (file : Option (List ℕ)) (told : Result Answer ContainerFault) (es : List (Event D)) (r now : Record)
       → (disks.follows_model → IsOpened disks es name ds) → IsReadAs file (Read.Holding ds)
@@ -79,10 +79,10 @@ module _ {D : Type 0} {disks : Disks D} where
   file_given one name w h ds file (Ok a) es r now read gives ok err kept t =
       let f = makes name w h ds in
       let took : f r ≡ Ok (counts_none now a) = subst (λ (x : Read). opened r name w h x ≡ Ok (counts_none now a)) (one file ok.0 (Read.Holding ds) ok.1 gives) ok.2 in
-      one_step (step.Open name w h ds) f es r now (λ g. refl) (λ m. (tt, read m)) tt (λ is. taken_step f (record_of es) r (counts_none now a) is took) t
+      one_step (step.Open name w h ds) f es r now (λ g. refl) (tt, read) tt (λ is. taken_step f (record_of es) r (counts_none now a) is took) (as_noted es r t)
   file_given one name w h ds file (Err e) es r now read gives ok err kept t =
       subst (λ (n : Record). IsTold disks (noted_of {A = Answer} (Err e) (Stepped (step.Open name w h ds) ∷ es)) n) (sym kept)
-      (either_refused (step.Open name w h ds) (makes name w h ds) es r e (λ g. refl) (λ m. (tt, read m)) tt (refuses one r name w h ds file e gives err) t)
+      (either_refused (step.Open name w h ds) (makes name w h ds) es r e (λ g. refl) (tt, read) tt (refuses one r name w h ds file e gives err) t)
 
   -- A file that is opened leaves the container as the history tells.
   pub file_told : (one : FilesGiveOne) (name : List ℕ) (w h : ℕ) (ds : List DocObject) (file : Option (List ℕ)) (told : Result Answer ContainerFault) (es mid after : List (Event D)) (r now : Record)

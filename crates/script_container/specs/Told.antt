@@ -15,22 +15,30 @@ use Rattle.store_model.specs.declared.disk.Disk.{Ghosts as Disks}
 use Rattle.script_model.specs.declared.step.Step.TheVariants as step
 use Rattle.script_model.specs.Bounds.{AreBounded}
 use Rattle.script_model.specs.Containers.{record_of}
-use Rattle.script_model.specs.Events.{Event, Stepped, running}
+use Rattle.script_model.specs.Errors.{before_ends}
+use Rattle.script_model.specs.Events.{Ended, Event, Stepped, running}
 use Rattle.script_model.specs.Origins.{AreHeard}
-use Rattle.script_model.specs.Saved.{AreOpened, AreSaved, IsDurable, IsLostOn, IsSavedOn, IsShutWith, IsShutWithout, IsSince}
+use Rattle.script_model.specs.Saved.{AreOpened, AreSaved, IsDurable, IsLostOn, IsRefusedOn, IsSavedOn, IsShutWith, IsShutWithout, IsSince}
 use Rattle.script_model.specs.Turns.{AreTurns}
 
--- The container's record is that of the history, all that was sent were its turns, no more was sent, made anew and read than a command may, each message that it was given came on its
--- link, no server runs twice, and, where the disks follow the model, each commit that it counts is saved and each file that it
--- opened was read.
+-- The container's record is that of the history, all that was sent were its turns, and no more was sent, made anew and read than a
+-- command may. Each message that it was given came on a link of its server, each end of a server that it was told stands behind this
+-- end, and no file was to be committed where a command began. No server runs twice. Each commit that failed has a cause, and, where
+-- the disks follow the model, each that it counts is saved, and each file that it opened was read. The last call ended no server:
+-- the container was told of each end.
 pub record IsTold {D : Type 0} (disks : Disks D) (es : List (Event D)) (r : Record) : Type 0 where
   pub recorded : record_of es ≡ r
   pub sent : AreTurns es
   pub bounded : AreBounded es
   pub heard : AreHeard es
   pub single : (s : ℕ) → running s es ≤ 1
-  pub saved : disks.follows_model → AreSaved disks es
+  pub saved : AreSaved disks es
   pub opened : disks.follows_model → AreOpened disks es
+  pub reaped : before_ends es ≡ es
+
+-- The last call ended this server, and the container isn't told of it.
+abbrev pub IsEnded : {D : Type 0} (disks : Disks D) → ℕ → List (Event D) → Record → Type 0
+IsEnded {D = D} disks inc es r = (before : List (Event D)) × (es ≡ Ended inc ∷ before) × IsTold disks before r
 
 -- a history in which want of memory is noted
 abbrev pub noted_of : {A D : Type 0} → Result A ContainerFault → List (Event D) → List (Event D)
@@ -69,9 +77,9 @@ IsAlike file bytes = (t : Tree) → Denotes file t → ∥ Denotes bytes t ∥�
 abbrev pub IsFiledOn : {D : Type 0} (disks : Disks D) → D → List ℕ → D → Type 0
 IsFiledOn disks given file disk = (bytes : List ℕ) × IsAlike file bytes × IsSavedOn disks given bytes disk
 
--- Bytes that denote what a file does were to be saved on a disk that was given, and weren't.
+-- Bytes that denote what a file does were to be saved on a disk that was given, and weren't, for a cause.
 abbrev pub IsUnfiledOn : {D : Type 0} (disks : Disks D) → D → List ℕ → D → Type 0
-IsUnfiledOn disks given file disk = (bytes : List ℕ) × IsAlike file bytes × IsLostOn disks given bytes disk
+IsUnfiledOn disks given file disk = (bytes : List ℕ) × IsAlike file bytes × (disks.follows_model → IsLostOn disks given bytes disk) × IsRefusedOn disks given bytes disk
 
 -- The last calls gave a disk under this name and gave it back, and in between bytes that denote what a file does were saved on it.
 abbrev pub IsFiledWith : {D : Type 0} (disks : Disks D) → List (Event D) → (name file : List ℕ) → Type 0

@@ -6,12 +6,12 @@ ghost use Rattle.document_model.specs.declared.object.DocObject.{DocObject};
 ghost use Rattle.script_model.specs.Bounds.{pace};
 ghost use Rattle.script_model.specs.Events.{running};
 ghost use Rattle.script_model.specs.Orders.{orders};
-ghost use Rattle.script_model.specs.Origins.{AreNext, IsJustEnded, giving, passed};
-ghost use Rattle.script_model.specs.Saved.{IsLost, IsReadFrom, IsSaved};
+ghost use Rattle.script_model.specs.Origins.{AreNext, giving, passed};
+ghost use Rattle.script_model.specs.Saved.{IsLost, IsReadFrom, IsSavedThere};
 ghost use Rattle.script_model.specs.declared.step.Step.TheVariants as given;
 ghost use Rattle.script_container.specs.Beside.{beside};
 ghost use Rattle.script_container.specs.Shown.{Shows};
-ghost use Rattle.script_container.specs.Told.{IsTold, noted_of};
+ghost use Rattle.script_container.specs.Told.{IsEnded, IsTold, noted_of};
 ghost use Rattle.script_container.specs.declared.fault.ScriptFault.TheVariants.{NoMemory};
 ghost use Rattle.std.specs.Prelude.{◌≡◌, ◌≤◌, ◌∷◌, [], IfErr, IfOk, List, Some, length, ℕ};
 ghost use Rattle.wire_msgs.specs.declared.message.Message.{Message};
@@ -170,8 +170,7 @@ pub fn reap<H: Host>(
     core: &mut ContainerCore,
     inc: u32,
 ) -> Result<Answer, ContainerFault>
-    requires told { IsTold ⟦<H::Disk as Disk>⟧ (H.told host.old) core.old }
-    requires ended { IsJustEnded inc (H.told host.old) }
+    requires { IsEnded ⟦<H::Disk as Disk>⟧ inc (H.told host.old) core.old }
     ensures told { IsTold ⟦<H::Disk as Disk>⟧ (H.told host.new) core.new }
     ensures still { (s : ℕ) → running s (H.told host.new) ≡ running s (H.told host.old) }
     ensures quiet { (s : ℕ) → passed s (H.told host.new) ≡ passed s (H.told host.old) }
@@ -200,14 +199,14 @@ pub fn committed<H: Host>(
     core: &mut ContainerCore,
     frame: u32,
 ) -> Result<(), ScriptFault>
-    requires saved { H.Disk.follows_model → IsSaved ⟦<H::Disk as Disk>⟧ (H.told host.old) frame }
+    requires saved { IsSavedThere ⟦<H::Disk as Disk>⟧ (H.told host.old) frame }
     requires told { IsTold ⟦<H::Disk as Disk>⟧ (H.told host.old) core.old }
     ensures told { IsTold ⟦<H::Disk as Disk>⟧ (H.told host.new) core.new }
     ensures still { (s : ℕ) → running s (H.told host.new) ≡ running s (H.told host.old) }
     ensures quiet { (s : ℕ) → passed s (H.told host.new) ≡ passed s (H.told host.old) }
     ensures paced { (s : ℕ) → pace s (H.told host.new) ≡ pace s (H.told host.old) }
     ensures ordered { orders (H.told host.new) ≡ orders (H.told host.old) }
-    ensures shown { IfErr result (λ fault. Shows (H.told host.new) fault) }
+    ensures shown { IfErr result (λ fault. Shows ⟦<H::Disk as Disk>⟧ (H.told host.new) fault) }
 {
     host.note(&Step::Committed(frame));
     let told = core.commit_done(alloc, frame);
@@ -222,14 +221,14 @@ pub fn failed<H: Host>(
     core: &mut ContainerCore,
     frame: u32,
 ) -> Result<(), ScriptFault>
-    requires lost { H.Disk.follows_model → IsLost ⟦<H::Disk as Disk>⟧ (H.told host.old) frame }
+    requires lost { IsLost ⟦<H::Disk as Disk>⟧ (H.told host.old) frame }
     requires told { IsTold ⟦<H::Disk as Disk>⟧ (H.told host.old) core.old }
     ensures told { IsTold ⟦<H::Disk as Disk>⟧ (H.told host.new) core.new }
     ensures still { (s : ℕ) → running s (H.told host.new) ≡ running s (H.told host.old) }
     ensures quiet { (s : ℕ) → passed s (H.told host.new) ≡ passed s (H.told host.old) }
     ensures paced { (s : ℕ) → pace s (H.told host.new) ≡ pace s (H.told host.old) }
     ensures ordered { orders (H.told host.new) ≡ orders (H.told host.old) }
-    ensures shown { IfErr result (λ fault. Shows (H.told host.new) fault) }
+    ensures shown { IfErr result (λ fault. Shows ⟦<H::Disk as Disk>⟧ (H.told host.new) fault) }
 {
     host.note(&Step::Failed(frame));
     let told = core.commit_failed(alloc, frame);
@@ -249,7 +248,7 @@ pub fn dropped<H: Host>(
     ensures quiet { (s : ℕ) → passed s (H.told host.new) ≡ passed s (H.told host.old) }
     ensures paced { (s : ℕ) → pace s (H.told host.new) ≡ pace s (H.told host.old) }
     ensures ordered { orders (H.told host.new) ≡ orders (H.told host.old) }
-    ensures shown { IfErr result (λ fault. Shows (H.told host.new) fault) }
+    ensures shown { IfErr result (λ fault. Shows ⟦<H::Disk as Disk>⟧ (H.told host.new) fault) }
 {
     host.note(&Step::Resolved(frame, false));
     let told = core.resolve(alloc, frame, false);

@@ -2,5 +2,6 @@
 #![tactic(auto)]
 
 pub mod container;
+mod disks;
 pub mod fault;
 pub mod saves;

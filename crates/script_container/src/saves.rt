@@ -6,23 +6,25 @@ ghost use Rattle.container_model.specs.Record.{Record};
 ghost use Rattle.doc_store.specs.Opened.{disk_of, needs_reopen_of};
 ghost use Rattle.file_model.specs.Denotes.{Denotes};
 ghost use Rattle.script_model.specs.Bounds.{pace};
-ghost use Rattle.script_model.specs.Errors.{IsMissing, IsUnopened};
+ghost use Rattle.script_model.specs.Errors.{IsUnopened, IsUntoldFor};
 ghost use Rattle.script_model.specs.Events.{running};
 ghost use Rattle.script_model.specs.Orders.{orders};
 ghost use Rattle.script_model.specs.Origins.{passed};
-ghost use Rattle.script_model.specs.Saved.{IsAsGiven, IsLost, IsLostOn, IsSavedOn, IsShutWith, IsShutWithout, IsSince, file_name};
+ghost use Rattle.script_model.specs.Saved.{IsAsGiven, IsLost, IsLostOn, IsMissing, IsRefusedOn, IsSavedOn, IsSavedThere, IsShutWith, IsShutWithout, IsSince, file_name};
 ghost use Rattle.script_container.specs.Shown.{Shows};
 ghost use Rattle.script_container.specs.Told.{IfKept, IfLost, IsAlike, IsFiledOn, IsFiledWith, IsFiledWithout, IsImage, IsLeftOn, IsReplacedOn, IsTold, IsUnfiledOn};
-ghost use Rattle.std.specs.Prelude.{◌≡◌, ℕ, IfErr, IfOk, IfSome, false};
+ghost use Rattle.std.specs.Prelude.{◌≡◌, ◌≤◌, ℕ, IfErr, IfOk, IfSome, OnOk, false};
 ghost use Rattle.storage_tree.specs.Kept.{kept};
 
 use crate::container::{committed, dropped, failed};
+use crate::disks::{counted, document_area};
 use crate::fault::ScriptFault;
 use container_core::container::ContainerCore;
 use container_model::answer::{Action, Answer};
 use container_model::fault::ContainerFault;
 use container_model::record::Frame;
 use doc_store::outcome::Outcome;
+use doc_store::refused::Refused;
 use doc_store::resolved::commit_resolved;
 use doc_store::store::Store;
 use file_image::image::Image;
@@ -48,6 +50,8 @@ fn replace<D: Disk + Drop>(store: Store<D>, bytes: &[u8]) -> (Result<Outcome, St
     requires { needs_reopen_of store ≡ false }
     ensures kept { D.follows_model → IfOk result.0 (λ outcome. IfKept outcome (IsReplacedOn ⟦<D as Disk>⟧ (disk_of store) (D.reads (disk_of store)).document bytes.now result.1)) }
     ensures lost { D.follows_model → IfOk result.0 (λ outcome. IfLost outcome (IsLeftOn ⟦<D as Disk>⟧ (disk_of store) (D.reads (disk_of store)).document bytes.now result.1)) }
+    ensures cause { IfOk result.0 (λ outcome. IfLost outcome (IsRefusedOn ⟦<D as Disk>⟧ (disk_of store) bytes.now result.1)) }
+    ensures untold { IfErr result.0 (λ fault. IsUntoldFor ⟦<D as Disk>⟧ (disk_of store) result.1 fault) }
 {
     match commit_resolved(store, bytes) {
         Ok((outcome, store)) => (Ok(outcome), store.into_disk()),
@@ -64,6 +68,8 @@ fn compare<D: Disk + Drop>(
     requires { needs_reopen_of store ≡ false }
     ensures kept { D.follows_model → IfOk result.0 (λ outcome. IfKept outcome (IsReplacedOn ⟦<D as Disk>⟧ (disk_of store) (D.reads (disk_of store)).document bytes.now result.1)) }
     ensures lost { D.follows_model → IfOk result.0 (λ outcome. IfLost outcome (IsLeftOn ⟦<D as Disk>⟧ (disk_of store) (D.reads (disk_of store)).document bytes.now result.1)) }
+    ensures count { OnOk result.0 (D.failed result.1 ≡ D.failed (disk_of store)) }
+    ensures untold { IfErr result.0 (λ fault. IsUntoldFor ⟦<D as Disk>⟧ (disk_of store) result.1 fault) }
 {
     let mut store = store;
     match store.holds(bytes) {
@@ -86,6 +92,8 @@ fn try_again<D: Disk + Drop>(
 ) -> (Result<Outcome, StoreFault>, D)
     ensures kept { D.follows_model → IfOk result.0 (λ outcome. IfKept outcome (IsSavedOn ⟦<D as Disk>⟧ disk bytes.now result.1)) }
     ensures lost { D.follows_model → IfOk result.0 (λ outcome. IfLost outcome (IsLostOn ⟦<D as Disk>⟧ disk bytes.now result.1)) }
+    ensures count { OnOk result.0 (D.failed result.1 ≡ D.failed disk) }
+    ensures untold { IfErr result.0 (λ fault. IsUntoldFor ⟦<D as Disk>⟧ disk result.1 fault) }
 {
     match Store::open(alloc, disk) {
         Ok(store) => compare(store, bytes, fault),
@@ -93,8 +101,8 @@ fn try_again<D: Disk + Drop>(
     }
 }
 
-/// Makes these bytes the document of a disk. Where it isn't opened, the same disk is tried again: a new one of its name
-/// forgets that a sync failed.
+/// Makes these bytes the document of a disk. Where it isn't opened as a call failed, the same disk is tried again: a new one of
+/// its name forgets that a sync failed.
 fn commit_on<D: Disk + Drop>(
     alloc: Global,
     disk: D,
@@ -102,23 +110,38 @@ fn commit_on<D: Disk + Drop>(
 ) -> (Result<Outcome, StoreFault>, D)
     ensures kept { D.follows_model → IfOk result.0 (λ outcome. IfKept outcome (IsSavedOn ⟦<D as Disk>⟧ disk bytes.now result.1)) }
     ensures lost { D.follows_model → IfOk result.0 (λ outcome. IfLost outcome (IsLostOn ⟦<D as Disk>⟧ disk bytes.now result.1)) }
+    ensures cause { IfOk result.0 (λ outcome. IfLost outcome (IsRefusedOn ⟦<D as Disk>⟧ disk bytes.now result.1)) }
+    ensures untold { IfErr result.0 (λ fault. IsUntoldFor ⟦<D as Disk>⟧ disk result.1 fault) }
 {
+    counted(&disk);
     match Store::open(alloc, disk) {
         Ok(store) => replace(store, bytes),
-        Err(refused) => try_again(alloc, refused.disk, bytes, refused.fault),
+        Err(refused) => match refused.fault {
+            StoreFault::Device => try_again(alloc, refused.disk, bytes, StoreFault::Device),
+            fault => (Err(fault), refused.disk),
+        },
     }
 }
 
 /// The document of a disk, if it can be read, and the disk.
-fn read_on<D: Disk + Drop>(alloc: Global, disk: D) -> (Option<Vec<u8>>, D)
-    ensures { D.follows_model → IsSince ⟦<D as Disk>⟧ disk result.1 (IsAsGiven ⟦<D as Disk>⟧ disk) }
+///
+/// Refused: where the disk isn't opened, though none of its calls failed.
+fn read_on<D: Disk + Drop>(alloc: Global, disk: D) -> Result<(Option<Vec<u8>>, D), Refused<D>>
+    ensures since { D.follows_model → IfOk result (λ read. IsSince ⟦<D as Disk>⟧ disk read.1 (IsAsGiven ⟦<D as Disk>⟧ disk)) }
+    ensures later { IfOk result (λ read. D.failed disk ≤ D.failed read.1) }
+    ensures untold { IfErr result (λ refused. IsUntoldFor ⟦<D as Disk>⟧ disk refused.disk refused.fault) }
 {
+    counted(&disk);
     match Store::open(alloc, disk) {
-        Ok(mut store) => {
-            let document = store.current().ok();
-            (document, store.into_disk())
+        Ok(store) => {
+            let mut disk = store.into_disk();
+            let document = document_area(alloc, &mut disk);
+            Ok((document, disk))
         }
-        Err(refused) => (None, refused.disk),
+        Err(refused) => match refused.fault {
+            StoreFault::Device => Ok((None, refused.disk)),
+            _ => Err(refused),
+        },
     }
 }
 
@@ -147,20 +170,37 @@ fn placed_in(alloc: Global, document: Option<Vec<u8>>, file: &[u8]) -> Option<Im
     updated(alloc, image, &tree, file.len().saturating_mul(2))
 }
 
-/// Makes a file the document of a disk: bytes that denote the same, in the sectors that the document has, or where that can't be
+/// Makes a file the document of a disk: bytes that denote the same, in the sectors that this document has, or where that can't be
 /// done the file itself. So no more memory is needed than for that.
+fn commit_beside<D: Disk + Drop>(
+    alloc: Global,
+    disk: D,
+    document: Option<Vec<u8>>,
+    file: &[u8],
+) -> (Result<Outcome, StoreFault>, D)
+    ensures kept { D.follows_model → IfOk result.0 (λ outcome. IfKept outcome (IsFiledOn ⟦<D as Disk>⟧ disk file.now result.1)) }
+    ensures lost { IfOk result.0 (λ outcome. IfLost outcome (IsUnfiledOn ⟦<D as Disk>⟧ disk file.now result.1)) }
+    ensures untold { IfErr result.0 (λ fault. IsUntoldFor ⟦<D as Disk>⟧ disk result.1 fault) }
+{
+    match placed_in(alloc, document, file) {
+        Some(image) => commit_on(alloc, disk, image.bytes()),
+        None => commit_on(alloc, disk, file),
+    }
+}
+
+/// Makes a file the document of a disk, in the sectors that the disk's document has, where this can be read.
 fn commit_to<D: Disk + Drop>(
     alloc: Global,
     disk: D,
     file: &[u8],
 ) -> (Result<Outcome, StoreFault>, D)
     ensures kept { D.follows_model → IfOk result.0 (λ outcome. IfKept outcome (IsFiledOn ⟦<D as Disk>⟧ disk file.now result.1)) }
-    ensures lost { D.follows_model → IfOk result.0 (λ outcome. IfLost outcome (IsUnfiledOn ⟦<D as Disk>⟧ disk file.now result.1)) }
+    ensures lost { IfOk result.0 (λ outcome. IfLost outcome (IsUnfiledOn ⟦<D as Disk>⟧ disk file.now result.1)) }
+    ensures untold { IfErr result.0 (λ fault. IsUntoldFor ⟦<D as Disk>⟧ disk result.1 fault) }
 {
-    let (document, disk) = read_on(alloc, disk);
-    match placed_in(alloc, document, file) {
-        Some(image) => commit_on(alloc, disk, image.bytes()),
-        None => commit_on(alloc, disk, file),
+    match read_on(alloc, disk) {
+        Ok((document, disk)) => commit_beside(alloc, disk, document, file),
+        Err(refused) => (Err(refused.fault), refused.disk),
     }
 }
 
@@ -177,9 +217,9 @@ fn commit_again<H: Host>(
     ensures quiet { (s : ℕ) → passed s (H.told host.new) ≡ passed s (H.told host.old) }
     ensures paced { (s : ℕ) → pace s (H.told host.new) ≡ pace s (H.told host.old) }
     ensures shut { H.Disk.follows_model → IfOk result (λ outcome. IfKept outcome (IsShutWith ⟦<H::Disk as Disk>⟧ (H.told host.new) name.now bytes.now)) }
-    ensures left { H.Disk.follows_model → IfOk result (λ outcome. IfLost outcome (IsShutWithout ⟦<H::Disk as Disk>⟧ (H.told host.new) name.now bytes.now)) }
+    ensures left { IsMissing name.now (H.told host.old) → IfOk result (λ outcome. IfLost outcome (IsShutWithout ⟦<H::Disk as Disk>⟧ (H.told host.new) name.now bytes.now)) }
     ensures ordered { orders (H.told host.new) ≡ orders (H.told host.old) }
-    ensures unopened { IsMissing name.now (H.told host.old) → IfErr result (λ _. IsUnopened name.now (H.told host.new)) }
+    ensures unopened { IsMissing name.now (H.told host.old) → IfErr result (λ fault. IsUnopened ⟦<H::Disk as Disk>⟧ name.now fault (H.told host.new)) }
 {
     match host.disk(name) {
         Ok(disk) => {
@@ -205,9 +245,9 @@ fn commit<H: Host>(
     ensures quiet { (s : ℕ) → passed s (H.told host.new) ≡ passed s (H.told host.old) }
     ensures paced { (s : ℕ) → pace s (H.told host.new) ≡ pace s (H.told host.old) }
     ensures shut { H.Disk.follows_model → IfOk result (λ outcome. IfKept outcome (IsFiledWith ⟦<H::Disk as Disk>⟧ (H.told host.new) name.now file.now)) }
-    ensures left { H.Disk.follows_model → IfOk result (λ outcome. IfLost outcome (IsFiledWithout ⟦<H::Disk as Disk>⟧ (H.told host.new) name.now file.now)) }
+    ensures left { IfOk result (λ outcome. IfLost outcome (IsFiledWithout ⟦<H::Disk as Disk>⟧ (H.told host.new) name.now file.now)) }
     ensures ordered { orders (H.told host.new) ≡ orders (H.told host.old) }
-    ensures unopened { IfErr result (λ _. IsUnopened name.now (H.told host.new)) }
+    ensures unopened { IfErr result (λ fault. IsUnopened ⟦<H::Disk as Disk>⟧ name.now fault (H.told host.new)) }
 {
     let given = host.disk(name);
     match given {
@@ -237,14 +277,14 @@ fn lose<H: Host>(
     core: &mut ContainerCore,
     frame: u32,
 ) -> Result<(), ScriptFault>
-    requires lost { H.Disk.follows_model → IsLost ⟦<H::Disk as Disk>⟧ (H.told host.old) frame }
+    requires lost { IsLost ⟦<H::Disk as Disk>⟧ (H.told host.old) frame }
     requires told { IsTold ⟦<H::Disk as Disk>⟧ (H.told host.old) core.old }
     ensures told { IsTold ⟦<H::Disk as Disk>⟧ (H.told host.new) core.new }
     ensures still { (s : ℕ) → running s (H.told host.new) ≡ running s (H.told host.old) }
     ensures quiet { (s : ℕ) → passed s (H.told host.new) ≡ passed s (H.told host.old) }
     ensures paced { (s : ℕ) → pace s (H.told host.new) ≡ pace s (H.told host.old) }
     ensures ordered { orders (H.told host.new) ≡ orders (H.told host.old) }
-    ensures shown { IfErr result (λ fault. Shows (H.told host.new) fault) }
+    ensures shown { IfErr result (λ fault. Shows ⟦<H::Disk as Disk>⟧ (H.told host.new) fault) }
 {
     failed(alloc, host, core, frame)?;
     dropped(alloc, host, core, frame)
@@ -265,7 +305,7 @@ fn save_file<H: Host>(
     ensures quiet { (s : ℕ) → passed s (H.told host.new) ≡ passed s (H.told host.old) }
     ensures paced { (s : ℕ) → pace s (H.told host.new) ≡ pace s (H.told host.old) }
     ensures ordered { orders (H.told host.new) ≡ orders (H.told host.old) }
-    ensures shown { IfErr result (λ fault. Shows (H.told host.new) fault) }
+    ensures shown { IfErr result (λ fault. Shows ⟦<H::Disk as Disk>⟧ (H.told host.new) fault) }
 {
     let Some(found) = core.frame(frame) else {
         return Ok(None);
@@ -299,7 +339,7 @@ fn save<H: Host>(
     ensures quiet { (s : ℕ) → passed s (H.told host.new) ≡ passed s (H.told host.old) }
     ensures paced { (s : ℕ) → pace s (H.told host.new) ≡ pace s (H.told host.old) }
     ensures ordered { orders (H.told host.new) ≡ orders (H.told host.old) }
-    ensures shown { IfErr result (λ fault. Shows (H.told host.new) fault) }
+    ensures shown { IfErr result (λ fault. Shows ⟦<H::Disk as Disk>⟧ (H.told host.new) fault) }
 {
     match core.image(alloc, frame) {
         Ok(file) => save_file(alloc, host, core, frame, &file),
@@ -326,7 +366,7 @@ pub fn save_all<H: Host>(
     ensures quiet { (s : ℕ) → passed s (H.told host.new) ≡ passed s (H.told host.old) }
     ensures paced { (s : ℕ) → pace s (H.told host.new) ≡ pace s (H.told host.old) }
     ensures ordered { orders (H.told host.new) ≡ orders (H.told host.old) }
-    ensures shown { IfErr result (λ fault. Shows (H.told host.new) fault) }
+    ensures shown { IfErr result (λ fault. Shows ⟦<H::Disk as Disk>⟧ (H.told host.new) fault) }
 {
     for action in answer.actions.as_slice() {
         if let Action::Commit(frame) = action {

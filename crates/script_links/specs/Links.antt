@@ -1,5 +1,5 @@
 -- Links and the servers that run.
-use Rattle.std.specs.Prelude.{◌≡◌, ◌+◌, ◌==◌, ◌++◌, ℕ, Bool, true, false, List, [], ◌∷◌, if◌then◌else◌, slice_index_or}
+use Rattle.std.specs.Prelude.{◌≡◌, ◌+◌, ◌==◌, ◌++◌, ◌||◌, ℕ, Bool, true, false, List, [], ◌∷◌, if◌then◌else◌, slice_index_or}
 use Rattle.std.specs.List.{AllByRecursion}
 use Rattle.message_bytes.specs.Fronts.{Stands}
 use Rattle.message_model.specs.declared.frame.Frame.{Frame}
@@ -42,6 +42,11 @@ AreServed es ls = EachServed (λ s. passed s es) ls
 -- Of the server of each link that holds what comes, this is true.
 abbrev pub HoldFor : (ℕ → Bool) → List Link → Type 0
 HoldFor f ls = AllByRecursion (λ (l : Link). l.held ≡ true → f l.inc ≡ true) ls
+
+-- whether one of these links is held
+abbrev pub is_any_held : List Link → Bool
+is_any_held [] = false
+is_any_held (l ∷ ls) = l.held || is_any_held ls
 
 -- At a place of these links is a server's.
 pub record IsLinkAt (ls : List Link) (place inc : ℕ) : Type 0 where

@@ -130,7 +130,7 @@ pub fn send_turn<H: Host>(
     ensures aside { (s : ℕ) → pace_beside inc s (H.told host.new) ≡ pace_beside inc s (H.told host.old) }
     ensures sent { OnOk result (pace inc (H.told host.new) ≡ sending (pace inc (H.told host.old))) }
     ensures ordered { orders (H.told host.new) ≡ orders (H.told host.old) }
-    ensures shown { IfErr result (λ fault. Shows (H.told host.new) fault) }
+    ensures shown { IfErr result (λ fault. Shows ⟦<H::Disk as Disk>⟧ (H.told host.new) fault) }
 {
     let bytes = turn_bytes(alloc, core, inc)?;
     Ok(host.send(inc, &bytes).is_ok())
@@ -162,7 +162,7 @@ pub fn hand_over<H: Host>(
     ensures given { passed inc (H.told host.new) ≡ giving (taken ∷ []) (passed inc (H.told host.old)) }
     ensures paced { (s : ℕ) → pace s (H.told host.new) ≡ pace s (H.told host.old) }
     ensures ordered { orders (H.told host.new) ≡ orders (H.told host.old) }
-    ensures shown { IfErr result (λ fault. Shows (H.told host.new) fault) }
+    ensures shown { IfErr result (λ fault. Shows ⟦<H::Disk as Disk>⟧ (H.told host.new) fault) }
 {
     match message(alloc, host, core, inc, taken) {
         Ok(answer) => {
@@ -195,7 +195,7 @@ fn meet<H: Host>(
     ensures served { OnOk result (IsServed (passed link.new.inc (H.told host.new)) link.new []) }
     ensures paced { (s : ℕ) → pace s (H.told host.new) ≡ pace s (H.told host.old) }
     ensures ordered { orders (H.told host.new) ≡ orders (H.told host.old) }
-    ensures shown { IfErr result (λ fault. Shows (H.told host.new) fault) }
+    ensures shown { IfErr result (λ fault. Shows ⟦<H::Disk as Disk>⟧ (H.told host.new) fault) }
     ensures holding { link.new.held ≡ link.old.held }
 {
     if link.held {
@@ -222,7 +222,7 @@ fn take_frames<H: Host>(
     ensures served { OnOk result (IsServed (passed link.new.inc (H.told host.new)) link.new []) }
     ensures paced { (s : ℕ) → pace s (H.told host.new) ≡ pace s (H.told host.old) }
     ensures ordered { orders (H.told host.new) ≡ orders (H.told host.old) }
-    ensures shown { IfErr result (λ fault. Shows (H.told host.new) fault) }
+    ensures shown { IfErr result (λ fault. Shows ⟦<H::Disk as Disk>⟧ (H.told host.new) fault) }
     ensures holding { link.new.held ≡ link.old.held }
 {
     for _ in 0..=PIECE {
@@ -252,7 +252,7 @@ fn read_some<H: Host>(host: &mut H, link: &mut Link) -> Result<bool, ScriptFault
     ensures aside { (s : ℕ) → pace_beside link.old.inc s (H.told host.new) ≡ pace_beside link.old.inc s (H.told host.old) }
     ensures read { pace link.new.inc (H.told host.new) ≡ reading (pace link.old.inc (H.told host.old)) }
     ensures ordered { orders (H.told host.new) ≡ orders (H.told host.old) }
-    ensures shown { IfErr result (λ fault. Shows (H.told host.new) fault) }
+    ensures shown { IfErr result (λ fault. Shows ⟦<H::Disk as Disk>⟧ (H.told host.new) fault) }
     ensures holding { link.new.held ≡ link.old.held }
 {
     let mut piece = [0u8; PIECE];
@@ -293,7 +293,7 @@ fn hear<H: Host>(
     ensures aside { (s : ℕ) → pace_beside link.old.inc s (H.told host.new) ≡ pace_beside link.old.inc s (H.told host.old) }
     ensures on { OnOk result (GoesOn (pace link.old.inc (H.told host.old)) (pace link.new.inc (H.told host.new)) reads.new) }
     ensures ordered { orders (H.told host.new) ≡ orders (H.told host.old) }
-    ensures shown { IfErr result (λ fault. Shows (H.told host.new) fault) }
+    ensures shown { IfErr result (λ fault. Shows ⟦<H::Disk as Disk>⟧ (H.told host.new) fault) }
     ensures holding { link.new.held ≡ link.old.held }
 {
     while *reads > 0 {
@@ -330,7 +330,7 @@ fn exchange<H: Host>(
     ensures aside { (s : ℕ) → pace_beside link.old.inc s (H.told host.new) ≡ pace_beside link.old.inc s (H.told host.old) }
     ensures on { OnOk result (GoesOn (sending (pace link.old.inc (H.told host.old))) (pace link.new.inc (H.told host.new)) reads.new) }
     ensures ordered { orders (H.told host.new) ≡ orders (H.told host.old) }
-    ensures shown { IfErr result (λ fault. Shows (H.told host.new) fault) }
+    ensures shown { IfErr result (λ fault. Shows ⟦<H::Disk as Disk>⟧ (H.told host.new) fault) }
     ensures holding { link.new.held ≡ link.old.held }
 {
     if !send_turn(alloc, host, core, link.inc)? {
@@ -376,7 +376,7 @@ pub fn serve<H: Host>(
     ensures aside { (s : ℕ) → pace_beside link.old.inc s (H.told host.new) ≡ pace_beside link.old.inc s (H.told host.old) }
     ensures turned { OnOk result (HadTurn (pace link.old.inc (H.told host.old)) (pace link.new.inc (H.told host.new))) }
     ensures ordered { orders (H.told host.new) ≡ orders (H.told host.old) }
-    ensures shown { IfErr result (λ fault. Shows (H.told host.new) fault) }
+    ensures shown { IfErr result (λ fault. Shows ⟦<H::Disk as Disk>⟧ (H.told host.new) fault) }
     ensures holding { link.new.held ≡ link.old.held }
 {
     let mut reads = MOST_READS;

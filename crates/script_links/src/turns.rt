@@ -9,9 +9,9 @@ ghost use Rattle.script_model.specs.Saved.{AreOpened, AreSaved};
 ghost use Rattle.script_model.specs.Turns.{AreTurns};
 ghost use Rattle.script_container.specs.Shown.{Shows};
 ghost use Rattle.script_container.specs.Told.{IsTold};
-ghost use Rattle.script_links.specs.Links.{AreLinked, AreServed, HoldFor, links_of};
+ghost use Rattle.script_links.specs.Links.{AreLinked, AreServed, HoldFor};
 ghost use Rattle.script_links.specs.Ready.{AreDue, AreReady, HaveHad, IsUnderway};
-ghost use Rattle.script_links.specs.Shown.{AreAsked, pending_of};
+ghost use Rattle.script_links.specs.Shown.{AreQuiet, has_free, is_any_awaited, is_awaited, is_free_of, pending_of};
 ghost use Rattle.std.specs.Prelude.{◌≡◌, ◌+◌, ◌<◌, ◌≤◌, Bool, IfErr, OnOk, length, remove, true, ℕ};
 
 use crate::links::{Link, serve};
@@ -49,7 +49,7 @@ pub fn end_at<H: Host>(
     ensures rest { links.new.items ≡ remove links.old.items place }
     ensures paced { (s : ℕ) → pace s (H.told host.new) ≡ pace s (H.told host.old) }
     ensures ordered { orders (H.told host.new) ≡ orders (H.told host.old) }
-    ensures shown { IfErr result (λ fault. Shows (H.told host.new) fault) }
+    ensures shown { IfErr result (λ fault. Shows ⟦<H::Disk as Disk>⟧ (H.told host.new) fault) }
     ensures holding { (f : ℕ → Bool) → HoldFor f links.old.items → HoldFor f links.new.items }
 {
     let link = links.remove(place);
@@ -66,13 +66,13 @@ pub fn end_all<H: Host>(host: &mut H, links: &mut Vec<Link>)
     requires sent { AreTurns (H.told host.old) }
     requires bounded { AreBounded (H.told host.old) }
     requires heard { AreHeard (H.told host.old) }
-    requires saved { H.Disk.follows_model → AreSaved ⟦<H::Disk as Disk>⟧ (H.told host.old) }
+    requires saved { AreSaved ⟦<H::Disk as Disk>⟧ (H.told host.old) }
     requires opened { H.Disk.follows_model → AreOpened ⟦<H::Disk as Disk>⟧ (H.told host.old) }
     requires linked { AreLinked (H.told host.old) links.old.items }
     ensures sent { AreTurns (H.told host.new) }
     ensures bounded { AreBounded (H.told host.new) }
     ensures heard { AreHeard (H.told host.new) }
-    ensures saved { H.Disk.follows_model → AreSaved ⟦<H::Disk as Disk>⟧ (H.told host.new) }
+    ensures saved { AreSaved ⟦<H::Disk as Disk>⟧ (H.told host.new) }
     ensures opened { H.Disk.follows_model → AreOpened ⟦<H::Disk as Disk>⟧ (H.told host.new) }
     ensures ended { (s : ℕ) → running s (H.told host.new) ≡ 0 }
     ensures ordered { orders (H.told host.new) ≡ orders (H.told host.old) }
@@ -99,27 +99,42 @@ fn pending_server(object: &Object) -> Option<u32>
     }
 }
 
+/// Whether a link is this server's, and isn't held.
+fn is_free_of(link: &Link, inc: u32) -> bool
+    ensures { result ≡ is_free_of inc link.now }
+{
+    link.inc == inc && !link.held
+}
+
 /// Whether a link of this server is there, and isn't held.
 fn is_free(links: &[Link], inc: u32) -> bool
-    ensures { result ≡ true → 1 ≤ links_of inc links.now }
+    ensures { result ≡ has_free inc links.now }
 {
     for link in links {
-        if link.inc == inc && !link.held {
+        if is_free_of(link, inc) {
             return true;
         }
     }
     false
 }
 
+/// Whether an object has a call pending on a link that isn't held.
+fn is_awaited(object: &Object, links: &[Link]) -> bool
+    ensures { result ≡ is_awaited links.now object.now }
+{
+    match pending_server(object) {
+        Some(inc) => is_free(links, inc),
+        None => false,
+    }
+}
+
 /// Whether a call is pending on a link that isn't held.
 fn is_pending(core: &ContainerCore, links: &[Link]) -> bool
-    ensures { result ≡ true → AreAsked core.now.objects links.now }
+    ensures { result ≡ is_any_awaited links.now core.now.objects }
 {
     for object in core.all_objects() {
-        if let Some(inc) = pending_server(object) {
-            if is_free(links, inc) {
-                return true;
-            }
+        if is_awaited(object, links) {
+            return true;
         }
     }
     false
@@ -145,7 +160,7 @@ fn serve_at<H: Host>(
     ensures many { length links.new.items ≡ length links.old.items }
     ensures ready { (n : ℕ) → IsUnderway n (H.told host.old) links.old.items place → OnOk result (IsUnderway n (H.told host.new) links.new.items (place + 1)) }
     ensures ordered { orders (H.told host.new) ≡ orders (H.told host.old) }
-    ensures shown { IfErr result (λ fault. Shows (H.told host.new) fault) }
+    ensures shown { IfErr result (λ fault. Shows ⟦<H::Disk as Disk>⟧ (H.told host.new) fault) }
     ensures holding { (f : ℕ → Bool) → HoldFor f links.old.items → HoldFor f links.new.items }
     ensures due { (n : ℕ) → HaveHad n (H.told host.old) links.old.items place → OnOk result (HaveHad n (H.told host.new) links.new.items (place + 1)) }
 {
@@ -169,7 +184,7 @@ fn turn<H: Host>(
     ensures served { OnOk result (AreServed (H.told host.new) links.new.items) }
     ensures ready { (n : ℕ) → AreReady n (H.told host.old) links.old.items → OnOk result (AreReady (n + 1) (H.told host.new) links.new.items) }
     ensures ordered { orders (H.told host.new) ≡ orders (H.told host.old) }
-    ensures shown { IfErr result (λ fault. Shows (H.told host.new) fault) }
+    ensures shown { IfErr result (λ fault. Shows ⟦<H::Disk as Disk>⟧ (H.told host.new) fault) }
     ensures holding { (f : ℕ → Bool) → HoldFor f links.old.items → HoldFor f links.new.items }
     ensures due { (n : ℕ) → AreDue n (H.told host.old) links.old.items → OnOk result (AreDue (n + 1) (H.told host.new) links.new.items) }
 {
@@ -184,7 +199,7 @@ fn turn<H: Host>(
     Ok(())
 }
 
-/// Turns, until nothing is pending on a link that isn't held, which is tested and in no clause.
+/// Turns, until nothing is pending on a link that isn't held.
 ///
 /// Refused: `Stalled` where something is pending after 1,000 turns.
 pub fn turns<H: Host>(
@@ -198,11 +213,12 @@ pub fn turns<H: Host>(
     requires linked { AreLinked (H.told host.old) links.old.items }
     requires served { AreServed (H.told host.old) links.old.items }
     requires ready { AreReady 1 (H.told host.old) links.old.items }
+    ensures quiet { OnOk result (AreQuiet core.new.objects links.new.items) }
     ensures told { IsTold ⟦<H::Disk as Disk>⟧ (H.told host.new) core.new }
     ensures linked { AreLinked (H.told host.new) links.new.items }
     ensures served { OnOk result (AreServed (H.told host.new) links.new.items) }
     ensures ordered { orders (H.told host.new) ≡ orders (H.told host.old) }
-    ensures shown { IfErr result (λ fault. Shows (H.told host.new) fault) }
+    ensures shown { IfErr result (λ fault. Shows ⟦<H::Disk as Disk>⟧ (H.told host.new) fault) }
     ensures holding { (f : ℕ → Bool) → HoldFor f links.old.items → HoldFor f links.new.items }
 {
     for done in 0..MOST_TURNS {

@@ -1,5 +1,10 @@
 -- What a history shows of the error that ended its script.
 use Rattle.std.specs.Prelude.{◌≡◌, ◌≤◌, ◌⊎◌, ◌==◌, ◌&&◌, ◌||◌, ℕ, Bool, true, false, List, [], ◌∷◌, if◌then◌else◌, Option, Some, None, Ok, is_some}
+use Rattle.store_model.specs.Image.{Image}
+use Rattle.store_model.specs.Journal.{restored}
+use Rattle.store_model.specs.declared.disk.Disk.{Ghosts as Disks}
+use Rattle.store_model.specs.declared.fault.StoreFault.{StoreFault}
+use Rattle.store_model.specs.declared.fault.StoreFault.TheVariants.{Device, NeedsReopen, TooBig, Damaged, NoMemory}
 use Rattle.wire_msgs.specs.Found.{nth}
 use Rattle.container_model.specs.declared.answer.Part.{Part}
 use Rattle.container_model.specs.declared.record.Frame.{Frame}
@@ -13,7 +18,7 @@ use Rattle.script_model.specs.Bounds.{MOST_TURNS, pace}
 use Rattle.script_model.specs.Containers.{record_of}
 use Rattle.script_model.specs.Events.{Event, Started, Connected, Sent, Heard, Ended, Opened, Found, Shut, Stepped, running}
 use Rattle.script_model.specs.Orders.{behind_commands, orders}
-use Rattle.script_model.specs.Saved.{file_name}
+use Rattle.script_model.specs.Saved.{HasFailed, file_name, is_any_unsaved}
 
 -- A history without the ends of servers that are its last calls: however a script ends, the servers that still run are ended then.
 abbrev pub before_ends : {D : Type 0} → List (Event D) → List (Event D)
@@ -51,6 +56,14 @@ pub record IsUnanswered {D : Type 0} (es : List (Event D)) : Type 0 where
   pub turned : MOST_TURNS ≤ (pace server es).turns
   pub asked : is_asked server (record_of es).objects ≡ true
 
+-- The file of a frame is to be committed, or in doubt.
+abbrev pub HasUnsaved : {D : Type 0} → List (Event D) → Type 0
+HasUnsaved es = is_any_unsaved (record_of es).frames ≡ true
+
+-- What a command leads to isn't done.
+abbrev pub IsUnsettled : {D : Type 0} → List (Event D) → Type 0
+IsUnsettled es = IsUnanswered es ⊎ HasUnsaved es
+
 -- whether what comes from a server is held behind a command
 abbrev pub behind_hold : ScriptCommand → ℕ → Bool → Bool
 behind_hold (script.Hold inc) s held = if inc == s then true else held
@@ -74,23 +87,40 @@ pub record IsLeftHeld {D : Type 0} (es : List (Event D)) (commands : List Script
 
 -- ---- files
 
--- The last call asked for the disk of this name, and it wasn't given.
-abbrev pub IsMissing : {D : Type 0} → List ℕ → List (Event D) → Type 0
-IsMissing {D = D} name es = (before : List (Event D)) × (es ≡ Opened name None ∷ before)
+-- A crash might have left of a disk an image that stands for no document: the journal is damaged.
+abbrev pub MayBeDamaged : {D : Type 0} (disks : Disks D) → D → Type 0
+MayBeDamaged disks disk = (c : Image) × disks.may_leave disk c × (restored c ≡ None)
 
--- The disk of this name wasn't given, though it was asked for twice, in the last two calls; or the last call gave it back, and the
--- call before it had given it. The container isn't told of it.
-abbrev pub IsUnopened : {D : Type 0} → List ℕ → List (Event D) → Type 0
-IsUnopened {D = D} name es = ((before : List (Event D)) × (es ≡ Opened name None ∷ Opened name None ∷ before))
-    ⊎ ((given disk : D) × (before : List (Event D)) × (es ≡ Shut name disk ∷ Opened name (Some given) ∷ before))
+-- Why the document of a disk that was given can't be told, with each fault: a call of the disk failed since then, or the disk is
+-- damaged, which is said where it follows the model.
+abbrev pub IsUntoldFor : {D : Type 0} (disks : Disks D) → (given disk : D) → StoreFault → Type 0
+IsUntoldFor disks given disk Device = HasFailed disks given disk
+IsUntoldFor disks given disk NeedsReopen = ⊥
+IsUntoldFor disks given disk TooBig = ⊥
+IsUntoldFor disks given disk Damaged = disks.follows_model → MayBeDamaged disks given
+IsUntoldFor disks given disk NoMemory = ⊥
+
+-- The last call gave a disk back under this name, the call before it had given this disk under the same name, and its document can't
+-- be told, for this fault.
+pub record IsShutUntold {D : Type 0} (disks : Disks D) (es : List (Event D)) (name : List ℕ) (why : StoreFault) : Type 0 where
+  pub given : D
+  pub disk : D
+  pub before : List (Event D)
+  pub last : es ≡ Shut name disk ∷ Opened name (Some given) ∷ before
+  pub cause : IsUntoldFor disks given disk why
+
+-- The disk of this name wasn't given, though it was asked for twice, in the last two calls; or it was given and given back in the
+-- last two, and its document can't be told. The container isn't told of it.
+abbrev pub IsUnopened : {D : Type 0} (disks : Disks D) → List ℕ → StoreFault → List (Event D) → Type 0
+IsUnopened {D = D} disks name why es = ((before : List (Event D)) × (es ≡ Opened name None ∷ Opened name None ∷ before)) ⊎ IsShutUntold disks es name why
 
 -- The commit of a frame's file is asked for, the disk of the file's name wasn't opened, and the container isn't told what became of
 -- the commit.
-pub record IsUnknown {D : Type 0} (es : List (Event D)) (name : List ℕ) : Type 0 where
+pub record IsUnknown {D : Type 0} (disks : Disks D) (es : List (Event D)) (name : List ℕ) (why : StoreFault) : Type 0 where
   pub f : ℕ
   pub frame : Frame
   pub found : nth (record_of es).frames f ≡ Some frame
   pub named : name ≡ file_name frame
   pub parts : List Part
   pub counted : image (record_of es) f ≡ Ok parts
-  pub last : IsUnopened name es
+  pub last : IsUnopened disks name why es

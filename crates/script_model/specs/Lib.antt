@@ -8,3 +8,4 @@ pub mod Origins
 pub mod Answers
 pub mod Histories
 pub mod Errors
+pub mod Settled

@@ -1,5 +1,5 @@
 -- Where messages come from: what came on the links of a server, and what the container was given of it, its end last.
-use Rattle.std.specs.Prelude.{◌≡◌, ◌==◌, ◌&&◌, ◌++◌, ℕ, List, [], ◌∷◌, if◌then◌else◌}
+use Rattle.std.specs.Prelude.{◌≡◌, ◌==◌, ◌&&◌, ◌++◌, ℕ, false, List, [], ◌∷◌, if◌then◌else◌}
 use Rattle.std.specs.List.{AllByRecursion}
 use Rattle.wire_msgs.specs.declared.message.Message.{Message}
 use Rattle.message_model.specs.declared.frame.Frame.{Frame}
@@ -9,7 +9,8 @@ use Rattle.message_model.specs.Spelling.{joined}
 use Rattle.script_model.specs.declared.step.Step.{Step}
 use Rattle.script_model.specs.declared.step.Step.TheVariants as step
 use Rattle.script_model.specs.Events.{Event, Started, Connected, Sent, Heard, Ended, Opened, Found, Shut, Stepped}
-use Rattle.script_model.specs.Saved.{OfEachStep}
+use Rattle.script_model.specs.Containers.{record_of}
+use Rattle.script_model.specs.Saved.{OfEachStep, is_any_unsaved}
 
 -- ---- histories
 
@@ -101,10 +102,14 @@ AreNext p ms = (more : List Message) × AreFirst p.came (p.given ++ (ms ++ more)
 abbrev pub IsJustEnded : {D : Type 0} → ℕ → List (Event D) → Type 0
 IsJustEnded {D = D} inc es = (before : List (Event D)) × (es ≡ Ended inc ∷ before)
 
--- a step that gives the container a message, behind these calls: it is the next one that came on the links of its server; and one
--- that tells it the end of a server, directly behind this end
+-- A command begins where no frame's file is to be committed, or in doubt: the saves of the commands before it are done.
+abbrev pub BeginsSaved : {D : Type 0} → List (Event D) → Type 0
+BeginsSaved es = is_any_unsaved (record_of es).frames ≡ false
+
+-- a step that gives the container a message, behind these calls: it is the next one that came on the links of its server; one that
+-- tells it the end of a server, directly behind this end; and the beginning of a command
 abbrev pub GivesNext : {D : Type 0} → Step → List (Event D) → Type 0
-GivesNext (step.Begins n) es = Unit {0}
+GivesNext (step.Begins n) es = BeginsSaved es
 GivesNext (step.Command c) es = Unit {0}
 GivesNext (step.Message inc m) es = AreNext (passed inc es) (m ∷ [])
 GivesNext (step.Reap inc) es = IsJustEnded inc es
@@ -116,6 +121,7 @@ GivesNext step.NoMemory es = Unit {0}
 
 -- Each message that the container was given came on a link of its server, since this was started and before it was ended: it is
 -- the next one behind those that the container was given of this server. So none is made up, none comes twice, and none comes
--- before its bytes. Each end of a server that it was told stands directly behind the end of this server.
+-- before its bytes. Each end of a server that it was told stands directly behind the end of this server. And where a command begins,
+-- no frame's file is to be committed, or in doubt.
 abbrev pub AreHeard : {D : Type 0} → List (Event D) → Type 0
 AreHeard es = OfEachStep GivesNext es

@@ -84,12 +84,12 @@ module _ {D : Type 0} (disks : Disks D) (left : (d : D) → disks.may_leave d (d
       objects_of objects (document saved.file.parts) (theirs saved.bytes saved.file.parts (Given.Holding objects) file (subst (λ (b : List ℕ). IsReadAs (Some b) (Given.Holding objects)) same opened.holds))
 
   pub saves-are-opened-again : SavesAreOpenedAgain disks
-  saves-are-opened-again later between before name w h objects found shut f frame parts saves opens faithful none is_frame named counted =
+  saves-are-opened-again later between before name w h objects found shut f frame parts m saves opens faithful none is_frame named counted =
       let mid : List (Event D) = between ++ (Stepped (step.Committed f) ∷ before) in
       let es : List (Event D) = Shut name shut ∷ Found name (Some found) ∷ mid in
       let whole : List (Event D) = Stepped (step.Open name w h objects) ∷ es in
       let opened : IsOpened disks es name objects = (earlier (OpensRead disks) later whole opens).0 in
-      let saved : IsSaved disks before f = (earlier (CountsSaved disks) between (Stepped (step.Committed f) ∷ before) (earlier (CountsSaved disks) later whole saves).1).0 in
+      let saved : IsSaved disks before f = (earlier (CountsSaved disks) between (Stepped (step.Committed f) ∷ before) (earlier (CountsSaved disks) later whole saves).1).0 m in
       let same : saved.name ≡ name = saved.file.named ∙ ap file_name (one_frame (nth (record_of before).frames f) saved.file.frame frame saved.file.found is_frame) ∙ named in
       let last : IsLastShut name saved.shut.disk before = subst (λ (e : List (Event D)). IsLastShut name saved.shut.disk e) (sym saved.shut.last) (inl (same, refl)) in
       let as_shut : IsAsShut disks name (Some found) mid = (faithful_earlier disks later whole faithful).0 in

@@ -4,7 +4,9 @@ use Rattle.std.proofs.lemmas.Bool.{eqb-true, eq-eqb}
 use Rattle.script_model.specs.declared.command.ScriptCommand.{ScriptCommand}
 use Rattle.script_model.specs.Errors.{behind_hold, is_held}
 use Rattle.script_model.specs.Events.{Event, running}
-use Rattle.script_links.specs.Links.{AreLinked, HoldFor, IsLinkAt, links_of}
+use Rattle.std.specs.Prelude.{◌&&◌, ◌||◌, not}
+use Rattle.script_links.specs.Links.{AreLinked, HoldFor, IsLinkAt, is_any_held, links_of}
+use Rattle.script_links.specs.Shown.{has_free}
 use Rattle.script_links.specs.declared.links.Link.{Link}
 use Rattle.script_links.proofs.Paces.{any_at}
 use Rattle.script_links.proofs.Shown.{linked_at}
@@ -49,18 +51,28 @@ hold_end f (x ∷ xs) l free hold = (hold.0, hold_end f xs l free hold.1)
 pub hold_with : (f : ℕ → Bool) (ls new : List Link) (l : Link) → l.held ≡ false → new ≡ ls ++ l ∷ [] → HoldFor f ls → HoldFor f new
 hold_with f ls new l free is hold = subst (λ (all : List Link). HoldFor f all) (sym is) (hold_end f ls l free hold)
 
-held_at : (f : ℕ → Bool) (ls : List Link) (place : ℕ) (d : Link) → place < length ls → (slice_index_or ls place d).held ≡ true → HoldFor f ls → f (slice_index_or ls place d).inc ≡ true
-held_at f [] place d within held hold = absurd (omega (arith, within))
-held_at f (x ∷ xs) zero d within held hold = hold.0 held
-held_at f (x ∷ xs) (suc place) d within held hold = held_at f xs place d (omega (arith, within)) held hold.1
+linked_here : (l : Link) (ls : List Link) → 1 ≤ links_of l.inc (l ∷ ls)
+linked_here l ls = linked_at l.inc (l ∷ ls) 0 l (omega arith) refl
+
+held_here : (f : ℕ → Bool) (l : Link) (ls : List Link) (b : Bool) → l.held ≡ b → (b || is_any_held ls) ≡ true → HoldFor f (l ∷ ls) → (is_any_held ls ≡ true → (server : ℕ) × (1 ≤ links_of server ls) × (f server ≡ true))
+    → (server : ℕ) × (1 ≤ links_of server (l ∷ ls)) × (f server ≡ true)
+held_here f l ls true held any hold later = (l.inc, linked_here l ls, hold.0 held)
+held_here f l ls false held any hold later = let more = later any in let some = more.1 in (more.0, omega (arith, some), more.2)
 
 -- a server of which this is true, as one of its links is held
-pub some_held : (f : ℕ → Bool) (ls : List Link) (place : ℕ) (l : Link) → place < length ls → l ≡ slice_index_or ls place l → l.held ≡ true → HoldFor f ls → (server : ℕ) × (1 ≤ links_of server ls) × (f server ≡ true)
-some_held f ls place l within is held hold = (
-  (slice_index_or ls place l).inc,
-  linked_at (slice_index_or ls place l).inc ls place l within refl,
-  held_at f ls place l within (ap (λ (x : Link). x.held) (sym is) ∙ held) hold,
-)
+pub some_held : (f : ℕ → Bool) (ls : List Link) → is_any_held ls ≡ true → HoldFor f ls → (server : ℕ) × (1 ≤ links_of server ls) × (f server ≡ true)
+some_held f [] is hold = absurd (cc)
+some_held f (l ∷ ls) is hold = held_here f l ls l.held refl is hold (λ any. some_held f ls any hold.1)
+
+-- where no link is held, and none of a server is free, it has no link
+pub none_linked : (s : ℕ) (ls : List Link) → is_any_held ls ≡ false → has_free s ls ≡ false → links_of s ls ≡ 0
+none_linked s [] free none = refl
+none_linked s (l ∷ ls) free none = step (l.inc == s) l.held (is_any_held ls) (has_free s ls) (links_of s ls) free none (none_linked s ls)
+  where
+    step : (a held b c : Bool) (n : ℕ) → (held || b) ≡ false → ((a && not held) || c) ≡ false → (b ≡ false → c ≡ false → n ≡ 0) → n + (if a then 1 else 0) ≡ 0
+    step a true b c n free none rest = absurd (cc)
+    step true false b c n free none rest = absurd (cc)
+    step false false b c n free none rest = let zeros = rest free none in omega (arith, zeros)
 
 -- ---- holding
 

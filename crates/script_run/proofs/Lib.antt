@@ -3,3 +3,4 @@ pub mod Came
 pub mod Carried
 pub mod Faulted
 pub mod Held
+pub mod Settled

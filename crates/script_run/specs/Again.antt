@@ -61,10 +61,10 @@ abbrev pub opened_behind : {D : Type 0} → (later : List (Event D)) → (name :
 opened_behind later name w h objects found shut between f before =
     later ++ (Stepped (step.Open name w h objects) ∷ Shut name shut ∷ Found name (Some found) ∷ (between ++ (Stepped (step.Committed f) ∷ before)))
 
--- Where a host is faithful, a file that is opened has the objects of the document whose commit was counted under its name, when
--- no disk was given back under this name in between: it is opened as it was saved.
+-- Where a host is faithful and its disks follow the model, a file that is opened has the objects of the document whose commit was
+-- counted under its name, when no disk was given back under this name in between: it is opened as it was saved.
 abbrev pub SavesAreOpenedAgain : {D : Type 0} (disks : Disks D) → Type 0
 SavesAreOpenedAgain {D = D} disks = (later between before : List (Event D)) (name : List ℕ) (w h : ℕ) (objects : List DocObject) (found shut : D) (f : ℕ) (frame : Frame) (parts : List Part)
-    → AreSaved disks (opened_behind later name w h objects found shut between f before) → AreOpened disks (opened_behind later name w h objects found shut between f before)
+    → disks.follows_model → AreSaved disks (opened_behind later name w h objects found shut between f before) → AreOpened disks (opened_behind later name w h objects found shut between f before)
     → IsFaithful disks (opened_behind later name w h objects found shut between f before) → IsNotShut name between
     → nth (record_of before).frames f ≡ Some frame → file_name frame ≡ name → image (record_of before) f ≡ Ok parts → objects ≡ document parts

@@ -6,17 +6,19 @@ ghost use Rattle.script_model.specs.Errors.{behind_hold};
 ghost use Rattle.script_model.specs.Events.{running};
 ghost use Rattle.script_model.specs.Orders.{behind_command, orders};
 ghost use Rattle.script_model.specs.Origins.{AreNext, Passed, giving, passed};
+ghost use Rattle.script_model.specs.Saved.{is_any_unsaved};
 ghost use Rattle.script_model.specs.declared.command.ScriptCommand.TheVariants as script;
 ghost use Rattle.script_model.specs.declared.step.Step.{Step};
 ghost use Rattle.script_links.specs.Links.{AreLinked, AreServed, EachServed, HoldFor, IsLinkAt, beside, links_of};
 ghost use Rattle.script_links.specs.Ready.{AreReady, MayLink, pace_beside};
-ghost use Rattle.script_links.specs.Shown.{Shows};
+ghost use Rattle.script_links.specs.Shown.{AreQuiet, Shows};
 ghost use Rattle.script_links.specs.Told.{IsTold};
 ghost use Rattle.script_container.specs.declared.fault.ScriptFault.TheVariants.{NoMemory};
 ghost use Rattle.script_links.specs.declared.links.Link.{Link};
 ghost use Rattle.std.specs.Prelude.{◌≡◌, ◌≤◌, ◌<◌, ◌++◌, ◌∷◌, Bool, [], false, true, IfErr, IfNone, IfOk, IfSome, OnOk, length, ℕ, slice_index_or, slice_set, vec_capacity, vec_len};
 
 use crate::opens::open;
+use crate::unsaved::is_any_unsaved;
 use container_core::container::ContainerCore;
 use container_model::answer::{Action, Answer};
 use container_model::command::Command;
@@ -79,7 +81,7 @@ fn start<H: Host>(
     ensures served { AreServed (H.told host.new) links.new.items }
     ensures paced { (s : ℕ) → pace s (H.told host.new) ≡ pace s (H.told host.old) }
     ensures ordered { orders (H.told host.new) ≡ orders (H.told host.old) }
-    ensures shown { IfErr result (λ fault. Shows (H.told host.new) fault) }
+    ensures shown { IfErr result (λ fault. Shows ⟦<H::Disk as Disk>⟧ (H.told host.new) fault) }
     ensures holding { (f : ℕ → Bool) → HoldFor f links.old.items → HoldFor f links.new.items }
 {
     if is_linked(links, inc) {
@@ -120,7 +122,7 @@ fn end<H: Host>(
     ensures served { AreServed (H.told host.new) links.new.items }
     ensures paced { (s : ℕ) → pace s (H.told host.new) ≡ pace s (H.told host.old) }
     ensures ordered { orders (H.told host.new) ≡ orders (H.told host.old) }
-    ensures shown { IfErr result (λ fault. Shows (H.told host.new) fault) }
+    ensures shown { IfErr result (λ fault. Shows ⟦<H::Disk as Disk>⟧ (H.told host.new) fault) }
     ensures holding { (f : ℕ → Bool) → HoldFor f links.old.items → HoldFor f links.new.items }
 {
     match place_of(links, inc) {
@@ -146,7 +148,7 @@ fn act_on<H: Host>(
     ensures served { AreServed (H.told host.new) links.new.items }
     ensures paced { (s : ℕ) → pace s (H.told host.new) ≡ pace s (H.told host.old) }
     ensures ordered { orders (H.told host.new) ≡ orders (H.told host.old) }
-    ensures shown { IfErr result (λ fault. Shows (H.told host.new) fault) }
+    ensures shown { IfErr result (λ fault. Shows ⟦<H::Disk as Disk>⟧ (H.told host.new) fault) }
     ensures holding { (f : ℕ → Bool) → HoldFor f links.old.items → HoldFor f links.new.items }
 {
     match action {
@@ -173,7 +175,7 @@ fn act<H: Host>(
     ensures served { AreServed (H.told host.new) links.new.items }
     ensures paced { (s : ℕ) → pace s (H.told host.new) ≡ pace s (H.told host.old) }
     ensures ordered { orders (H.told host.new) ≡ orders (H.told host.old) }
-    ensures shown { IfErr result (λ fault. Shows (H.told host.new) fault) }
+    ensures shown { IfErr result (λ fault. Shows ⟦<H::Disk as Disk>⟧ (H.told host.new) fault) }
     ensures holding { (f : ℕ → Bool) → HoldFor f links.old.items → HoldFor f links.new.items }
 {
     for action in answer.actions.as_slice() {
@@ -199,7 +201,7 @@ fn order<H: Host>(
     ensures served { AreServed (H.told host.new) links.new.items }
     ensures paced { (s : ℕ) → pace s (H.told host.new) ≡ pace s (H.told host.old) }
     ensures ordered { orders (H.told host.new) ≡ Step.Command ordered ∷ orders (H.told host.old) }
-    ensures shown { IfErr result (λ fault. Shows (H.told host.new) fault) }
+    ensures shown { IfErr result (λ fault. Shows ⟦<H::Disk as Disk>⟧ (H.told host.new) fault) }
     ensures holding { (f : ℕ → Bool) → HoldFor f links.old.items → HoldFor f links.new.items }
 {
     match command(alloc, host, core, ordered) {
@@ -231,7 +233,7 @@ fn cut<H: Host>(
     ensures served { AreServed (H.told host.new) links.new.items }
     ensures ready { OnOk result (AreReady 1 (H.told host.new) links.new.items) }
     ensures ordered { orders (H.told host.new) ≡ orders (H.told host.old) }
-    ensures shown { IfErr result (λ fault. Shows (H.told host.new) fault) }
+    ensures shown { IfErr result (λ fault. Shows ⟦<H::Disk as Disk>⟧ (H.told host.new) fault) }
     ensures holding { (f : ℕ → Bool) → HoldFor f links.old.items → HoldFor f links.new.items }
 {
     let inc = links[place].inc;
@@ -259,7 +261,7 @@ fn hand_all<H: Host>(
     ensures given { IfOk result (λ all. all ≡ true → passed inc (H.told host.new) ≡ giving waiting (passed inc (H.told host.old))) }
     ensures paced { (s : ℕ) → pace s (H.told host.new) ≡ pace s (H.told host.old) }
     ensures ordered { orders (H.told host.new) ≡ orders (H.told host.old) }
-    ensures shown { IfErr result (λ fault. Shows (H.told host.new) fault) }
+    ensures shown { IfErr result (λ fault. Shows ⟦<H::Disk as Disk>⟧ (H.told host.new) fault) }
 {
     for taken in waiting.into_vec() {
         if !hand_over(alloc, host, core, inc, taken, noticed)? {
@@ -320,7 +322,7 @@ fn release<H: Host>(
     ensures served { OnOk result (AreServed (H.told host.new) links.new.items) }
     ensures paced { (s : ℕ) → pace s (H.told host.new) ≡ pace s (H.told host.old) }
     ensures ordered { orders (H.told host.new) ≡ orders (H.told host.old) }
-    ensures shown { IfErr result (λ fault. Shows (H.told host.new) fault) }
+    ensures shown { IfErr result (λ fault. Shows ⟦<H::Disk as Disk>⟧ (H.told host.new) fault) }
     ensures holding { (f : ℕ → Bool) (inc : ℕ) → IsLinkAt links.old.items place inc → HoldFor f links.old.items → HoldFor (λ s. behind_hold (script.Release inc) s (f s)) links.new.items }
 {
     let inc = links[place].inc;
@@ -359,7 +361,7 @@ fn cut_link<H: Host>(
     ensures served { OnOk result (AreServed (H.told host.new) links.new.items) }
     ensures ready { OnOk result (AreReady 1 (H.told host.new) links.new.items) }
     ensures ordered { orders (H.told host.new) ≡ orders (H.told host.old) }
-    ensures shown { IfErr result (λ fault. Shows (H.told host.new) fault) }
+    ensures shown { IfErr result (λ fault. Shows ⟦<H::Disk as Disk>⟧ (H.told host.new) fault) }
     ensures holding { (f : ℕ → Bool) → HoldFor f links.old.items → HoldFor f links.new.items }
 {
     let Some(place) = place_of(links, inc) else {
@@ -387,7 +389,7 @@ fn release_link<H: Host>(
     ensures served { OnOk result (AreServed (H.told host.new) links.new.items) }
     ensures ready { OnOk result (AreReady 1 (H.told host.new) links.new.items) }
     ensures ordered { orders (H.told host.new) ≡ orders (H.told host.old) }
-    ensures shown { IfErr result (λ fault. Shows (H.told host.new) fault) }
+    ensures shown { IfErr result (λ fault. Shows ⟦<H::Disk as Disk>⟧ (H.told host.new) fault) }
     ensures holding { (f : ℕ → Bool) → HoldFor f links.old.items → HoldFor (λ s. behind_hold (script.Release inc) s (f s)) links.new.items }
 {
     let Some(place) = place_of(links, inc) else {
@@ -448,7 +450,7 @@ fn begin<H: Host>(
     ensures served { OnOk result (AreServed (H.told host.new) links.new.items) }
     ensures ready { OnOk result (AreReady 1 (H.told host.new) links.new.items) }
     ensures ordered { orders (H.told host.new) ≡ behind_command command (orders (H.told host.old)) }
-    ensures shown { IfErr result (λ fault. Shows (H.told host.new) fault) }
+    ensures shown { IfErr result (λ fault. Shows ⟦<H::Disk as Disk>⟧ (H.told host.new) fault) }
     ensures holding { (f : ℕ → Bool) → HoldFor f links.old.items → HoldFor (λ s. behind_hold command s (f s)) links.new.items }
 {
     match command {
@@ -462,6 +464,8 @@ fn begin<H: Host>(
 }
 
 /// Carries a command out, with the turns that it leads to, and writes what is told of it.
+///
+/// Refused: as its parts, and `Stalled` too where a frame's file is still to be committed.
 pub(crate) fn carry_out<H: Host, W: Write>(
     alloc: Global,
     host: &mut H,
@@ -477,14 +481,19 @@ pub(crate) fn carry_out<H: Host, W: Write>(
     ensures told { IsTold ⟦<H::Disk as Disk>⟧ (H.told host.new) core.new }
     ensures linked { AreLinked (H.told host.new) links.new.items }
     ensures served { OnOk result (AreServed (H.told host.new) links.new.items) }
+    ensures quiet { OnOk result (AreQuiet core.new.objects links.new.items) }
+    ensures saved { OnOk result (is_any_unsaved core.new.frames ≡ false) }
     ensures ordered { orders (H.told host.new) ≡ behind_command command (orders (H.told host.old)) }
-    ensures shown { IfErr result (λ fault. Shows (H.told host.new) fault) }
+    ensures shown { IfErr result (λ fault. Shows ⟦<H::Disk as Disk>⟧ (H.told host.new) fault) }
     ensures holding { (f : ℕ → Bool) → HoldFor f links.old.items → HoldFor (λ s. behind_hold command s (f s)) links.new.items }
 {
     let mut noticed = None;
     let mut text = Vec::new(alloc);
     let told = begin(alloc, host, core, links, command, &mut noticed, &mut text)?;
     turns(alloc, host, core, links, &mut noticed)?;
+    if is_any_unsaved(core) {
+        return Err(ScriptFault::Stalled);
+    }
     push_told(alloc, &mut text, further(told, noticed))?;
     match write_all(writer, &text) {
         Ok(()) => Ok(()),

@@ -7,8 +7,8 @@ use container_laws::open_laws::files_give_theirs;
 use message_bytes::laws::frames_are_longest;
 use store_model::disk::Disk;
 
-/// Over a host that is faithful, a file is opened as it was saved last: it has the objects of the document whose commit was
-/// counted.
+/// Over a host that is faithful, whose disks follow the model, a file is opened as it was saved last: it has the objects of the
+/// document whose commit was counted.
 pub fn saves_are_opened_again<D: Disk>()
     ensures { SavesAreOpenedAgain ⟦<D as Disk>⟧ }
 {

@@ -5,3 +5,4 @@ mod commands;
 pub mod laws;
 mod opens;
 pub mod script;
+mod unsaved;

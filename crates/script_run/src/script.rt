@@ -2,17 +2,20 @@
 
 ghost use Rattle.container_model.specs.Record.{Record};
 ghost use Rattle.script_model.specs.Bounds.{AreBounded, pace, resting};
+ghost use Rattle.script_model.specs.Errors.{before_ends};
 ghost use Rattle.script_model.specs.Events.{running};
 ghost use Rattle.script_model.specs.Orders.{HaveBegun, behind_command, behind_commands, orders};
-ghost use Rattle.script_model.specs.Origins.{AreHeard, passed};
-ghost use Rattle.script_model.specs.Saved.{AreOpened, AreSaved};
+ghost use Rattle.script_model.specs.Origins.{AreHeard, BeginsSaved, passed};
+ghost use Rattle.script_model.specs.Saved.{AreOpened, AreSaved, is_any_unsaved};
+ghost use Rattle.script_model.specs.Settled.{IsSettled};
 ghost use Rattle.script_model.specs.Turns.{AreTurns};
 ghost use Rattle.script_run.specs.Carried.{AreCarriedOut, MayHaveBegun};
 ghost use Rattle.script_run.specs.Faulted.{IsFaultOf, RefusesScript, ShowsOf};
 ghost use Rattle.script_texts.specs.Commands.{commands_read};
-ghost use Rattle.script_links.specs.Links.{AreLinked, AreServed, HoldFor, links_of};
+ghost use Rattle.script_links.specs.Links.{AreLinked, AreServed, HoldFor, is_any_held};
+ghost use Rattle.script_links.specs.Shown.{AreQuiet};
 ghost use Rattle.script_links.specs.Told.{IsTold};
-ghost use Rattle.std.specs.Prelude.{◌≡◌, ◌≤◌, ◌∷◌, Bool, ℕ, [], false, true, IfErr, IfOk, IfSome, Ok, OnOk};
+ghost use Rattle.std.specs.Prelude.{◌≡◌, ◌∷◌, ℕ, [], false, IfErr, IfOk, IfSome, Ok, OnOk};
 
 use crate::commands::carry_out;
 use container_core::container::{ContainerCore, Limits};
@@ -49,6 +52,7 @@ fn read_script<R: Read>(alloc: Global, reader: &mut R) -> Result<Vec<ScriptComma
 
 /// Notes that the command of this place begins.
 fn begins<H: Host>(host: &mut H, place: usize)
+    requires { BeginsSaved (H.told host.old) }
     ensures told { (r : Record) → IsTold ⟦<H::Disk as Disk>⟧ (H.told host.old) r → IsTold ⟦<H::Disk as Disk>⟧ (H.told host.new) r }
     ensures still { (s : ℕ) → running s (H.told host.new) ≡ running s (H.told host.old) }
     ensures quiet { (s : ℕ) → passed s (H.told host.new) ≡ passed s (H.told host.old) }
@@ -60,7 +64,7 @@ fn begins<H: Host>(host: &mut H, place: usize)
 
 /// Whether a link is held.
 fn is_any_held(links: &[Link]) -> bool
-    ensures { result ≡ true → (f : ℕ → Bool) → HoldFor f links.now → (server : ℕ) × (1 ≤ links_of server links.now) × (f server ≡ true) }
+    ensures { result ≡ is_any_held links.now }
 {
     for link in links {
         if link.held {
@@ -84,11 +88,14 @@ fn carry_out_all<H: Host, W: Write>(
     requires served { AreServed (H.told host.old) links.old.items }
     requires none { orders (H.told host.old) ≡ [] }
     requires free { HoldFor (λ _. false) links.old.items }
+    requires quiet { AreQuiet core.old.objects links.old.items }
+    requires saved { is_any_unsaved core.old.frames ≡ false }
     ensures told { IsTold ⟦<H::Disk as Disk>⟧ (H.told host.new) core.new }
     ensures linked { AreLinked (H.told host.new) links.new.items }
     ensures ordered { OnOk result (orders (H.told host.new) ≡ behind_commands 0 commands.items []) }
     ensures begun { HaveBegun (H.told host.new) commands.items }
-    ensures shown { IfErr result (λ fault. ShowsOf commands.items (H.told host.new) fault) }
+    ensures settled { OnOk result (IsSettled (H.told host.new)) }
+    ensures shown { IfErr result (λ fault. ShowsOf ⟦<H::Disk as Disk>⟧ commands.items (H.told host.new) fault) }
 {
     for (place, command) in commands.into_iter().enumerate() {
         begins(host, place);
@@ -102,14 +109,19 @@ fn carry_out_all<H: Host, W: Write>(
 
 /// Carries out the commands of a text over a host, with a container of its own, and writes what is told of each as it is
 /// carried out. However this ends, each server that was started is ended and awaited. A command sends no server more than 1,000
-/// turns; a turn makes a link anew once at most, and reads it 1,000,000 times at most.
+/// turns; a turn makes a link anew once at most, and reads it 1,000,000 times at most. A save is lost for a cause alone: the file is
+/// too large, a call of its disk failed, or the disk wasn't given at first.
+///
+/// Where it ends well, what was asked for is done (`settled`): no call is pending of a server that ran to the end, and no frame's file
+/// is to be committed, or in doubt. Of frames this holds where each command begins, too (`heard`).
 ///
 /// Refused: an input that isn't read or has more than 134,217,728 bytes; the first line that spells no command; and then, as
-/// commands are carried out: a server that isn't started (`Link`); what isn't answered in 1,000 turns, or a link that is held
-/// at the end (`Stalled`); a file that can't be opened, so that it isn't known what became of its save (`File`); no memory; a
-/// write that fails. Which of these it is, the host's history shows (`faulted`), but for the last two.
+/// commands are carried out: a server that isn't started (`Link`); what isn't answered in 1,000 turns, a file that is still to be
+/// committed behind a command, or a link that is held at the end (`Stalled`); a file that can't be opened or read, so that it isn't
+/// known what became of its save (`File`); no memory; a write that fails. Which of these it is, the host's history shows (`faulted`),
+/// but for the last two.
 ///
-/// No clause says what is written of a command, nor that nothing is pending where it ends well: both are tested.
+/// No clause says what is written of a command, nor that each server that the container has started still runs: both are tested.
 pub fn run_script<H: Host, R: Read, W: Write>(
     alloc: Global,
     host: &mut H,
@@ -121,11 +133,12 @@ pub fn run_script<H: Host, R: Read, W: Write>(
     ensures turns { AreTurns (H.told host.new) }
     ensures bounded { AreBounded (H.told host.new) }
     ensures heard { AreHeard (H.told host.new) }
-    ensures saved { H.Disk.follows_model → AreSaved ⟦<H::Disk as Disk>⟧ (H.told host.new) }
+    ensures saved { AreSaved ⟦<H::Disk as Disk>⟧ (H.told host.new) }
     ensures opened { H.Disk.follows_model → AreOpened ⟦<H::Disk as Disk>⟧ (H.told host.new) }
     ensures carried { OnOk result (IfSome (R.remaining reader.old) (λ text. AreCarriedOut (H.told host.new) text)) }
     ensures begun { IfSome (R.remaining reader.old) (λ text. MayHaveBegun (H.told host.new) text) }
-    ensures faulted { IfErr result (λ fault. IsFaultOf (R.remaining reader.old) (H.told host.new) fault) }
+    ensures settled { OnOk result (IsSettled (before_ends (H.told host.new))) }
+    ensures faulted { IfErr result (λ fault. IsFaultOf ⟦<H::Disk as Disk>⟧ (R.remaining reader.old) (H.told host.new) fault) }
 {
     let commands = match read_script(alloc, reader) {
         Ok(commands) => commands,

@@ -6,4 +6,4 @@ use Rattle.script_container.proofs.container.committed.Goals as goal
 
 pub returns-clause-told : goal.returns-clause-told
 returns-clause-told g c =
-    step_told (step.Committed c.args.frame) (λ r. commit_done r c.args.frame) (λ a. record { rec = c.commit_done-told.new.self; answer = a; counted = counted_of c.args.core.now c.args.frame }) c.commit_done-told.result _ _ _ _ _ (λ g. refl) (λ m. (c.requires.saved m, tt)) tt (λ a. refl) c.note.ensures c.noted.ensures.noted c.commit_done-told.ensures.taken c.commit_done-told.ensures.refused c.commit_done-told.ensures.kept c.requires.told
+    step_told (step.Committed c.args.frame) (λ r. commit_done r c.args.frame) (λ a. record { rec = c.commit_done-told.new.self; answer = a; counted = counted_of c.args.core.now c.args.frame }) c.commit_done-told.result _ _ _ _ _ (λ g. refl) (c.requires.saved, λ m. tt) tt (λ a. refl) c.note.ensures c.noted.ensures.noted c.commit_done-told.ensures.taken c.commit_done-told.ensures.refused c.commit_done-told.ensures.kept c.requires.told

@@ -6,4 +6,4 @@ use Rattle.script_container.proofs.container.dropped.Goals as goal
 
 pub returns-clause-told : goal.returns-clause-told
 returns-clause-told g c =
-    step_told (step.Resolved c.args.frame false) (λ r. resolve r c.args.frame false) (λ a. record { rec = c.resolve-told.new.self; answer = a; counted = [] }) c.resolve-told.result _ _ _ _ _ (λ g. refl) (λ m. (tt, tt)) tt (λ a. refl) c.note.ensures c.noted.ensures.noted c.resolve-told.ensures.taken c.resolve-told.ensures.refused c.resolve-told.ensures.kept c.requires
+    step_told (step.Resolved c.args.frame false) (λ r. resolve r c.args.frame false) (λ a. record { rec = c.resolve-told.new.self; answer = a; counted = [] }) c.resolve-told.result _ _ _ _ _ (λ g. refl) (tt, λ m. tt) tt (λ a. refl) c.note.ensures c.noted.ensures.noted c.resolve-told.ensures.taken c.resolve-told.ensures.refused c.resolve-told.ensures.kept c.requires

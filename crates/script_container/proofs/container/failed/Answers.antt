@@ -7,4 +7,4 @@ use Rattle.script_container.proofs.container.failed.Goals as goal
 
 pub returns-clause-told : goal.returns-clause-told
 returns-clause-told g c =
-    step_told (step.Failed c.args.frame) (λ r. commit_failed r c.args.frame) (λ a. counts_none c.commit_failed-told.new.self a) c.commit_failed-told.result _ _ _ _ _ (λ g. refl) (λ m. (c.requires.lost m, tt)) tt (λ a. refl) c.note.ensures c.noted.ensures.noted c.commit_failed-told.ensures.taken c.commit_failed-told.ensures.refused c.commit_failed-told.ensures.kept c.requires.told
+    step_told (step.Failed c.args.frame) (λ r. commit_failed r c.args.frame) (λ a. counts_none c.commit_failed-told.new.self a) c.commit_failed-told.result _ _ _ _ _ (λ g. refl) (c.requires.lost, λ m. tt) tt (λ a. refl) c.note.ensures c.noted.ensures.noted c.commit_failed-told.ensures.taken c.commit_failed-told.ensures.refused c.commit_failed-told.ensures.kept c.requires.told

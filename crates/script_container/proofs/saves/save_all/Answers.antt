@@ -6,4 +6,4 @@ use Rattle.script_container.proofs.saves.save_all.Goals as goal
 pub returns-in_err-lost-clause-shown : goal.returns-in_err-lost-clause-shown
 returns-in_err-lost-clause-shown g c =
     let again : IsErrAnd c.from_residual.result (λ x. x ≡ c.in_err-lost.field-0.0) = search rules in
-    passed_on c.from_residual.result c.in_err-lost.field-0.0 (g.H.Host.told c.save.new.host) again c.in_err-lost.ensures.shown
+    passed_on g.H.Disk.Disk c.from_residual.result c.in_err-lost.field-0.0 (g.H.Host.told c.save.new.host) again c.in_err-lost.ensures.shown

@@ -11,27 +11,27 @@ committed-requires-clause-saved g c = λ m.
     (c.commit.ensures.told c.args.core.now c.requires.told) (c.in-Ok-Kept.ensures.shut m) (sym c.in-Some.ensures) (c.deref.ensures.value ∙ c.in_ok-name.ensures) c.requires.image
 
 pub lose-requires-clause-lost : goal.lose-requires-clause-lost
-lose-requires-clause-lost g c = λ m.
+lose-requires-clause-lost g c =
     left_by (g.H.Host.told c.commit.new.host) c.args.core.now c.args.frame c.in-Some.found.now c.deref.result.now c.args.file.now c.in-Ok-Lost.field-0 c.in-Ok-Lost.fault c.in-Ok-Lost.field-0-is
-    (c.commit.ensures.told c.args.core.now c.requires.told) (c.in-Ok-Lost.ensures.left m) (sym c.in-Some.ensures) (c.deref.ensures.value ∙ c.in_ok-name.ensures) c.requires.image
+    (c.commit.ensures.told c.args.core.now c.requires.told) c.in-Ok-Lost.ensures.left (sym c.in-Some.ensures) (c.deref.ensures.value ∙ c.in_ok-name.ensures) c.requires.image
 
 pub returns-in_err-name-clause-shown : goal.returns-in_err-name-clause-shown
-returns-in_err-name-clause-shown g c = memory_on c.from_residual.result (g.H.Host.told c.args.host.now) c.from_residual.ensures.1
+returns-in_err-name-clause-shown g c = memory_on g.H.Disk.Disk c.from_residual.result (g.H.Host.told c.args.host.now) c.from_residual.ensures.1
 
 pub returns-in_err-committed-in-Ok-Kept-clause-shown : goal.returns-in_err-committed-in-Ok-Kept-clause-shown
 returns-in_err-committed-in-Ok-Kept-clause-shown g c =
     let again : IsErrAnd c.from_residual-in_err-committed-in-Ok-Kept.result (λ x. x ≡ c.in_err-committed-in-Ok-Kept.field-0.0) = search rules in
-    passed_on c.from_residual-in_err-committed-in-Ok-Kept.result c.in_err-committed-in-Ok-Kept.field-0.0 (g.H.Host.told c.committed.new.host) again c.in_err-committed-in-Ok-Kept.ensures.shown
+    passed_on g.H.Disk.Disk c.from_residual-in_err-committed-in-Ok-Kept.result c.in_err-committed-in-Ok-Kept.field-0.0 (g.H.Host.told c.committed.new.host) again c.in_err-committed-in-Ok-Kept.ensures.shown
 
 pub returns-in_err-lose-in-Ok-Lost-clause-shown : goal.returns-in_err-lose-in-Ok-Lost-clause-shown
 returns-in_err-lose-in-Ok-Lost-clause-shown g c =
     let again : IsErrAnd c.from_residual-in_err-lose-in-Ok-Lost.result (λ x. x ≡ c.in_err-lose-in-Ok-Lost.field-0.0) = search rules in
-    passed_on c.from_residual-in_err-lose-in-Ok-Lost.result c.in_err-lose-in-Ok-Lost.field-0.0 (g.H.Host.told c.lose.new.host) again c.in_err-lose-in-Ok-Lost.ensures.shown
+    passed_on g.H.Disk.Disk c.from_residual-in_err-lose-in-Ok-Lost.result c.in_err-lose-in-Ok-Lost.field-0.0 (g.H.Host.told c.lose.new.host) again c.in_err-lose-in-Ok-Lost.ensures.shown
 
 pub returns-clause-shown : goal.returns-clause-shown
 returns-clause-shown g c =
-    subst (λ (n : List ℕ). IsUnknown (g.H.Host.told c.commit.new.host) n) c.deref.ensures.value
-    (unknown_by (g.H.Host.told c.commit.new.host) c.args.core.now c.args.frame c.in-Some.found.now c.deref.result.now c.args.file.now (c.commit.ensures.told c.args.core.now c.requires.told) c.in-Err.ensures.unopened (sym c.in-Some.ensures)
+    subst (λ (n : List ℕ). IsUnknown g.H.Disk.Disk (g.H.Host.told c.commit.new.host) n c.in-Err.fault) c.deref.ensures.value
+    (unknown_by g.H.Disk.Disk (g.H.Host.told c.commit.new.host) c.args.core.now c.args.frame c.in-Some.found.now c.deref.result.now c.args.file.now c.in-Err.fault (c.commit.ensures.told c.args.core.now c.requires.told) c.in-Err.ensures.unopened (sym c.in-Some.ensures)
     (c.deref.ensures.value ∙ c.in_ok-name.ensures) c.requires.image)
 
 pub committed-requires-clause-told : goal.committed-requires-clause-told

@@ -24,4 +24,4 @@ returns-clause-on g c =
 pub returns-in_err-send_turn-clause-shown : goal.returns-in_err-send_turn-clause-shown
 returns-in_err-send_turn-clause-shown g c =
     let again : IsErrAnd c.from_residual.result (λ x. x ≡ c.in_err-send_turn.field-0.0) = search rules in
-    passed_on c.from_residual.result c.in_err-send_turn.field-0.0 (g.H.Host.told c.send_turn.new.host) again c.in_err-send_turn.ensures.shown
+    passed_on g.H.Disk.Disk c.from_residual.result c.in_err-send_turn.field-0.0 (g.H.Host.told c.send_turn.new.host) again c.in_err-send_turn.ensures.shown

@@ -6,4 +6,4 @@ use Rattle.script_links.proofs.links.hand_over.Goals as goal
 pub returns-in_err-save_all-in-Ok-clause-shown : goal.returns-in_err-save_all-in-Ok-clause-shown
 returns-in_err-save_all-in-Ok-clause-shown g c =
     let again : IsErrAnd c.from_residual.result (λ x. x ≡ c.in_err-save_all-in-Ok.field-0.0) = search rules in
-    passed_on c.from_residual.result c.in_err-save_all-in-Ok.field-0.0 (g.H.Host.told c.save_all.new.host) again c.in_err-save_all-in-Ok.ensures.shown
+    passed_on g.H.Disk.Disk c.from_residual.result c.in_err-save_all-in-Ok.field-0.0 (g.H.Host.told c.save_all.new.host) again c.in_err-save_all-in-Ok.ensures.shown

@@ -36,9 +36,12 @@ loop-reads-preserved g c = record {
 pub returns-in_err-heard-clause-shown : goal.returns-in_err-heard-clause-shown
 returns-in_err-heard-clause-shown g c =
     let again : IsErrAnd c.from_residual.result (λ x. x ≡ c.in_err-heard.field-0.0) = search rules in
-    passed_on c.from_residual.result c.in_err-heard.field-0.0 (g.H.Host.told c.take_frames.new.host) again c.in_err-heard.ensures.shown
+    passed_on g.H.Disk.Disk c.from_residual.result c.in_err-heard.field-0.0 (g.H.Host.told c.take_frames.new.host) again c.in_err-heard.ensures.shown
 
 pub returns-in_err-read_some-clause-shown : goal.returns-in_err-read_some-clause-shown
 returns-in_err-read_some-clause-shown g c =
     let again : IsErrAnd c.from_residual-in_err-read_some.result (λ x. x ≡ c.in_err-read_some.field-0.0) = search rules in
-    passed_on c.from_residual-in_err-read_some.result c.in_err-read_some.field-0.0 (g.H.Host.told c.read_some.new.host) again c.in_err-read_some.ensures.shown
+    passed_on g.H.Disk.Disk c.from_residual-in_err-read_some.result c.in_err-read_some.field-0.0 (g.H.Host.told c.read_some.new.host) again c.in_err-read_some.ensures.shown
+
+pub returns-in_err-read_some-clause-told : goal.returns-in_err-read_some-clause-told
+returns-in_err-read_some-clause-told g c = c.read_some.ensures.told c.take_frames.new.core c.take_frames.ensures.told

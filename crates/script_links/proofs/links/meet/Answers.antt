@@ -7,4 +7,4 @@ pub hand_over-requires-clause-next : goal.hand_over-requires-clause-next
 hand_over-requires-clause-next g c = hand_next (passed c.args.link.now.inc (g.H.Host.told c.args.host.now)) c.args.link.now c.args.taken c.if-link.false c.requires.served
 
 pub returns-in_err-push-clause-shown : goal.returns-in_err-push-clause-shown
-returns-in_err-push-clause-shown g c = memory_on c.from_residual.result (g.H.Host.told c.args.host.now) c.from_residual.ensures.1
+returns-in_err-push-clause-shown g c = memory_on g.H.Disk.Disk c.from_residual.result (g.H.Host.told c.args.host.now) c.from_residual.ensures.1

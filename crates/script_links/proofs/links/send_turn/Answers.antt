@@ -10,4 +10,4 @@ returns-clause-sent g c = sent_pace (g.H.Host.told c.args.host.now) (g.H.Host.to
 pub returns-in_err-bytes-clause-shown : goal.returns-in_err-bytes-clause-shown
 returns-in_err-bytes-clause-shown g c =
     let again : IsErrAnd c.from_residual.result (λ x. x ≡ c.in_err-bytes.field-0.0) = search rules in
-    lacking_on c.from_residual.result c.in_err-bytes.field-0.0 (g.H.Host.told c.args.host.now) again c.in_err-bytes.ensures.lacking
+    lacking_on g.H.Disk.Disk c.from_residual.result c.in_err-bytes.field-0.0 (g.H.Host.told c.args.host.now) again c.in_err-bytes.ensures.lacking

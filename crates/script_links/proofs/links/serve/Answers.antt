@@ -43,9 +43,9 @@ returns-clause-turned g c =
 pub returns-in_err-exchange-clause-shown : goal.returns-in_err-exchange-clause-shown
 returns-in_err-exchange-clause-shown g c =
     let again : IsErrAnd c.from_residual.result (λ x. x ≡ c.in_err-exchange.field-0.0) = search rules in
-    passed_on c.from_residual.result c.in_err-exchange.field-0.0 (g.H.Host.told c.exchange.new.host) again c.in_err-exchange.ensures.shown
+    passed_on g.H.Disk.Disk c.from_residual.result c.in_err-exchange.field-0.0 (g.H.Host.told c.exchange.new.host) again c.in_err-exchange.ensures.shown
 
 pub returns-in_err-heard-clause-shown : goal.returns-in_err-heard-clause-shown
 returns-in_err-heard-clause-shown g c =
     let again : IsErrAnd c.from_residual-in_err-heard.result (λ x. x ≡ c.in_err-heard.field-0.0) = search rules in
-    passed_on c.from_residual-in_err-heard.result c.in_err-heard.field-0.0 (g.H.Host.told c.exchange-2.new.host) again c.in_err-heard.ensures.shown
+    passed_on g.H.Disk.Disk c.from_residual-in_err-heard.result c.in_err-heard.field-0.0 (g.H.Host.told c.exchange-2.new.host) again c.in_err-heard.ensures.shown

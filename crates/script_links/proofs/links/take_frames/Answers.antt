@@ -14,4 +14,4 @@ meet-requires-clause-served g c = message_taken (passed c.loop.link.inc (g.H.Hos
 pub returns-in_err-meet-in-Ok-Some-Message-clause-shown : goal.returns-in_err-meet-in-Ok-Some-Message-clause-shown
 returns-in_err-meet-in-Ok-Some-Message-clause-shown g c =
     let again : IsErrAnd c.from_residual.result (λ x. x ≡ c.in_err-meet-in-Ok-Some-Message.field-0.0) = search rules in
-    passed_on c.from_residual.result c.in_err-meet-in-Ok-Some-Message.field-0.0 (g.H.Host.told c.meet.new.host) again c.in_err-meet-in-Ok-Some-Message.ensures.shown
+    passed_on g.H.Disk.Disk c.from_residual.result c.in_err-meet-in-Ok-Some-Message.field-0.0 (g.H.Host.told c.meet.new.host) again c.in_err-meet-in-Ok-Some-Message.ensures.shown

@@ -13,7 +13,7 @@ invariant-loop-link g l = record {
   sent : AreTurns (g.H.Host.told l.host);
   bounded : AreBounded (g.H.Host.told l.host);
   heard : AreHeard (g.H.Host.told l.host);
-  saved : g.H.Disk.Disk.follows_model → AreSaved g.H.Disk.Disk (g.H.Host.told l.host);
+  saved : AreSaved g.H.Disk.Disk (g.H.Host.told l.host);
   opened : g.H.Disk.Disk.follows_model → AreOpened g.H.Disk.Disk (g.H.Host.told l.host);
   linked : AreLinked (g.H.Host.told l.host) l.links.items;
   ends : before_ends (g.H.Host.told l.host) ≡ before_ends (g.H.Host.told l.fn.host);

@@ -47,12 +47,12 @@ returns-clause-due g c = λ n due.
 pub returns-in_err-serve_at-clause-shown : goal.returns-in_err-serve_at-clause-shown
 returns-in_err-serve_at-clause-shown g c =
     let again : IsErrAnd c.from_residual.result (λ x. x ≡ c.in_err-serve_at.field-0.0) = search rules in
-    passed_on c.from_residual.result c.in_err-serve_at.field-0.0 (g.H.Host.told c.serve_at.new.host) again c.in_err-serve_at.ensures.shown
+    passed_on g.H.Disk.Disk c.from_residual.result c.in_err-serve_at.field-0.0 (g.H.Host.told c.serve_at.new.host) again c.in_err-serve_at.ensures.shown
 
 pub returns-in_err-end_at-clause-shown : goal.returns-in_err-end_at-clause-shown
 returns-in_err-end_at-clause-shown g c =
     let again : IsErrAnd c.from_residual-in_err-end_at.result (λ x. x ≡ c.in_err-end_at.field-0.0) = search rules in
-    passed_on c.from_residual-in_err-end_at.result c.in_err-end_at.field-0.0 (g.H.Host.told c.end_at.new.host) again c.in_err-end_at.ensures.shown
+    passed_on g.H.Disk.Disk c.from_residual-in_err-end_at.result c.in_err-end_at.field-0.0 (g.H.Host.told c.end_at.new.host) again c.in_err-end_at.ensures.shown
 
 pub returns-in_err-serve_at-clause-holding : goal.returns-in_err-serve_at-clause-holding
 returns-in_err-serve_at-clause-holding g c = λ f hold. c.serve_at.ensures.holding f (c.loop-place.invariant.holding f hold)

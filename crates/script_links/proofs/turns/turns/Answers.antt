@@ -1,9 +1,9 @@
-use Rattle.std.proofs.Common.{◌+◌, ◌∙◌, ◌≡◌, List, arith, rules, subst}
+use Rattle.std.proofs.Common.{◌+◌, ◌∙◌, ◌≡◌, List, inl, ap, sym, arith, rules, subst}
 use Rattle.std.specs.Result.{IsErrAnd}
-use Rattle.script_links.specs.Shown.{AreAsked}
+use Rattle.script_links.specs.Shown.{is_any_awaited}
 use Rattle.script_links.specs.declared.links.Link.{Link}
 use Rattle.script_container.proofs.Shown.{passed_on}
-use Rattle.script_links.proofs.Shown.{unanswered_by}
+use Rattle.script_links.proofs.Shown.{none_awaited, some_awaited, unanswered_by}
 use Rattle.script_links.proofs.turns.turns.Goals as goal
 
 pub loop-done-preserved : goal.loop-done-preserved
@@ -20,15 +20,24 @@ loop-done-preserved g c = record {
 pub returns-in_err-turn-clause-shown : goal.returns-in_err-turn-clause-shown
 returns-in_err-turn-clause-shown g c =
     let again : IsErrAnd c.from_residual.result (λ x. x ≡ c.in_err-turn.field-0.0) = search rules in
-    passed_on c.from_residual.result c.in_err-turn.field-0.0 (g.H.Host.told c.turn.new.host) again c.in_err-turn.ensures.shown
+    passed_on g.H.Disk.Disk c.from_residual.result c.in_err-turn.field-0.0 (g.H.Host.told c.turn.new.host) again c.in_err-turn.ensures.shown
 
 pub returns-then-is_pending-clause-shown : goal.returns-then-is_pending-clause-shown
 returns-then-is_pending-clause-shown g c =
     let most = c.loop-done-test.false in
     let end = c.loop-done.auto.done-end in
     let all : c.loop-done.done ≡ 1000 = omega (arith, most, end) in
-    unanswered_by (g.H.Host.told c.loop-done.host) c.loop-done.core c.loop-done.links.items c.loop-done.done all c.loop-done.invariant.told c.loop-done.invariant.linked c.loop-done.invariant.due
-    (subst (λ (ls : List Link). AreAsked c.loop-done.core.objects ls) c.deref-2.ensures.value (c.is_pending-2.ensures c.if-is_pending.true))
+    inl (unanswered_by (g.H.Host.told c.loop-done.host) c.loop-done.core c.loop-done.links.items c.loop-done.done all c.loop-done.invariant.told c.loop-done.invariant.linked c.loop-done.invariant.due
+    (some_awaited c.loop-done.core.objects c.loop-done.links.items
+    (ap (λ ls. is_any_awaited ls c.loop-done.core.objects) (sym c.deref-2.ensures.value) ∙ sym c.is_pending-2.ensures ∙ c.if-is_pending.true)))
 
 pub returns-in_err-turn-clause-holding : goal.returns-in_err-turn-clause-holding
 returns-in_err-turn-clause-holding g c = λ f hold. c.turn.ensures.holding f (c.loop-done.invariant.holding f hold)
+
+pub returns-then-not-is_pending-clause-quiet : goal.returns-then-not-is_pending-clause-quiet
+returns-then-not-is_pending-clause-quiet g c =
+    none_awaited c.loop-done.core.objects c.loop-done.links.items (ap (λ ls. is_any_awaited ls c.loop-done.core.objects) (sym c.deref.ensures.value) ∙ sym c.is_pending.ensures ∙ c.if-not-is_pending.true)
+
+pub returns-clause-quiet : goal.returns-clause-quiet
+returns-clause-quiet g c =
+    none_awaited c.loop-done.core.objects c.loop-done.links.items (ap (λ ls. is_any_awaited ls c.loop-done.core.objects) (sym c.deref-2.ensures.value) ∙ sym c.is_pending-2.ensures ∙ c.if-is_pending.false)

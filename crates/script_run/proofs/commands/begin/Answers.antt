@@ -28,10 +28,10 @@ pub returns-in-Hold-clause-served : goal.returns-in-Hold-clause-served
 returns-in-Hold-clause-served g c = c.hold_link.ensures.served (λ s. passed s (g.H.Host.told c.args.host.now)) c.requires.served
 
 pub returns-in-Open-clause-shown : goal.returns-in-Open-clause-shown
-returns-in-Open-clause-shown g c = memory_shown c.open.result (g.H.Host.told c.open.new.host) c.open.ensures.lacking
+returns-in-Open-clause-shown g c = memory_shown g.H.Disk.Disk c.open.result (g.H.Host.told c.open.new.host) c.open.ensures.lacking
 
 pub returns-in-Screen-clause-shown : goal.returns-in-Screen-clause-shown
-returns-in-Screen-clause-shown g c = memory_shown c.show.result (g.H.Host.told c.args.host.now) c.show.ensures
+returns-in-Screen-clause-shown g c = memory_shown g.H.Disk.Disk c.show.result (g.H.Host.told c.args.host.now) c.show.ensures
 
 pub returns-in-Container-clause-holding : goal.returns-in-Container-clause-holding
 returns-in-Container-clause-holding g c = λ f hold. as_command f _ c.args.command c.order.new.links.items c.in-Container.is (c.order.ensures.holding f hold)

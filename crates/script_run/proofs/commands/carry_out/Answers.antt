@@ -1,21 +1,23 @@
-use Rattle.std.proofs.Common.{◌≡◌, rules}
+use Rattle.std.proofs.Common.{◌≡◌, ◌∙◌, ap, inr, sym, rules}
 use Rattle.std.specs.Result.{IsErrAnd}
+use Rattle.container_model.specs.Record.{Record}
 use Rattle.script_model.specs.Errors.{behind_hold}
+use Rattle.script_model.specs.Saved.{is_any_unsaved}
 use Rattle.script_container.proofs.Shown.{memory_on, passed_on}
 use Rattle.script_run.proofs.commands.carry_out.Goals as goal
 
 pub returns-in_err-told-clause-shown : goal.returns-in_err-told-clause-shown
 returns-in_err-told-clause-shown g c =
     let again : IsErrAnd c.from_residual.result (λ x. x ≡ c.in_err-told.field-0.0) = search rules in
-    passed_on c.from_residual.result c.in_err-told.field-0.0 (g.H.Host.told c.begin.new.host) again c.in_err-told.ensures.shown
+    passed_on g.H.Disk.Disk c.from_residual.result c.in_err-told.field-0.0 (g.H.Host.told c.begin.new.host) again c.in_err-told.ensures.shown
 
 pub returns-in_err-turns-clause-shown : goal.returns-in_err-turns-clause-shown
 returns-in_err-turns-clause-shown g c =
     let again : IsErrAnd c.from_residual-in_err-turns.result (λ x. x ≡ c.in_err-turns.field-0.0) = search rules in
-    passed_on c.from_residual-in_err-turns.result c.in_err-turns.field-0.0 (g.H.Host.told c.turns.new.host) again c.in_err-turns.ensures.shown
+    passed_on g.H.Disk.Disk c.from_residual-in_err-turns.result c.in_err-turns.field-0.0 (g.H.Host.told c.turns.new.host) again c.in_err-turns.ensures.shown
 
 pub returns-in_err-push_told-clause-shown : goal.returns-in_err-push_told-clause-shown
-returns-in_err-push_told-clause-shown g c = memory_on c.from_residual-in_err-push_told.result (g.H.Host.told c.turns.new.host) c.from_residual-in_err-push_told.ensures.1
+returns-in_err-push_told-clause-shown g c = memory_on g.H.Disk.Disk c.from_residual-in_err-push_told.result (g.H.Host.told c.turns.new.host) c.from_residual-in_err-push_told.ensures.1
 
 pub returns-in_err-turns-clause-holding : goal.returns-in_err-turns-clause-holding
 returns-in_err-turns-clause-holding g c = λ f hold. c.turns.ensures.holding (λ s. behind_hold c.args.command s (f s)) (c.begin.ensures.holding f hold)
@@ -28,3 +30,9 @@ returns-in-Ok-clause-holding g c = λ f hold. c.turns.ensures.holding (λ s. beh
 
 pub returns-clause-holding : goal.returns-clause-holding
 returns-clause-holding g c = λ f hold. c.turns.ensures.holding (λ s. behind_hold c.args.command s (f s)) (c.begin.ensures.holding f hold)
+
+pub returns-then-is_any_unsaved-clause-shown : goal.returns-then-is_any_unsaved-clause-shown
+returns-then-is_any_unsaved-clause-shown g c = inr (ap (λ (r : Record). is_any_unsaved r.frames) c.turns.ensures.told.recorded ∙ sym c.is_any_unsaved.ensures ∙ c.if-is_any_unsaved.true)
+
+pub returns-then-is_any_unsaved-clause-holding : goal.returns-then-is_any_unsaved-clause-holding
+returns-then-is_any_unsaved-clause-holding g c = λ f hold. c.turns.ensures.holding (λ s. behind_hold c.args.command s (f s)) (c.begin.ensures.holding f hold)

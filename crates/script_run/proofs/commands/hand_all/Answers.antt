@@ -24,4 +24,4 @@ loop-taken-preserved g c =
 pub returns-in_err-hand_over-clause-shown : goal.returns-in_err-hand_over-clause-shown
 returns-in_err-hand_over-clause-shown g c =
     let again : IsErrAnd c.from_residual.result (λ x. x ≡ c.in_err-hand_over.field-0.0) = search rules in
-    passed_on c.from_residual.result c.in_err-hand_over.field-0.0 (g.H.Host.told c.hand_over.new.host) again c.in_err-hand_over.ensures.shown
+    passed_on g.H.Disk.Disk c.from_residual.result c.in_err-hand_over.field-0.0 (g.H.Host.told c.hand_over.new.host) again c.in_err-hand_over.ensures.shown

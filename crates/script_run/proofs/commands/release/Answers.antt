@@ -28,7 +28,7 @@ returns-clause-served g c = on_ok c.end_at.result (AreServed (g.H.Host.told c.en
 pub returns-in_err-hand_all-clause-shown : goal.returns-in_err-hand_all-clause-shown
 returns-in_err-hand_all-clause-shown g c =
     let again : IsErrAnd c.from_residual.result (λ x. x ≡ c.in_err-hand_all.field-0.0) = search rules in
-    passed_on c.from_residual.result c.in_err-hand_all.field-0.0 (g.H.Host.told c.hand_all.new.host) again c.in_err-hand_all.ensures.shown
+    passed_on g.H.Disk.Disk c.from_residual.result c.in_err-hand_all.field-0.0 (g.H.Host.told c.hand_all.new.host) again c.in_err-hand_all.ensures.shown
 
 pub returns-in_err-hand_all-clause-holding : goal.returns-in_err-hand_all-clause-holding
 returns-in_err-hand_all-clause-holding g c = λ f inc at hold.

@@ -9,7 +9,7 @@ use Rattle.script_run.proofs.commands.release_link.Goals as goal
 pub returns-in_err-release-clause-shown : goal.returns-in_err-release-clause-shown
 returns-in_err-release-clause-shown g c =
     let again : IsErrAnd c.from_residual.result (λ x. x ≡ c.in_err-release.field-0.0) = search rules in
-    passed_on c.from_residual.result c.in_err-release.field-0.0 (g.H.Host.told c.release.new.host) again c.in_err-release.ensures.shown
+    passed_on g.H.Disk.Disk c.from_residual.result c.in_err-release.field-0.0 (g.H.Host.told c.release.new.host) again c.in_err-release.ensures.shown
 
 pub returns-in_default-clause-holding : goal.returns-in_default-clause-holding
 returns-in_default-clause-holding g c =

@@ -26,7 +26,7 @@ returns-in-Ok-clause-holding g c =
     λ f hold. hold_with f c.args.links.now.items c.add.new.list.items c.new.result c.new.ensures.free with_one hold
 
 pub returns-in_err-reserve-clause-shown : goal.returns-in_err-reserve-clause-shown
-returns-in_err-reserve-clause-shown g c = memory_on c.from_residual.result (g.H.Host.told c.args.host.now) c.from_residual.ensures.1
+returns-in_err-reserve-clause-shown g c = memory_on g.H.Disk.Disk c.from_residual.result (g.H.Host.told c.args.host.now) c.from_residual.ensures.1
 
 pub returns-in-Err-clause-shown : goal.returns-in-Err-clause-shown
 returns-in-Err-clause-shown g c = (g.H.Host.told c.args.host.now, c.in-Err.ensures)

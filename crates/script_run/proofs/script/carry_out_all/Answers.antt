@@ -1,10 +1,13 @@
-use Rattle.std.proofs.Common.{◌≡◌, ◌≤◌, ◌+◌, ◌∷◌, [], ℕ, Bool, true, List, inr, sym, ◌∙◌, subst, rules}
+use Rattle.std.proofs.Common.{◌≡◌, ◌+◌, ◌∷◌, [], inr, ap, sym, ◌∙◌, rules}
 use Rattle.std.proofs.lemmas.List.{nil_from_length}
 use Rattle.std.specs.Vec.Iter.{into_iter_items}
-use Rattle.script_links.specs.Links.{HoldFor, links_of}
-use Rattle.script_links.specs.declared.links.Link.{Link}
+use Rattle.container_model.specs.Record.{Record}
+use Rattle.script_model.specs.Saved.{is_any_unsaved}
+use Rattle.script_links.specs.Links.{is_any_held}
 use Rattle.script_run.proofs.Carried.{left_held, so_far_begun, so_far_more}
 use Rattle.script_run.proofs.Faulted.{handed_on}
+use Rattle.script_run.proofs.Held.{some_held}
+use Rattle.script_run.proofs.Settled.{settled_by}
 use Rattle.std.specs.Result.{IsErrAnd}
 use Rattle.script_run.proofs.script.carry_out_all.Goals as goal
 
@@ -17,6 +20,8 @@ loop-place-preserved g c =
       told = c.carry_out.ensures.told;
       linked = c.carry_out.ensures.linked;
       served = c.in_ok-carry_out.ensures.served;
+      quiet = c.in_ok-carry_out.ensures.quiet;
+      saved = c.in_ok-carry_out.ensures.saved;
       so_far = so_far_more (g.H.Host.told c.loop-place.host) (g.H.Host.told c.begins.new.host) (g.H.Host.told c.carry_out.new.host) c.loop-place.links.items c.carry_out.new.links.items c.args.commands.items (into_iter_items c.loop-place.place-iterator.iter)
           (into_iter_items c.next.new.self.iter) c.in-Some.command c.loop-place.place-iterator.count c.in-Some.place c.next.new.self.count c.loop-place.invariant.so_far at counts items c.begins.ensures.ordered c.carry_out.ensures.ordered c.carry_out.ensures.holding;
     }
@@ -33,10 +38,18 @@ returns-in_err-carry_out-clause-begun g c =
 pub returns-in_err-carry_out-clause-shown : goal.returns-in_err-carry_out-clause-shown
 returns-in_err-carry_out-clause-shown g c =
     let again : IsErrAnd c.from_residual.result (λ x. x ≡ c.in_err-carry_out.field-0.0) = search rules in
-    handed_on c.from_residual.result c.in_err-carry_out.field-0.0 c.args.commands.items (g.H.Host.told c.carry_out.new.host) again c.in_err-carry_out.ensures.shown
+    handed_on g.H.Disk.Disk c.from_residual.result c.in_err-carry_out.field-0.0 c.args.commands.items (g.H.Host.told c.carry_out.new.host) again c.in_err-carry_out.ensures.shown
 
 pub returns-then-is_any_held-clause-shown : goal.returns-then-is_any_held-clause-shown
 returns-then-is_any_held-clause-shown g c =
     let none : into_iter_items c.loop-place.place-iterator.iter ≡ [] = nil_from_length (into_iter_items c.loop-place.place-iterator.iter) (sym c.loop-place.place-iterator.iter.rest.ok.0 ∙ c.in-None.ensures.steps.0.0) in
     inr (left_held (g.H.Host.told c.loop-place.host) c.loop-place.links.items c.args.commands.items (into_iter_items c.loop-place.place-iterator.iter) c.loop-place.place-iterator.count none c.loop-place.invariant.so_far c.loop-place.invariant.linked
-    (subst (λ (ls : List Link). (f : ℕ → Bool) → HoldFor f ls → (server : ℕ) × (1 ≤ links_of server ls) × (f server ≡ true)) c.deref.ensures.value (c.is_any_held.ensures c.if-is_any_held.true)))
+    (λ f hold. some_held f c.loop-place.links.items (ap is_any_held (sym c.deref.ensures.value) ∙ sym c.is_any_held.ensures ∙ c.if-is_any_held.true) hold))
+
+pub begins-requires : goal.begins-requires
+begins-requires g c = ap (λ (r : Record). is_any_unsaved r.frames) c.loop-place.invariant.told.recorded ∙ c.loop-place.invariant.saved
+
+pub returns-clause-settled : goal.returns-clause-settled
+returns-clause-settled g c =
+    settled_by (g.H.Host.told c.loop-place.host) c.loop-place.core c.loop-place.links.items c.loop-place.invariant.told c.loop-place.invariant.linked c.loop-place.invariant.quiet c.loop-place.invariant.saved
+    (ap is_any_held (sym c.deref.ensures.value) ∙ sym c.is_any_held.ensures ∙ c.if-is_any_held.false)

@@ -1,5 +1,8 @@
+use Rattle.std.proofs.Common.{◌≡◌, false}
 use Rattle.std.specs.Vec.Iter.{into_iter_items}
+use Rattle.script_model.specs.Saved.{is_any_unsaved}
 use Rattle.script_links.specs.Links.{AreLinked, AreServed}
+use Rattle.script_links.specs.Shown.{AreQuiet}
 use Rattle.script_links.specs.Told.{IsTold}
 use Rattle.script_run.proofs.Carried.{SoFar}
 use Rattle.script_run.proofs.script.carry_out_all.Given as goal
@@ -9,5 +12,7 @@ invariant-loop-place g l = record {
   told : IsTold g.H.Disk.Disk (g.H.Host.told l.host) l.core;
   linked : AreLinked (g.H.Host.told l.host) l.links.items;
   served : AreServed (g.H.Host.told l.host) l.links.items;
+  quiet : AreQuiet l.core.objects l.links.items;
+  saved : is_any_unsaved l.core.frames ≡ false;
   so_far : SoFar (g.H.Host.told l.host) l.links.items l.fn.commands.items (into_iter_items l.place-iterator.iter) l.place-iterator.count;
 }

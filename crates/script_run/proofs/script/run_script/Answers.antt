@@ -1,9 +1,24 @@
+use Rattle.std.proofs.Common.{◌≡◌, ap, false}
+use Rattle.container_model.specs.Record.{Record}
+use Rattle.script_model.specs.Errors.{is_asked}
+use Rattle.script_model.specs.Saved.{is_any_unsaved}
 use Rattle.script_run.proofs.Faulted.{ended_so, unread_so}
+use Rattle.script_run.proofs.Settled.{settled_still}
 use Rattle.script_run.proofs.script.run_script.Goals as goal
 
 pub returns-in-Err-clause-faulted : goal.returns-in-Err-clause-faulted
-returns-in-Err-clause-faulted g c = unread_so (g.R.Read.remaining c.args.reader.now) (g.H.Host.told c.args.host.now) c.in-Err.fault c.requires c.in-Err.ensures.refused
+returns-in-Err-clause-faulted g c = unread_so g.H.Disk.Disk (g.R.Read.remaining c.args.reader.now) (g.H.Host.told c.args.host.now) c.in-Err.fault c.requires c.in-Err.ensures.refused
 
 pub returns-clause-faulted : goal.returns-clause-faulted
 returns-clause-faulted g c =
-    ended_so c.carry_out_all-told.result (g.R.Read.remaining c.args.reader.now) c.in-Ok.commands.items (g.H.Host.told c.carry_out_all-told.new.host) (g.H.Host.told c.end_all.new.host) c.in-Ok.ensures.read c.end_all.ensures.ends c.carry_out_all-told.ensures.shown
+    ended_so g.H.Disk.Disk c.carry_out_all-told.result (g.R.Read.remaining c.args.reader.now) c.in-Ok.commands.items (g.H.Host.told c.carry_out_all-told.new.host) (g.H.Host.told c.end_all.new.host) c.in-Ok.ensures.read c.end_all.ensures.ends c.carry_out_all-told.ensures.shown
+
+pub returns-clause-settled : goal.returns-clause-settled
+returns-clause-settled g c =
+    settled_still c.carry_out_all-told.result (g.H.Host.told c.carry_out_all-told.new.host) (g.H.Host.told c.end_all.new.host) c.carry_out_all-told.new.core c.carry_out_all-told.ensures.told c.end_all.ensures.ends c.carry_out_all-told.ensures.settled
+
+pub carry_out_all-told-requires-clause-quiet : goal.carry_out_all-told-requires-clause-quiet
+carry_out_all-told-requires-clause-quiet g c = λ s asked. let none : is_asked s c.new-core.result.objects ≡ false = ap (λ (r : Record). is_asked s r.objects) c.new-core.ensures.empty in absurd (cc)
+
+pub carry_out_all-told-requires-clause-saved : goal.carry_out_all-told-requires-clause-saved
+carry_out_all-told-requires-clause-saved g c = ap (λ (r : Record). is_any_unsaved r.frames) c.new-core.ensures.empty
