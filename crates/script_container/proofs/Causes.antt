@@ -1,8 +1,6 @@
 -- Why a save is lost, and why it isn't known what became of one.
-use Rattle.std.proofs.Common.{◌≡◌, ◌≤◌, ◌<◌, ◌^◌, inl, inr, ⊎_elim, ℕ, List, Bool, true, false, None, length, Result, Ok, Err, IfErr, IfOk, sym, ap, ◌∙◌, subst, arith}
+use Rattle.std.proofs.Common.{◌≡◌, ◌≤◌, ◌<◌, ◌^◌, inl, inr, ⊎_elim, ℕ, List, Bool, false, length, Result, Ok, Err, IfErr, IfOk, sym, ◌∙◌, subst, arith}
 use Rattle.store_model.specs.Crash.{Rose}
-use Rattle.store_model.specs.Image.{Image}
-use Rattle.store_model.specs.Journal.{restored}
 use Rattle.store_model.specs.Store.{HoldsRefuses, OpenRefuses}
 use Rattle.store_model.specs.declared.disk.Disk.{Ghosts as Disks}
 use Rattle.store_model.specs.declared.fault.StoreFault.{StoreFault}

@@ -10,7 +10,6 @@ use Rattle.container_model.specs.declared.answer.Part.{Part}
 use Rattle.container_model.specs.declared.record.Frame.{Frame}
 use Rattle.container_model.specs.declared.record.Link.{Link}
 use Rattle.container_model.specs.declared.record.Object.{Object}
-use Rattle.container_model.specs.Record.{Record}
 use Rattle.container_model.specs.Saves.{image}
 use Rattle.script_model.specs.declared.command.ScriptCommand.{ScriptCommand}
 use Rattle.script_model.specs.declared.command.ScriptCommand.TheVariants as script

@@ -1,5 +1,5 @@
 -- What is settled behind the last command.
-use Rattle.std.proofs.Common.{◌≡◌, ℕ, false, true, List, Result, Ok, Err, OnOk, sym, ap, ◌∙◌, subst}
+use Rattle.std.proofs.Common.{◌≡◌, false, List, Result, Ok, Err, OnOk, sym, ap, ◌∙◌, subst}
 use Rattle.container_model.specs.Record.{Record}
 use Rattle.store_model.specs.declared.disk.Disk.{Ghosts as Disks}
 use Rattle.script_model.specs.Errors.{before_ends, is_asked}

@@ -1,6 +1,6 @@
 use Rattle.std.proofs.Common.{arith}
 use Rattle.doc_store.specs.Opened.{disk_of}
-use Rattle.script_container.proofs.Causes.{failed_unopened, lost_before, lost_there, no_less, untold_earlier, untold_unopened}
+use Rattle.script_container.proofs.Causes.{failed_unopened, lost_before, lost_there, no_less, untold_earlier}
 use Rattle.script_container.proofs.Kept.{lost_again, lost_on_opened, saved_again, saved_on_opened}
 use Rattle.script_container.proofs.saves.commit_on.Goals as goal
 

@@ -1,4 +1,4 @@
-use Rattle.std.proofs.Common.{◌≡◌, ◌≤◌, arith, ap, sym, subst}
+use Rattle.std.proofs.Common.{arith, ap}
 use Rattle.doc_store.specs.Opened.{disk_of}
 use Rattle.script_container.proofs.Kept.{quiet_on_opened}
 use Rattle.script_container.proofs.saves.read_on.Goals as goal

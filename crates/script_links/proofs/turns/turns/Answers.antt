@@ -1,7 +1,6 @@
-use Rattle.std.proofs.Common.{◌+◌, ◌∙◌, ◌≡◌, List, inl, ap, sym, arith, rules, subst}
+use Rattle.std.proofs.Common.{◌+◌, ◌∙◌, ◌≡◌, inl, ap, sym, arith, rules}
 use Rattle.std.specs.Result.{IsErrAnd}
 use Rattle.script_links.specs.Shown.{is_any_awaited}
-use Rattle.script_links.specs.declared.links.Link.{Link}
 use Rattle.script_container.proofs.Shown.{passed_on}
 use Rattle.script_links.proofs.Shown.{none_awaited, some_awaited, unanswered_by}
 use Rattle.script_links.proofs.turns.turns.Goals as goal
