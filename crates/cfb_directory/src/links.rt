@@ -9,6 +9,7 @@ ghost use Rattle.std.specs.Prelude.{◌≡◌, ◌<◌, ◌≤◌, IfErr, IfOk, 
 
 use crate::entries::NO_STREAM;
 use cfb_names::fault::DirFault;
+use cfb_names::key::Key;
 use cfb_names::name::Name;
 use std::alloc::{AllocError, Global};
 
@@ -55,7 +56,7 @@ pub fn build(alloc: Global, names: &[Name]) -> Result<Links, DirFault>
 }
 
 /// The names' keys, each with its place.
-fn keyed(alloc: Global, names: &[Name]) -> Result<Vec<([u8; 32], u32)>, DirFault>
+fn keyed(alloc: Global, names: &[Name]) -> Result<Vec<(Key, u32)>, DirFault>
     requires { length names.now ≤ 0xFFFFFFFF }
     ensures keyed { IfOk result (λ v. v.items ≡ keyed_names names.now) }
     ensures refused { IfErr result (λ e. e ≡ NoMemory) }
@@ -68,7 +69,7 @@ fn keyed(alloc: Global, names: &[Name]) -> Result<Vec<([u8; 32], u32)>, DirFault
 }
 
 /// Whether no two neighbours have one key.
-fn are_apart(siblings: &[([u8; 32], u32)]) -> bool
+fn are_apart(siblings: &[(Key, u32)]) -> bool
     ensures apart { result ≡ true → AllAdjacentApart siblings.now }
     ensures equal { result ≡ false → HasEqualNeighbours siblings.now }
 {
@@ -81,7 +82,7 @@ fn are_apart(siblings: &[([u8; 32], u32)]) -> bool
 }
 
 /// The places of siblings.
-fn places(alloc: Global, siblings: &[([u8; 32], u32)]) -> Result<Vec<u32>, AllocError>
+fn places(alloc: Global, siblings: &[(Key, u32)]) -> Result<Vec<u32>, AllocError>
     ensures { IfOk result (λ v. v.items ≡ places siblings.now) }
 {
     siblings.iter().map(|sibling| sibling.1).collect(alloc)

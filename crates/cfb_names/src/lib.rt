@@ -2,4 +2,5 @@
 #![tactic(auto)]
 
 pub mod fault;
+pub mod key;
 pub mod name;

@@ -7,6 +7,7 @@ ghost use Rattle.std.specs.List.{list_any};
 ghost use Rattle.std.specs.Prelude.{◌≡◌, ◌≤◌, length, map, nat_le};
 
 use crate::fault::DirFault;
+use crate::key::Key;
 use std::cmp::Ordering;
 use std::marker::Model;
 
@@ -144,10 +145,10 @@ impl Name {
     }
 
     /// What children are found and ordered by: the length, the characters in upper case, and zeros.
-    pub fn key(&self) -> [u8; 32]
+    pub fn key(&self) -> Key
         ensures { result ≡ key self.now }
     {
-        upper(&self.units)
+        Key::new(upper(&self.units))
     }
 
     /// The order of names: the shorter one is less, and of two that are equally long the one whose characters in upper
@@ -155,6 +156,6 @@ impl Name {
     pub fn cmp(&self, other: &Name) -> Ordering
         ensures { result ≡ name_cmp self.now other.now }
     {
-        upper(&self.units).cmp(&upper(&other.units))
+        self.key().cmp(&other.key())
     }
 }

@@ -75,7 +75,7 @@ fn list_keys(
             Err(fault) => return Err(fault),
         };
         let key = name.key();
-        push_within(list, numbers(&key), *id);
+        push_within(list, numbers(key.as_bytes()), *id);
     }
     Ok(())
 }

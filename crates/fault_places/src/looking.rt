@@ -149,7 +149,7 @@ fn find_twins(alloc: Global, entries: &Entries<'_>, ids: &[u32]) -> Option<(u32,
 }
 
 /// Whether two keys are the same.
-fn are_same(a: [u8; 32], b: [u8; 32]) -> bool
+fn are_same(a: Key, b: Key) -> bool
     ensures { result ≡ true → a ≡ b }
 {
     a == b

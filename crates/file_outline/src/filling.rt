@@ -10,6 +10,7 @@ ghost use Rattle.storage_tree.specs.Whole.{IsTree, IsWhole};
 
 use crate::outline::{Outline, Part, Place, is_short};
 use cfb_chain::fat::Fat;
+use cfb_names::key::Key;
 use cfb_names::name::Name;
 use std::alloc::{AllocError, Global};
 use std::collections::BTreeMap;
@@ -34,7 +35,7 @@ pub fn bytes_at(
 
 /// Puts a child behind those so far, under the key of its name.
 fn push_child(
-    pairs: &mut Vec<([u8; 32], (Name, Node))>,
+    pairs: &mut Vec<(Key, (Name, Node))>,
     name: Name,
     node: Node,
 ) -> Result<(), AllocError>
@@ -46,8 +47,8 @@ fn push_child(
 /// The map of children whose keys ascend, made at once: to insert each one is a search of its own.
 fn map_of(
     alloc: Global,
-    pairs: Vec<([u8; 32], (Name, Node))>,
-) -> Result<BTreeMap<[u8; 32], (Name, Node)>, AllocError>
+    pairs: Vec<(Key, (Name, Node))>,
+) -> Result<BTreeMap<Key, (Name, Node)>, AllocError>
     ensures { IfOk result (λ map. IsStrictlySortedBy key_cmp (keys_of pairs.items) → map.entries ≡ pairs.items) }
 {
     pairs.into_iter().collect(alloc)

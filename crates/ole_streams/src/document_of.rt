@@ -19,6 +19,7 @@ ghost use Rattle.storage_tree.specs.View.{children, shown, view};
 use crate::doc::{Doc, DocObject};
 use crate::layout::read_layout;
 use crate::names;
+use cfb_names::key::Key;
 use cfb_names::name::Name;
 use object_parts::area::Area;
 use object_parts::limits::{comp_obj, ole, ole_pres};
@@ -36,7 +37,7 @@ use storage_tree::streams::{NamedStream, Streams};
 use storage_tree::tree::Tree;
 
 /// The children of a storage.
-type Entries = BTreeMap<[u8; 32], (Name, Node)>;
+type Entries = BTreeMap<Key, (Name, Node)>;
 
 /// Takes away what stands under a name.
 fn take(entries: &mut Entries, name: &Name) -> Option<(Name, Node)>

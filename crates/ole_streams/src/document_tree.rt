@@ -16,6 +16,7 @@ ghost use Rattle.storage_tree.specs.Whole.{AreTrees, IsTree, IsWhole};
 use crate::doc::{Doc, DocObject};
 use crate::layout::write_layout;
 use crate::names;
+use cfb_names::key::Key;
 use cfb_names::name::Name;
 use object_parts::limits::{comp_obj, ole, ole_pres};
 use ole_parts::comp_obj::write_stream;
@@ -30,7 +31,7 @@ use storage_tree::streams::NamedStream;
 use storage_tree::tree::Tree;
 
 /// The children of a storage.
-type Entries = BTreeMap<[u8; 32], (Name, Node)>;
+type Entries = BTreeMap<Key, (Name, Node)>;
 
 /// Puts a child under its name.
 fn place(entries: &mut Entries, name: Name, node: Node) -> Result<(), AllocError>

@@ -13,6 +13,7 @@ ghost use Rattle.storage_tree.specs.View.{found_seen, moved, seen, view};
 use crate::bytes::Bytes;
 use crate::class_id::ClassId;
 use crate::fault::TreeFault;
+use cfb_names::key::Key;
 use cfb_names::name::Name;
 use std::alloc::{AllocError, Global};
 use std::collections::BTreeMap;
@@ -26,7 +27,7 @@ pub struct Storage {
     /// The state bits.
     pub state: u32,
     /// The children in name order, each under the key of its name, with the name as it is spelled.
-    pub children: BTreeMap<[u8; 32], (Name, Node)>,
+    pub children: BTreeMap<Key, (Name, Node)>,
 }
 
 /// A stream, or a storage.
@@ -64,7 +65,7 @@ pub enum Edit {
 }
 
 /// The key of a name.
-fn key_of(name: &Name) -> [u8; 32]
+fn key_of(name: &Name) -> Key
     ensures key { result ≡ key name.now }
     ensures valid { IsName name.now }
 {
@@ -228,7 +229,7 @@ impl Storage {
     }
 
     /// Puts a child back into the place that another one took.
-    fn put_back(&mut self, key: &[u8; 32], there: (Name, Node))
+    fn put_back(&mut self, key: &Key, there: (Name, Node))
         ensures class { self.new.class ≡ self.old.class }
         ensures state { self.new.state ≡ self.old.state }
         ensures entries { IsSome (lookup (is_at (key_cmp key.now)) self.old.children.entries) → self.new.children.entries ≡ set_value (is_at (key_cmp key.now)) self.old.children.entries there }
@@ -298,7 +299,7 @@ impl Storage {
     }
 
     /// Moves what stands under a key to the place made under another.
-    fn move_child(&mut self, key: &[u8; 32], new_key: &[u8; 32])
+    fn move_child(&mut self, key: &Key, new_key: &Key)
         ensures class { self.new.class ≡ self.old.class }
         ensures state { self.new.state ≡ self.old.state }
         ensures entries { self.new.children.entries ≡ moved key.now new_key.now self.old.children.entries }

@@ -9,6 +9,7 @@ ghost use Rattle.storage_tree.specs.View.{seen, view};
 ghost use Rattle.storage_tree.specs.Whole.{IsTree, IsWhole};
 ghost use Rattle.stream_seeking.specs.Tables.{read_by};
 
+use cfb_names::key::Key;
 use cfb_names::name::Name;
 use file_outline::outline::{Outline, Part};
 use file_places::source::Source;
@@ -20,7 +21,7 @@ use stream_seeking::tables::{Tables, read_place};
 
 /// Puts a child behind those so far, under the key of its name.
 fn push_child(
-    pairs: &mut Vec<([u8; 32], (Name, Node))>,
+    pairs: &mut Vec<(Key, (Name, Node))>,
     name: Name,
     node: Node,
 ) -> Result<(), AllocError>
@@ -32,8 +33,8 @@ fn push_child(
 /// The map of children whose keys ascend, made at once.
 fn map_of(
     alloc: Global,
-    pairs: Vec<([u8; 32], (Name, Node))>,
-) -> Result<BTreeMap<[u8; 32], (Name, Node)>, AllocError>
+    pairs: Vec<(Key, (Name, Node))>,
+) -> Result<BTreeMap<Key, (Name, Node)>, AllocError>
     ensures { IfOk result (λ map. IsStrictlySortedBy key_cmp (keys_of pairs.items) → map.entries ≡ pairs.items) }
 {
     pairs.into_iter().collect(alloc)
