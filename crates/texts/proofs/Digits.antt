@@ -1,27 +1,11 @@
 -- The table of hexadecimal digits.
-use Rattle.std.proofs.Common.{◌≡◌, ◌<◌, ◌≤◌, ◌++◌, ℕ, zero, suc, List, [], ◌∷◌, replicate, Bool, true, false, cond, nat_eq, nat_lt, Option, Some, None, slice_index_or, length, refl, ap, ◌∙◌, arith, rules}
-use Rattle.texts.specs.Words.{hex_digit}
+use Rattle.std.proofs.Common.{◌≡◌, ◌<◌, ◌++◌, ℕ, zero, suc, List, [], ◌∷◌, replicate, Bool, true, false, cond, nat_eq, Option, Some, None, slice_index_or, refl, ap, ◌∙◌, arith, rules}
+use Rattle.texts.specs.Words.{hex_digit, value_told}
 
 abbrev digits : List ℕ
 digits =
     replicate 48 255 ++ (0 ∷ 1 ∷ 2 ∷ 3 ∷ 4 ∷ 5 ∷ 6 ∷ 7 ∷ 8 ∷ 9 ∷ []) ++ replicate 7 255 ++ (10 ∷ 11 ∷ 12 ∷ 13 ∷ 14 ∷ 15 ∷ [])
     ++ replicate 26 255 ++ (10 ∷ 11 ∷ 12 ∷ 13 ∷ 14 ∷ 15 ∷ []) ++ replicate 153 255
-
-lt-true : (a b : ℕ) → a < b → true ≡ nat_lt a b
-lt-true a b l = grind (arith, l)
-
-lt-false : (a b : ℕ) → b ≤ a → false ≡ nat_lt a b
-lt-false a b l = grind (arith, l)
-
--- what is told of a value that stands there
-abbrev told : ℕ → Option ℕ
-told value = cond (nat_lt value 16) (Some value) None
-
-pub told_of : (value : ℕ) → value < 16 → Some value ≡ told value
-told_of value l = ap (λ b. cond b (Some value) None) (lt-true value 16 l)
-
-pub none_of : (value : ℕ) → 16 ≤ value → None ≡ told value
-none_of value l = ap (λ b. cond b (Some value) None) (lt-false value 16 l)
 
 abbrev same : Option ℕ → Option ℕ → Bool
 same None None = true
@@ -51,16 +35,10 @@ every-is p (suc n) d h l = elim (p n) as (λ b. p n ≡ b → cond b (every p n)
 
 -- what the table tells of a byte
 abbrev tells : ℕ → Option ℕ
-tells d = told (slice_index_or digits d 0)
+tells d = value_told (slice_index_or digits d 0)
 
 tells-is : (d : ℕ) → d < 256 → tells d ≡ hex_digit d
 tells-is d l = same-is (tells d) (hex_digit d) (every-is (λ x. same (tells x) (hex_digit x)) 256 d refl l)
 
--- where something stands, nothing else is told
-at-any : (xs : List ℕ) (n d e : ℕ) → n < length xs → slice_index_or xs n d ≡ slice_index_or xs n e
-at-any [] n d e l = absurd (omega (arith, l))
-at-any (x ∷ xs) zero d e l = refl
-at-any (x ∷ xs) (suc n) d e l = at-any xs n d e (omega (arith, l))
-
-pub in_table : (d n value : ℕ) → d < 256 → n ≡ d → value ≡ slice_index_or digits n value → told value ≡ hex_digit d
-in_table d n value l at is = ap told (is ∙ ap (λ m. slice_index_or digits m value) at ∙ at-any digits d value 0 l) ∙ tells-is d l
+pub in_table : (d n : ℕ) → d < 256 → n ≡ d → tells n ≡ hex_digit d
+in_table d n l at = ap tells at ∙ tells-is d l

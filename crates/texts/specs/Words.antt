@@ -1,5 +1,5 @@
 -- Bytes in the words of the texts that the program reads.
-use Rattle.std.specs.Prelude.{◌+◌, ◌-◌, ◌*◌, ◌&&◌, ℕ, Bool, Option, Some, None, List, [], ◌∷◌, nat_le, nat_eq, cond}
+use Rattle.std.specs.Prelude.{◌+◌, ◌-◌, ◌*◌, ◌&&◌, ℕ, Bool, Option, Some, None, List, [], ◌∷◌, nat_le, nat_lt, nat_eq, cond}
 use Rattle.std.specs.Char.{is_ascii_digit}
 pub use Rattle.text_model.specs.Spelled.{is_hidden}
 
@@ -10,6 +10,10 @@ lower_digit c = cond (is_ascii_digit c) (Some (c - 48)) (cond (nat_le 97 c && na
 -- the value of a hexadecimal digit, in either case
 abbrev pub hex_digit : ℕ → Option ℕ
 hex_digit c = cond (nat_le 65 c && nat_le c 70) (Some (c - 55)) (lower_digit c)
+
+-- what a number tells of a digit: its value, or that it is none
+abbrev pub value_told : ℕ → Option ℕ
+value_told value = cond (nat_lt value 16) (Some value) None
 
 -- two digits as one byte
 abbrev pub pair_value : Option ℕ → Option ℕ → Option ℕ
