@@ -12,6 +12,7 @@ use crate::walking::stands_in;
 use crate::ways::{end_of, push_ways, root_way};
 use cfb_directory::entries::{Entries, EntryKind};
 use cfb_names::fault::DirFault;
+use cfb_names::key::Key;
 use std::alloc::{AllocError, Global};
 use std::collections::BTreeMap;
 

@@ -21,9 +21,10 @@ loop-id-preserved c =
     let id : ℕ = get_or ids i 0 in
     let is : c.key-key.result ≡ key_at dir id =
     c.key-key.ensures ∙ name_key dir id c.in-Ok.name (c.requires.below_root i 0 c.loop-id-test.true) c.in-Ok.ensures.read in
-    let key_is : c.numbers.result ≡ numbers (key_at dir id) = c.numbers.ensures.numbers ∙ ap numbers is in
+    let read : c.as_bytes.result.now ≡ key_at dir id = c.as_bytes.ensures ∙ is in
+    let key_is : c.numbers.result ≡ numbers (key_at dir id) = c.numbers.ensures.numbers ∙ ap numbers read in
     let more : take (i + 1) ids ≡ take i ids ++ id ∷ [] = take_more ids i 0 c.loop-id-test.true in
-    let bytes : AreBytes (key_at dir id) = subst AreBytes is c.numbers.ensures.bytes in (
+    let bytes : AreBytes (key_at dir id) = subst AreBytes read c.numbers.ensures.bytes in (
       c.push_within.ensures.items
           ∙ (λ t. c.loop-id.invariant.0 t ++ (key_is t, id) ∷ [])
           ∙ sym (map-append (λ n. (numbers (key_at dir n), n)) (take i ids) (id ∷ []))
