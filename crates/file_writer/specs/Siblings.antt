@@ -1,10 +1,11 @@
 -- The entries of siblings as the writer keeps them.
-use Rattle.std.specs.Prelude.{◌≡◌, ◌<◌, ◌^◌, ◌+◌, ◌++◌, ℕ, List, length}
+use Rattle.std.specs.Prelude.{◌≡◌, ◌<◌, ◌^◌, ◌+◌, ◌++◌, ℕ, List, length, if◌then◌else◌, nat_lt}
 use Rattle.cfb_directory.specs.SearchTree.{IsSearchTree}
 use Rattle.cfb_directory.specs.Written.{entry_bytes}
 use Rattle.storage_tree.specs.Tree.{Children}
 use Rattle.storage_tree.specs.Change.{Seen, bytes, inner}
-use Rattle.file_model.specs.Need.{entries_of, over_streams_of, short_pieces, long_pieces}
+use Rattle.file_model.specs.Limits.{CUTOFF}
+use Rattle.file_model.specs.Need.{entries_of, over_streams_of, short_pieces, long_pieces, pieces}
 use Rattle.file_writer.specs.Streams.{minis_with, sectors_with}
 use Rattle.file_layout.specs.Directory.{IsSpelled, ids_from, entries_with, stream_says, storage_says, entries_below, each_entry, balanced}
 use Rattle.file_writer.specs.declared.entries.Siblings.{Siblings}
@@ -24,6 +25,10 @@ pub record AreSiblings (siblings : Siblings) (first : ℕ) (cs : Children) : Typ
 -- where the next entry, mini sector and sector stand behind a child
 abbrev pub past : Cursor → Seen → Cursor
 past at s = record { id = at.id + entries_with s; mini = at.mini + minis_with s; sector = at.sector + sectors_with s }
+
+-- behind a stream of so many bytes
+abbrev pub past_stream : Cursor → ℕ → Cursor
+past_stream at size = record { id = at.id + 1; mini = at.mini + (if nat_lt size CUTOFF then pieces 64 size else 0); sector = at.sector + (if nat_lt size CUTOFF then 0 else pieces 512 size) }
 
 -- and behind siblings
 abbrev pub past_all : Cursor → Children → Cursor

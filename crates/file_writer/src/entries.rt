@@ -8,8 +8,7 @@ ghost use Rattle.storage_tree.specs.View.{seen, view};
 ghost use Rattle.file_model.specs.Need.{entries, long_sectors};
 ghost use Rattle.file_model.specs.declared.limit.TheConstants.{MANY};
 ghost use Rattle.file_writer.specs.Counted.{AreCounts};
-ghost use Rattle.file_writer.specs.Siblings.{IsBelow, IsChildSpelled, AreSiblings, IsJoined, child_entries, past, past_all, sibling_entries};
-ghost use Rattle.storage_tree.specs.Change.{bytes as seen_bytes};
+ghost use Rattle.file_writer.specs.Siblings.{IsBelow, IsChildSpelled, AreSiblings, IsJoined, child_entries, past, past_all, past_stream, sibling_entries};
 ghost use Rattle.file_layout.specs.Image.{start};
 ghost use Rattle.file_layout.specs.Directory.{AreSpelled, IsSpelled, balanced as balanced_links, children_in, entries_with, first_of_stream, directory_of_tree, ids_from, long_start, root_says, storage_says, stream_says};
 
@@ -22,12 +21,11 @@ use cfb_names::name::Name;
 use file_model::limit::MANY;
 use file_model::need::difat_sectors;
 use std::alloc::{AllocError, Global};
-use storage_tree::bytes::Bytes;
 use storage_tree::storage::{Node, Storage};
 
 /// How many entries a storage has below its own, or the bound where it has more.
 #[cycle(count_entries)]
-pub(crate) fn count_below(storage: &Storage) -> u32
+fn count_below(storage: &Storage) -> u32
     ensures { result ≡ min MANY (entries (view storage.now)) }
 {
     let mut count: u32 = 0;
@@ -140,24 +138,24 @@ pub(crate) fn chain_start(at: u32, count: u32) -> u32
     if count == 0 { END_OF_CHAIN } else { at }
 }
 
-/// Where a stream starts.
-fn stream_start(at: Cursor, bytes: &Bytes) -> u32
-    requires { length bytes.now < 2 ^ 32 }
-    ensures { result ≡ first_of_stream at.mini at.sector (length bytes.now) }
+/// Where a stream of so many bytes starts.
+fn stream_start(at: Cursor, len: usize) -> u32
+    requires { len < 2 ^ 32 }
+    ensures { result ≡ first_of_stream at.mini at.sector len }
 {
-    if is_short(bytes) {
-        chain_start(at.mini, mini_count(bytes) as u32)
+    if is_short(len) {
+        chain_start(at.mini, mini_count(len) as u32)
     } else {
-        chain_start(at.sector, sector_count(bytes) as u32)
+        chain_start(at.sector, sector_count(len) as u32)
     }
 }
 
-/// What the entry of the stream at a place says.
-fn stream_entry(siblings: &Siblings, place: usize, at: Cursor, bytes: &Bytes) -> EntryFields
+/// What the entry of the stream of so many bytes at a place says.
+fn stream_entry(siblings: &Siblings, place: usize, at: Cursor, len: usize) -> EntryFields
     requires joined { IsJoined siblings.now }
     requires there { place < length siblings.now.ids.items }
-    requires few { length bytes.now < 2 ^ 32 }
-    ensures { result ≡ stream_says balanced_links siblings.now.ids.items place at.mini at.sector (length bytes.now) }
+    requires few { len < 2 ^ 32 }
+    ensures { result ≡ stream_says balanced_links siblings.now.ids.items place at.mini at.sector len }
 {
     EntryFields {
         kind: EntryKind::Stream,
@@ -166,8 +164,8 @@ fn stream_entry(siblings: &Siblings, place: usize, at: Cursor, bytes: &Bytes) ->
         child: NO_STREAM,
         class: [0; 16],
         state: 0,
-        first: stream_start(at, bytes),
-        size: bytes.len() as u32,
+        first: stream_start(at, len),
+        size: len as u32,
     }
 }
 
@@ -215,22 +213,22 @@ fn storage_entry(
 }
 
 impl Cursor {
-    /// Behind a stream.
-    fn past(self, bytes: &Bytes) -> Cursor
-        requires { IsBelow (past self (seen_bytes bytes.now)) MANY }
-        ensures { result ≡ past self (seen_bytes bytes.now) }
+    /// Behind a stream of so many bytes.
+    fn past(self, len: usize) -> Cursor
+        requires { IsBelow (past_stream self len) MANY }
+        ensures { result ≡ past_stream self len }
     {
-        if is_short(bytes) {
+        if is_short(len) {
             Cursor {
                 id: self.id + 1,
-                mini: self.mini + mini_count(bytes) as u32,
+                mini: self.mini + mini_count(len) as u32,
                 sector: self.sector,
             }
         } else {
             Cursor {
                 id: self.id + 1,
                 mini: self.mini,
-                sector: self.sector + sector_count(bytes) as u32,
+                sector: self.sector + sector_count(len) as u32,
             }
         }
     }
@@ -280,8 +278,9 @@ fn push_child(
     let name = child.0.as_bytes();
     match &child.1 {
         Node::Stream(bytes) => {
-            write_entry(out, name, &stream_entry(siblings, place, at, bytes))?;
-            Ok(at.past(bytes))
+            let len = bytes.len();
+            write_entry(out, name, &stream_entry(siblings, place, at, len))?;
+            Ok(at.past(len))
         }
         Node::Storage(inner) => {
             let below = Cursor {

@@ -2,6 +2,7 @@
 #![tactic(auto)]
 
 mod entries;
+mod needs;
 pub mod sending;
 mod streams;
 pub mod write;

@@ -14,7 +14,6 @@ use crate::write::{count, lay_front};
 use file_model::fault::WriteFault;
 use std::alloc::Global;
 use std::io::{self, Write};
-use storage_tree::bytes::Bytes;
 use storage_tree::storage::{Node, Storage};
 use thiserror::Error;
 
@@ -87,25 +86,28 @@ fn send_zeros<W: Write>(writer: &mut W, waiting: &mut Vec<u8>, count: usize) -> 
     requires { count < 512 }
     ensures { OnOk result (Sends (W.contents writer.old) (W.contents writer.new) waiting.old.items waiting.new.items (replicate count 0)) }
 {
+    if count == 0 {
+        return Ok(());
+    }
     let zeros = [0; 512];
     send(writer, waiting, &zeros[..count])?;
     Ok(())
 }
 
 /// Sends the bytes of a stream, with zeros up to whole mini sectors.
-fn send_minis<W: Write>(writer: &mut W, waiting: &mut Vec<u8>, bytes: &Bytes) -> io::Result<()>
+fn send_minis<W: Write>(writer: &mut W, waiting: &mut Vec<u8>, bytes: &[u8]) -> io::Result<()>
     ensures { OnOk result (Sends (W.contents writer.old) (W.contents writer.new) waiting.old.items waiting.new.items (padded 64 bytes.now)) }
 {
-    send(writer, waiting, bytes.as_slice())?;
+    send(writer, waiting, bytes)?;
     send_zeros(writer, waiting, mini_zeros(bytes.len()))?;
     Ok(())
 }
 
 /// Sends the bytes of a stream, with zeros up to whole sectors.
-fn send_sectors<W: Write>(writer: &mut W, waiting: &mut Vec<u8>, bytes: &Bytes) -> io::Result<()>
+fn send_sectors<W: Write>(writer: &mut W, waiting: &mut Vec<u8>, bytes: &[u8]) -> io::Result<()>
     ensures { OnOk result (Sends (W.contents writer.old) (W.contents writer.new) waiting.old.items waiting.new.items (padded 512 bytes.now)) }
 {
-    send(writer, waiting, bytes.as_slice())?;
+    send(writer, waiting, bytes)?;
     send_zeros(writer, waiting, sector_zeros(bytes.len()))?;
     Ok(())
 }
@@ -129,7 +131,8 @@ fn send_short_child<W: Write>(writer: &mut W, waiting: &mut Vec<u8>, child: &Nod
 {
     match child {
         Node::Stream(bytes) => {
-            if is_short(bytes) {
+            let bytes = bytes.as_slice();
+            if is_short(bytes.len()) {
                 send_minis(writer, waiting, bytes)?;
             }
         }
@@ -172,7 +175,8 @@ fn send_long_child<W: Write>(writer: &mut W, waiting: &mut Vec<u8>, child: &Node
 {
     match child {
         Node::Stream(bytes) => {
-            if !is_short(bytes) {
+            let bytes = bytes.as_slice();
+            if !is_short(bytes.len()) {
                 send_sectors(writer, waiting, bytes)?;
             }
         }

@@ -10,28 +10,27 @@ ghost use Rattle.file_writer.specs.Streams.{long_within, minis_with, sectors_wit
 
 use file_model::limit::{CUTOFF, MANY};
 use std::alloc::AllocError;
-use storage_tree::bytes::Bytes;
 use storage_tree::storage::{Node, Storage};
 
-/// Whether a stream lies in the mini stream.
-pub(crate) fn is_short(bytes: &Bytes) -> bool
-    ensures { result ≡ nat_lt (length bytes.now) CUTOFF }
+/// Whether a stream of so many bytes lies in the mini stream.
+pub(crate) fn is_short(len: usize) -> bool
+    ensures { result ≡ nat_lt len CUTOFF }
 {
-    bytes.len() < CUTOFF
+    len < CUTOFF
 }
 
-/// How many mini sectors the bytes of a stream take.
-pub(crate) fn mini_count(bytes: &Bytes) -> usize
-    ensures { result ≡ pieces 64 (length bytes.now) }
+/// How many mini sectors so many bytes take.
+pub(crate) fn mini_count(len: usize) -> usize
+    ensures { result ≡ pieces 64 len }
 {
-    bytes.len().div_ceil(64)
+    len.div_ceil(64)
 }
 
-/// How many sectors the bytes of a stream take.
-pub(crate) fn sector_count(bytes: &Bytes) -> usize
-    ensures { result ≡ pieces 512 (length bytes.now) }
+/// How many sectors so many bytes take.
+pub(crate) fn sector_count(len: usize) -> usize
+    ensures { result ≡ pieces 512 len }
 {
-    bytes.len().div_ceil(512)
+    len.div_ceil(512)
 }
 
 /// Adds zero bytes.
@@ -61,19 +60,19 @@ pub(crate) fn sector_zeros(len: usize) -> usize
 }
 
 /// Adds the bytes of a stream, with zeros up to whole mini sectors.
-fn push_minis(out: &mut Vec<u8>, bytes: &Bytes) -> Result<(), AllocError>
+fn push_minis(out: &mut Vec<u8>, bytes: &[u8]) -> Result<(), AllocError>
     ensures { OnOk result (out.new.items ≡ out.old.items ++ padded 64 bytes.now) }
 {
-    out.extend_from_slice(bytes.as_slice())?;
+    out.extend_from_slice(bytes)?;
     push_zeros(out, mini_zeros(bytes.len()))?;
     Ok(())
 }
 
 /// Adds the bytes of a stream, with zeros up to whole sectors.
-fn push_sectors(out: &mut Vec<u8>, bytes: &Bytes) -> Result<(), AllocError>
+fn push_sectors(out: &mut Vec<u8>, bytes: &[u8]) -> Result<(), AllocError>
     ensures { OnOk result (out.new.items ≡ out.old.items ++ padded 512 bytes.now) }
 {
-    out.extend_from_slice(bytes.as_slice())?;
+    out.extend_from_slice(bytes)?;
     push_zeros(out, sector_zeros(bytes.len()))?;
     Ok(())
 }
@@ -97,7 +96,8 @@ fn push_short_child(out: &mut Vec<u8>, child: &Node) -> Result<(), AllocError>
 {
     match child {
         Node::Stream(bytes) => {
-            if is_short(bytes) {
+            let bytes = bytes.as_slice();
+            if is_short(bytes.len()) {
                 push_minis(out, bytes)?;
             }
         }
@@ -125,71 +125,14 @@ fn push_long_child(out: &mut Vec<u8>, child: &Node) -> Result<(), AllocError>
 {
     match child {
         Node::Stream(bytes) => {
-            if !is_short(bytes) {
+            let bytes = bytes.as_slice();
+            if !is_short(bytes.len()) {
                 push_sectors(out, bytes)?;
             }
         }
         Node::Storage(inner) => push_long(out, inner)?,
     }
     Ok(())
-}
-
-/// How many mini sectors the streams below a storage take, or the bound where they take more.
-#[cycle(count_minis)]
-pub(crate) fn count_minis(storage: &Storage) -> usize
-    ensures { result ≡ min MANY (mini_sectors (view storage.now)) }
-{
-    let mut count: usize = 0;
-    for (_, child) in storage.children.iter() {
-        count = (count + count_minis_with(&child.1)).min(MANY as usize);
-    }
-    count
-}
-
-/// How many a child's take.
-#[cycle(count_minis)]
-fn count_minis_with(child: &Node) -> usize
-    ensures { result ≡ min MANY (minis_with (seen child.now)) }
-{
-    match child {
-        Node::Stream(bytes) => {
-            if is_short(bytes) {
-                mini_count(bytes)
-            } else {
-                0
-            }
-        }
-        Node::Storage(inner) => count_minis(inner),
-    }
-}
-
-/// How many sectors of their own the streams below a storage take, or the bound where they take more.
-#[cycle(count_sectors)]
-pub(crate) fn count_sectors(storage: &Storage) -> usize
-    ensures { result ≡ min MANY (long_sectors (view storage.now)) }
-{
-    let mut count: usize = 0;
-    for (_, child) in storage.children.iter() {
-        count = (count + count_sectors_with(&child.1)).min(MANY as usize);
-    }
-    count
-}
-
-/// How many a child's take.
-#[cycle(count_sectors)]
-fn count_sectors_with(child: &Node) -> usize
-    ensures { result ≡ min MANY (sectors_with (seen child.now)) }
-{
-    match child {
-        Node::Stream(bytes) => {
-            if is_short(bytes) {
-                0
-            } else {
-                sector_count(bytes).min(MANY as usize)
-            }
-        }
-        Node::Storage(inner) => count_sectors(inner),
-    }
 }
 
 /// Adds the mini stream of a tree, in whole sectors.
@@ -224,8 +167,9 @@ fn push_mini_counts_with(counts: &mut Vec<usize>, child: &Node) -> Result<(), Al
 {
     match child {
         Node::Stream(bytes) => {
-            if is_short(bytes) {
-                counts.push(mini_count(bytes))?;
+            let len = bytes.len();
+            if is_short(len) {
+                counts.push(mini_count(len))?;
             }
         }
         Node::Storage(inner) => push_mini_counts(counts, inner)?,
@@ -254,8 +198,9 @@ fn push_sector_counts_with(counts: &mut Vec<usize>, child: &Node) -> Result<(), 
 {
     match child {
         Node::Stream(bytes) => {
-            if !is_short(bytes) {
-                counts.push(sector_count(bytes))?;
+            let len = bytes.len();
+            if !is_short(len) {
+                counts.push(sector_count(len))?;
             }
         }
         Node::Storage(inner) => push_sector_counts(counts, inner)?,

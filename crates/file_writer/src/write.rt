@@ -18,10 +18,9 @@ ghost use Rattle.file_model.specs.declared.limit.TheConstants.{MANY, MOST_FAT_SE
 ghost use Rattle.file_writer.specs.Counted.{AreEnough, IsCounted};
 ghost use Rattle.file_writer.specs.Laid.{IsLaidOut};
 
-use crate::entries::{Counts, chain_start, count_below, push_directory};
-use crate::streams::{
-    count_minis, count_sectors, push_long, push_mini_counts, push_mini_stream, push_sector_counts,
-};
+use crate::entries::{Counts, chain_start, push_directory};
+use crate::needs::needs_below;
+use crate::streams::{push_long, push_mini_counts, push_mini_stream, push_sector_counts};
 use cfb_header::header::{END_OF_CHAIN, Header, LISTED, NAMED};
 use chain_model::sector::FREE_SECTOR;
 use file_model::fault::WriteFault;
@@ -273,11 +272,12 @@ fn lay_out(alloc: Global, root: &Storage, counts: Counts) -> Result<Vec<u8>, All
 fn survey(root: &Storage) -> Counts
     ensures { IsCounted result (view root.now) }
 {
+    let needs = needs_below(root);
     let mut counts = Counts {
         fat: 0,
-        entries: count_below(root),
-        minis: count_minis(root) as u32,
-        longs: count_sectors(root) as u32,
+        entries: needs.entries,
+        minis: needs.minis,
+        longs: needs.longs,
     };
     counts.fat = fat_sectors(counts.data_sectors());
     counts

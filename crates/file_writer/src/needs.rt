@@ -1,0 +1,84 @@
+//! The room that a tree needs in its file, counted in one walk.
+
+ghost use Rattle.std.specs.Prelude.{◌≡◌, if◌then◌else◌, min, nat_lt};
+ghost use Rattle.storage_tree.specs.View.{seen, view};
+ghost use Rattle.file_layout.specs.Directory.{entries_with};
+ghost use Rattle.file_model.specs.Need.{entries, long_sectors, mini_sectors, pieces};
+ghost use Rattle.file_model.specs.declared.limit.TheConstants.{CUTOFF, MANY};
+ghost use Rattle.file_writer.specs.Streams.{minis_with, sectors_with};
+
+use crate::streams::{is_short, mini_count, sector_count};
+use file_model::limit::MANY;
+use storage_tree::storage::{Node, Storage};
+
+/// What a part of a tree needs, each sort of room counted up to the bound: entries, mini sectors and sectors of long streams.
+#[derive(Clone, Copy, PartialEq, Eq)]
+pub(crate) struct Needs {
+    pub(crate) entries: u32,
+    pub(crate) minis: u32,
+    pub(crate) longs: u32,
+}
+
+/// What a storage needs below its own entry.
+#[cycle(count_needs)]
+pub(crate) fn needs_below(storage: &Storage) -> Needs
+    ensures entries { result.entries ≡ min MANY (entries (view storage.now)) }
+    ensures minis { result.minis ≡ min MANY (mini_sectors (view storage.now)) }
+    ensures longs { result.longs ≡ min MANY (long_sectors (view storage.now)) }
+{
+    let mut entries: u32 = 0;
+    let mut minis: u32 = 0;
+    let mut longs: u32 = 0;
+    for (_, child) in storage.children.iter() {
+        let needs = needs_with(&child.1);
+        entries = (entries + needs.entries).min(MANY);
+        minis = (minis + needs.minis).min(MANY);
+        longs = (longs + needs.longs).min(MANY);
+    }
+    Needs {
+        entries,
+        minis,
+        longs,
+    }
+}
+
+/// What a child needs with its own entry.
+#[cycle(count_needs)]
+fn needs_with(child: &Node) -> Needs
+    ensures entries { result.entries ≡ min MANY (entries_with (seen child.now)) }
+    ensures minis { result.minis ≡ min MANY (minis_with (seen child.now)) }
+    ensures longs { result.longs ≡ min MANY (sectors_with (seen child.now)) }
+{
+    match child {
+        Node::Stream(bytes) => needs_of_stream(bytes.len()),
+        Node::Storage(inner) => {
+            let below = needs_below(inner);
+            Needs {
+                entries: (1 + below.entries).min(MANY),
+                minis: below.minis,
+                longs: below.longs,
+            }
+        }
+    }
+}
+
+/// What a stream of so many bytes needs.
+fn needs_of_stream(len: usize) -> Needs
+    ensures entries { result.entries ≡ 1 }
+    ensures minis { result.minis ≡ (if nat_lt len CUTOFF then pieces 64 len else 0) }
+    ensures longs { result.longs ≡ (if nat_lt len CUTOFF then 0 else min MANY (pieces 512 len)) }
+{
+    if is_short(len) {
+        Needs {
+            entries: 1,
+            minis: mini_count(len) as u32,
+            longs: 0,
+        }
+    } else {
+        Needs {
+            entries: 1,
+            minis: 0,
+            longs: sector_count(len).min(MANY as usize) as u32,
+        }
+    }
+}
