@@ -1,2 +1,3 @@
 pub mod KeyNumbers
 pub mod SortedNames
+pub mod Walked

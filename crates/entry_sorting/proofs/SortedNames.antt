@@ -52,7 +52,7 @@ module _ {X : Type 0} (k : X → List ℕ) where
     rises y xs (λ n d lt. up (suc n) d (omega (arith, lt))),
   )
 
-  sorted : (xs : List X) → ((n : ℕ) (d : X) → n + 1 < length xs → key_cmp (k (get_or xs n d)) (k (get_or xs (n + 1) d)) ≡ Less) → IsStrictlySortedBy key_cmp (map k xs)
+  pub sorted : (xs : List X) → ((n : ℕ) (d : X) → n + 1 < length xs → key_cmp (k (get_or xs n d)) (k (get_or xs (n + 1) d)) ≡ Less) → IsStrictlySortedBy key_cmp (map k xs)
   unfolding IsStrictlySortedBy
   sorted [] up = tt
   sorted (x ∷ xs) up = rises x xs (λ n d lt.
@@ -65,11 +65,11 @@ name_key dir zero name ne h = absurd (ne refl)
 name_key dir (suc id) name ne h = let named : IsNamed (entry_at dir (suc id)) name = h in ap key named.units
 
 -- an entry behind the key of its name
-record IsKeyed (dir : List ℕ) (e : List ℕ × ℕ) : Type 0 where
+pub record IsKeyed (dir : List ℕ) (e : List ℕ × ℕ) : Type 0 where
   pub keyed_by : e.0 ≡ numbers (key_at dir e.1)
   pub bytes : AreBytes (key_at dir e.1)
 
-each_keyed : (dir ids : List ℕ) → All (λ n. AreBytes (key_at dir n)) ids → All (IsKeyed dir) (keyed dir ids)
+pub each_keyed : (dir ids : List ℕ) → All (λ n. AreBytes (key_at dir n)) ids → All (IsKeyed dir) (keyed dir ids)
 each_keyed dir ids all = λ k d lt.
     let l : k < length ids = omega (arith, lt, length-map {B = List ℕ × ℕ} ids (λ id. (numbers (key_at dir id), id))) in
     let n : ℕ = get_or ids k 0 in
@@ -77,11 +77,11 @@ each_keyed dir ids all = λ k d lt.
     let one : IsKeyed dir (numbers (key_at dir n), n) = record { keyed_by = refl; bytes = all k 0 l } in
     subst (IsKeyed dir) (sym is) one
 
-ids_of : (dir ids : List ℕ) → places (keyed dir ids) ≡ ids
+pub ids_of : (dir ids : List ℕ) → places (keyed dir ids) ≡ ids
 ids_of dir [] = refl
 ids_of dir (n ∷ ids) = ap (λ ns. n ∷ ns) (ids_of dir ids)
 
-mapped : (f : ℕ → List ℕ) (list : List (List ℕ × ℕ)) → map f (places list) ≡ map (λ e. f e.1) list
+pub mapped : (f : ℕ → List ℕ) (list : List (List ℕ × ℕ)) → map f (places list) ≡ map (λ e. f e.1) list
 mapped f [] = refl
 mapped f (e ∷ list) = ap (λ ks. f e.1 ∷ ks) (mapped f list)
 

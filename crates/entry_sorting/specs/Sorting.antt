@@ -1,6 +1,8 @@
 -- Entries with the keys of their names, and what they are refused for as the children of a storage.
 use Rattle.std.specs.Prelude.{◌≡◌, ◌≢◌, ◌<◌, ◌+◌, ◌*◌, ℕ, List, [], ◌∷◌, length, map, take, drop, slice_index_or}
-use Rattle.std.specs.List.{Contains}
+use Rattle.std.specs.List.{All, Contains}
+use Rattle.std.specs.declared.cmp.Ordering.TheVariants.{Less}
+use Rattle.cfb_names.specs.Names.{key_cmp}
 use Rattle.cfb_directory.specs.Entries.{MayRefuseEntry}
 use Rattle.cfb_names.specs.declared.fault.DirFault.{DirFault}
 use Rattle.cfb_names.specs.declared.fault.DirFault.TheVariants.{DuplicateName}
@@ -38,6 +40,35 @@ AllAdjacentApart list = (k : ℕ) (d : List ℕ × ℕ) → k + 1 < length list 
 -- two neighbours have one key
 abbrev pub HasEqualNeighbours : List (List ℕ × ℕ) → Type 0
 HasEqualNeighbours list = (k : ℕ) × (d : List ℕ × ℕ) × (k + 1 < length list) × ((slice_index_or list k d).0 ≡ (slice_index_or list (k + 1) d).0)
+
+-- the entries at these indices of a list
+abbrev pub at_each : List (List ℕ × ℕ) → List ℕ → List (List ℕ × ℕ)
+at_each list order = map (λ n. slice_index_or list n ([], 0)) order
+
+-- the places of these
+abbrev pub named : List (List ℕ × ℕ) → List ℕ → List ℕ
+named list order = map (λ n. (slice_index_or list n ([], 0)).1) order
+
+-- each number is below a count
+abbrev pub AreBelow : ℕ → List ℕ → Type 0
+AreBelow count order = (k : ℕ) → k < length order → slice_index_or order k 0 < count
+
+-- each entry has a greater key than the one before it
+abbrev pub Rise : List (List ℕ × ℕ) → Type 0
+Rise list = (k : ℕ) → k + 1 < length list → key_cmp (slice_index_or list k ([], 0)).0 (slice_index_or list (k + 1) ([], 0)).0 ≡ Less
+
+-- the entries at these indices of a list do so
+abbrev pub DoRise : List (List ℕ × ℕ) → List ℕ → Type 0
+DoRise list order = (k : ℕ) → k + 1 < length order
+    → key_cmp (slice_index_or list (slice_index_or order k 0) ([], 0)).0 (slice_index_or list (slice_index_or order (k + 1) 0) ([], 0)).0 ≡ Less
+
+-- these are the places of entries of a list in strict order, as many as the list has
+pub record AreInOrder (list : List (List ℕ × ℕ)) (ids : List ℕ) : Type 0 where
+  pub entries : List (List ℕ × ℕ)
+  pub held : All (Contains list) entries
+  pub rise : Rise entries
+  pub count : length entries ≡ length list
+  pub are : ids ≡ places entries
 
 -- one of the entries is at fault
 abbrev pub MayRefuseOneOf : List ℕ → List ℕ → DirFault → Type 0

@@ -1,0 +1,5 @@
+use Rattle.std.proofs.Common.{◌<◌, ℕ, get_or}
+use Rattle.entry_sorting.proofs.sorting.are_inside.Given as goal
+
+abbrev pub invariant-loop-index : goal.invariant-loop-index
+invariant-loop-index l = (j : ℕ) → j < l.index-index → get_or l.order j 0 < l.count

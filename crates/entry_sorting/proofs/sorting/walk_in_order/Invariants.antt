@@ -1,0 +1,5 @@
+use Rattle.std.proofs.Common.{◌≡◌, ◌≤◌, ◌+◌, length}
+use Rattle.entry_sorting.proofs.sorting.walk_in_order.Given as goal
+
+abbrev pub invariant-loop-k : goal.invariant-loop-k
+invariant-loop-k l = (l.done + length l.list ≡ l.waiting + l.k) × (length l.order ≡ length l.list) × (l.waiting ≤ length l.list)
