@@ -6,12 +6,16 @@ use file_folders::plan::{Content, Entry};
 use std::alloc::{AllocError, Global};
 use std::fs::{self, OpenOptions};
 use std::io::{self, ErrorKind, Write};
+use std::path::PathBuf;
 use std::rt::Files;
 use storage_tree::class_id::ClassId;
 
+/// How many names are tried for a new file beside the one that it replaces.
+const MOST_NAMES: u32 = 1000;
+
 /// A folder of a system in which entries are made. Each folder below it is made new, and each file too, so no link that
 /// stands in it is followed, unless what stands there is to be replaced: then a folder that is none by a link is taken as it
-/// is, and a file or a link is removed before a new file is made.
+/// is, and a file or a link stays until all of the new file is written beside it.
 #[derive(Drop)]
 pub struct DiskFolder<'a, R: Files + AllocGlobal> {
     rt: &'a R,
@@ -72,7 +76,14 @@ impl<'a, R: Files + AllocGlobal> DiskFolder<'a, R> {
 
     /// Writes a new file at a path.
     fn make_file(&self, path: &str, bytes: &[u8]) -> Result<(), FolderFault> {
-        self.clear(path);
+        match self.write_new(path, bytes) {
+            Err(FolderFault::Exists) if self.may_replace(path) => self.replace_file(path, bytes),
+            made => made,
+        }
+    }
+
+    /// Writes a new file at a path at which nothing stands.
+    fn write_new(&self, path: &str, bytes: &[u8]) -> Result<(), FolderFault> {
         match create_new(self.rt, path) {
             Ok(mut file) => {
                 let done = write(&mut file, bytes);
@@ -80,6 +91,36 @@ impl<'a, R: Files + AllocGlobal> DiskFolder<'a, R> {
             }
             Err(error) => Err(fault_of(&error)),
         }
+    }
+
+    /// Whether what stands at a path is a file or a link that is to be replaced.
+    fn may_replace(&self, path: &str) -> bool {
+        match fs::symlink_metadata(self.rt, path) {
+            Ok(about) => self.is_forced && !about.is_dir(),
+            Err(_) => false,
+        }
+    }
+
+    /// Writes a new file beside a path, and puts it in the place of what stands there.
+    fn replace_file(&self, path: &str, bytes: &[u8]) -> Result<(), FolderFault> {
+        for number in 0..MOST_NAMES {
+            let Ok(beside) = name_beside(self.rt.alloc(), path, number) else {
+                return Err(FolderFault::NoMemory);
+            };
+            match self.write_new(beside.as_str(), bytes) {
+                Ok(()) => return self.put_in_place(beside.as_str(), path),
+                // That name is taken.
+                Err(FolderFault::Exists) => {}
+                Err(fault) => return Err(fault),
+            }
+        }
+        Err(FolderFault::Exists)
+    }
+
+    /// Puts a new file in the place of what stands at a path, or removes it.
+    fn put_in_place(&self, beside: &str, path: &str) -> Result<(), FolderFault> {
+        let done = fs::rename(self.rt, beside, path);
+        self.remove_unless(beside, &done)
     }
 
     /// Removes a new file unless all of it was written.
@@ -91,13 +132,19 @@ impl<'a, R: Files + AllocGlobal> DiskFolder<'a, R> {
         Err(FolderFault::Unwritable)
     }
 
-    /// Removes the file or the link at a path, where what stands there is to be replaced. What can't be removed is met where
-    /// the new file is made.
+    /// Removes the file or the link at a path, where what stands there is to be replaced.
     fn clear(&self, path: &str) {
         if self.is_forced {
             let _ = fs::remove_file(self.rt, path);
         }
     }
+}
+
+/// The name of this number for a new file beside the one of a path.
+fn name_beside(alloc: Global, path: &str, number: u32) -> Result<PathBuf, AllocError> {
+    let target = PathBuf::from_str(alloc, path)?;
+    let spelled = format!(in alloc; ".olecon-{number}")?;
+    target.with_file_name(alloc, spelled.as_str())
 }
 
 /// Why nothing new is made at a path.
