@@ -1,3 +1,4 @@
 pub mod Names
 pub mod View
 pub mod Faults
+pub mod Numbers

@@ -1,3 +1,2 @@
-pub mod KeyNumbers
 pub mod SortedNames
 pub mod Walked

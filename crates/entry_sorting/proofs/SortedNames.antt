@@ -5,21 +5,19 @@ use Rattle.std.proofs.lemmas.Cmp.{nat_list_cmp_total}
 use Rattle.std.proofs.lemmas.List.{get_or_default, get_or-map, length-map}
 use Rattle.std.proofs.lemmas.List.Sorted.{All-permutation, Contains-permutation, IsPermutation-map, IsPermutation-sym, length_permutation}
 use Rattle.std.proofs.lemmas.Map.Keys.{IsDistinct-IsPermutation}
-use Rattle.std.proofs.lemmas.Map.Lookups.{exact_bytes}
 use Rattle.std.proofs.lemmas.Map.Made.{AllPairs-from_IsDistinct, IsDistinct-from_AllPairs}
 use Rattle.std.specs.FinMap.{nat_cmp-IsAntisymmetric, slice_cmp-IsAntisymmetric}
 use Rattle.std.specs.List.{All, AllByRecursion, Contains}
 use Rattle.std.specs.List.Sorted.{IsPermutation, IsStrictlySortedBy}
+use Rattle.std.specs.Map.{keys_of}
 use Rattle.std.specs.Ordering.{is_lt, ordering_reverse, ordering_then}
 use Rattle.std.specs.declared.cmp.Ordering.{Ordering}
 use Rattle.std.specs.declared.cmp.Ordering.TheVariants.{Less, Equal, Greater}
 use Rattle.cfb_chain.specs.Chain.{AreDistinct}
 use Rattle.cfb_names.specs.Names.{key, key_cmp}
 use Rattle.cfb_directory.specs.Entries.{IsNameOf, IsNamed, entry_at}
-use Rattle.cfb_names.proofs.Keys.{slice_cmp-same}
 use Rattle.file_faults.specs.Faults.{key_at}
-use Rattle.entry_sorting.specs.Sorting.{AllAdjacentApart, AreBytes, HasEqualNeighbours, MayRefuseNames, keyed, numbers, places}
-use Rattle.entry_sorting.proofs.KeyNumbers.{numbers_cmp}
+use Rattle.entry_sorting.specs.Sorting.{AllAdjacentApart, HasEqualNeighbours, MayRefuseNames, keyed, places}
 use Rattle.cfb_names.specs.declared.fault.DirFault.TheVariants.{DuplicateName}
 
 -- a neighbour that isn't less and has another key has a greater one
@@ -65,25 +63,27 @@ name_key dir zero name ne h = absurd (ne refl)
 name_key dir (suc id) name ne h = let named : IsNamed (entry_at dir (suc id)) name = h in ap key named.units
 
 -- an entry behind the key of its name
-pub record IsKeyed (dir : List ℕ) (e : List ℕ × ℕ) : Type 0 where
-  pub keyed_by : e.0 ≡ numbers (key_at dir e.1)
-  pub bytes : AreBytes (key_at dir e.1)
+abbrev pub IsKeyed : List ℕ → List ℕ × ℕ → Type 0
+IsKeyed dir e = e.0 ≡ key_at dir e.1
 
-pub each_keyed : (dir ids : List ℕ) → All (λ n. AreBytes (key_at dir n)) ids → All (IsKeyed dir) (keyed dir ids)
-each_keyed dir ids all = λ k d lt.
-    let l : k < length ids = omega (arith, lt, length-map {B = List ℕ × ℕ} ids (λ id. (numbers (key_at dir id), id))) in
-    let n : ℕ = get_or ids k 0 in
-    let is : get_or (keyed dir ids) k d ≡ (numbers (key_at dir n), n) = get_or-map (λ id. (numbers (key_at dir id), id)) ids k 0 d l in
-    let one : IsKeyed dir (numbers (key_at dir n), n) = record { keyed_by = refl; bytes = all k 0 l } in
-    subst (IsKeyed dir) (sym is) one
+abbrev pub key_and_id : List ℕ → ℕ → List ℕ × ℕ
+key_and_id dir id = (key_at dir id, id)
 
-pub ids_of : (dir ids : List ℕ) → places (keyed dir ids) ≡ ids
+pub as_keyed : (dir ids : List ℕ) → length (keyed dir ids) ≡ length ids
+as_keyed dir ids = length-map ids (key_and_id dir)
+
+pub each_keyed : (dir ids : List ℕ) → All (IsKeyed dir) (keyed dir ids)
+each_keyed dir ids = λ k d lt.
+    subst (IsKeyed dir) (sym (get_or-map (key_and_id dir) ids k 0 d (omega (arith, lt, as_keyed dir ids)))) refl
+
+-- so the keys are those of the entries
+pub keys_are : (dir : List ℕ) (list : List (List ℕ × ℕ)) → All (IsKeyed dir) list → keys_of list ≡ map (key_at dir) (places list)
+keys_are dir [] each = refl
+keys_are dir (e ∷ list) each = λ t. each 0 e (omega arith) t ∷ keys_are dir list (λ k d lt. each (suc k) d (omega (arith, lt))) t
+
+ids_of : (dir ids : List ℕ) → places (keyed dir ids) ≡ ids
 ids_of dir [] = refl
 ids_of dir (n ∷ ids) = ap (λ ns. n ∷ ns) (ids_of dir ids)
-
-pub mapped : (f : ℕ → List ℕ) (list : List (List ℕ × ℕ)) → map f (places list) ≡ map (λ e. f e.1) list
-mapped f [] = refl
-mapped f (e ∷ list) = ap (λ ks. f e.1 ∷ ks) (mapped f list)
 
 flips : (x y : ℕ) → eqb x y ≡ eqb y x
 flips x y =
@@ -92,12 +92,12 @@ flips x y =
       | inr p ↦ elim (eqb_tells y x) [ inl q ↦ absurd (p.1 (sym q.1)) | inr q ↦ p.0 ∙ sym q.0 ]
     ]
 
-module _ (dir ids : List ℕ) (list : List (List ℕ × ℕ)) (permuted : IsPermutation (keyed dir ids) list) (bytes : All (λ n. AreBytes (key_at dir n)) ids) where
+module _ (dir ids : List ℕ) (list : List (List ℕ × ℕ)) (permuted : IsPermutation (keyed dir ids) list) where
   order_permuted : IsPermutation ids (places list)
   order_permuted = subst (λ (xs : List ℕ). IsPermutation xs (places list)) (ids_of dir ids) (IsPermutation-map (λ e. e.1) (keyed dir ids) list permuted)
 
   pub as_many : length ids ≡ length list
-  as_many = sym (length-map {B = List ℕ × ℕ} ids (λ id. (numbers (key_at dir id), id))) ∙ sym (length_permutation (keyed dir ids) list permuted)
+  as_many = sym (as_keyed dir ids) ∙ sym (length_permutation (keyed dir ids) list permuted)
 
   pub same_entries : (n : ℕ) → Contains ids n ↔ Contains (places list) n
   same_entries n = (
@@ -106,23 +106,14 @@ module _ (dir ids : List ℕ) (list : List (List ℕ × ℕ)) (permuted : IsPerm
   )
 
   each : All (IsKeyed dir) list
-  each = All-permutation (IsKeyed dir) (keyed dir ids) list permuted (each_keyed dir ids bytes)
-
-  -- two that stand in the list, by their numbers and by their keys
-  compared : (i j : ℕ) (d : List ℕ × ℕ) → i < length list → j < length list
-      → key_cmp (get_or list i d).0 (get_or list j d).0 ≡ key_cmp (key_at dir (get_or list i d).1) (key_at dir (get_or list j d).1)
-  compared i j d li lj =
-      let a : IsKeyed dir (get_or list i d) = each i d li in
-      let b : IsKeyed dir (get_or list j d) = each j d lj in
-      (λ t. key_cmp (a.keyed_by t) (b.keyed_by t)) ∙ numbers_cmp (key_at dir (get_or list i d).1) (key_at dir (get_or list j d).1) a.bytes b.bytes
+  each = All-permutation (IsKeyed dir) (keyed dir ids) list permuted (each_keyed dir ids)
 
   pub in_order : ((k : ℕ) (d : List ℕ × ℕ) → 0 ≤ k → k + 1 < length list
       → is_lt (ordering_then (key_cmp (get_or list (k + 1) d).0 (get_or list k d).0) (nat_cmp (get_or list (k + 1) d).1 (get_or list k d).1)) ≡ false)
       → AllAdjacentApart list → IsStrictlySortedBy key_cmp (map (key_at dir) (places list))
   in_order up apart =
-      subst (IsStrictlySortedBy key_cmp) (sym (mapped (key_at dir) list))
-      (sorted (λ e. key_at dir e.1) list (λ n d lt.
-      sym (compared n (n + 1) d (omega (arith, lt)) lt) ∙ adjacent_less _ _ _ (up n d (omega arith) lt) (apart n d lt)))
+      subst (IsStrictlySortedBy key_cmp) (keys_are dir list each)
+      (sorted (λ e. e.0) list (λ n d lt. adjacent_less _ _ _ (up n d (omega arith) lt) (apart n d lt)))
 
   -- a name that stands twice
   pub named_twice : AreDistinct ids → HasEqualNeighbours list → MayRefuseNames dir ids DuplicateName
@@ -138,6 +129,4 @@ module _ (dir ids : List ℕ) (list : List (List ℕ × ℕ)) (permuted : IsPerm
       let ne : m ≢ n = λ e. apart k (k + 1) 0 (omega arith) (omega (arith, lt, long)) (at_m ∙ e ∙ sym at_n) in
       let in_m : Contains (places list) m = (k, omega (arith, l, long), get_or_default (places list) k m 0 (omega (arith, l, long)) ∙ at_m) in
       let in_n : Contains (places list) n = (k + 1, omega (arith, lt, long), get_or_default (places list) (k + 1) n 0 (omega (arith, lt, long)) ∙ at_n) in
-      let equal : key_cmp (key_at dir m) (key_at dir n) ≡ Equal =
-      sym (compared k (k + 1) d l lt) ∙ ap (λ x. key_cmp (get_or list k d).0 x) (sym same) ∙ slice_cmp-same (get_or list k d).0 in
-      (m, n, (same_entries m).1 in_m, (same_entries n).1 in_n, ne, exact_bytes (key_at dir m) (key_at dir n) equal)
+      (m, n, (same_entries m).1 in_m, (same_entries n).1 in_n, ne, sym (each k d l) ∙ same ∙ each (k + 1) d lt)

@@ -1,40 +1,55 @@
 -- Entries in strict order, each of them one of a list and as many as the list has: they are those of the list.
-use Rattle.std.proofs.Common.{◌≡◌, ◌↔◌, ◌<◌, ◌≤◌, ◌+◌, ◌||◌, ℕ, suc, true, false, inl, inr, List, [], ◌∷◌, length, get_or, map, eqb, refl, sym, ◌∙◌, ap, subst, arith}
+use Rattle.std.proofs.Common.{◌≡◌, ◌↔◌, ◌<◌, ◌≤◌, ◌+◌, ◌++◌, ◌||◌, ℕ, suc, true, false, inl, inr, List, [], ◌∷◌, length, get_or, map, take, eqb, refl, sym, ◌∙◌, ap, subst, arith}
 use Rattle.std.proofs.lemmas.Bool.Decides.{Decides-eqb, eqb_tells}
-use Rattle.std.proofs.lemmas.List.{get_or_default, get_or-map, length-map}
+use Rattle.std.proofs.lemmas.List.{get_or_default, get_or-map, length-map, take-append-le, take_all}
 use Rattle.std.proofs.lemmas.Map.Made.{Contains-tail, is_member-Decides, length-le_from_is_member}
 use Rattle.std.specs.Cmp.{nat_eq_equiv}
 use Rattle.std.specs.List.{All, AllByRecursion, Contains, IsDistinct, list_any}
-use Rattle.std.specs.List.Sorted.{IsStrictlySortedBy}
+use Rattle.std.specs.List.Sorted.{IsPermutation, IsStrictlySortedBy}
+use Rattle.std.specs.Map.{keys_of}
 use Rattle.std.specs.Set.{is_member}
 use Rattle.std.specs.declared.cmp.Ordering.TheVariants.{Less}
 use Rattle.cfb_names.specs.Names.{key_cmp}
 use Rattle.cfb_names.proofs.Keys.{slice_cmp-same}
 use Rattle.file_faults.specs.Faults.{key_at}
-use Rattle.entry_sorting.specs.Sorting.{AreBelow, AreBytes, AreInOrder, DoRise, at_each, keyed, named, numbers, places}
-use Rattle.entry_sorting.proofs.KeyNumbers.{numbers_cmp}
-use Rattle.entry_sorting.proofs.SortedNames.{IsKeyed, each_keyed, mapped, sorted}
+use Rattle.entry_sorting.specs.Sorting.{AreInOrder, at_each, keyed, places}
+use Rattle.entry_sorting.proofs.SortedNames.{IsKeyed, as_keyed, as_many, each_keyed, key_and_id, keys_are, same_entries, sorted}
 
-named_are : (list : List (List ℕ × ℕ)) (order : List ℕ) → named list order ≡ places (at_each list order)
+abbrev entry_of : List (List ℕ × ℕ) → ℕ → List ℕ × ℕ
+entry_of list n = get_or list n ([], 0)
+
+-- the places of entries, as they are put in one by one
+abbrev pub named : List (List ℕ × ℕ) → List ℕ → List ℕ
+named list order = map (λ n. (entry_of list n).1) order
+
+pub named_are : (list : List (List ℕ × ℕ)) (order : List ℕ) → named list order ≡ places (at_each list order)
 named_are list [] = refl
-named_are list (n ∷ order) = ap (λ ns. (get_or list n ([], 0)).1 ∷ ns) (named_are list order)
+named_are list (n ∷ order) = ap (λ ns. (entry_of list n).1 ∷ ns) (named_are list order)
+
+-- keys that rise from one to the next are in order
+pub at_each_sorted : (list : List (List ℕ × ℕ)) (order : List ℕ)
+    → ((k : ℕ) → k + 1 < length order → key_cmp (entry_of list (get_or order k 0)).0 (entry_of list (get_or order (k + 1) 0)).0 ≡ Less)
+    → IsStrictlySortedBy key_cmp (keys_of (at_each list order))
+at_each_sorted list order up =
+    let long : length (at_each list order) ≡ length order = length-map order (entry_of list) in
+    let is = λ (k : ℕ) (d : List ℕ × ℕ) (lt : k < length order). get_or-map (entry_of list) order k 0 d lt in
+    sorted (λ e. e.0) (at_each list order) (λ n d lt.
+    let l : n + 1 < length order = omega (arith, lt, long) in
+    (λ t. key_cmp (is n d (omega (arith, l)) t).0 (is (n + 1) d l t).0) ∙ up n l)
 
 -- indices whose entries rise name entries in order
-pub in_order : (list : List (List ℕ × ℕ)) (order : List ℕ) → length order ≡ length list → AreBelow (length list) order → DoRise list order → AreInOrder list (named list order)
+pub in_order : (list : List (List ℕ × ℕ)) (order : List ℕ) → length order ≡ length list → All (λ n. n < length list) order
+    → IsStrictlySortedBy key_cmp (keys_of (at_each list order)) → AreInOrder list (places (at_each list order))
 in_order list order same below rise =
-    let f : ℕ → List ℕ × ℕ = λ n. get_or list n ([], 0) in
-    let long : length (at_each list order) ≡ length order = length-map order f in
-    let is = λ (k : ℕ) (d : List ℕ × ℕ) (lt : k < length order). get_or-map f order k 0 d lt in record {
+    let long : length (at_each list order) ≡ length order = length-map order (entry_of list) in record {
       entries = at_each list order;
       held = λ k d lt.
           let l : k < length order = omega (arith, lt, long) in
           let n : ℕ = get_or order k 0 in
-          (n, below k l, get_or_default list n _ ([], 0) (below k l) ∙ sym (is k d l));
-      rise = λ k lt.
-          let l : k + 1 < length order = omega (arith, lt, long) in
-          (λ t. key_cmp (is k ([], 0) (omega (arith, l)) t).0 (is (k + 1) ([], 0) l t).0) ∙ rise k l;
+          (n, below k 0 l, get_or_default list n _ ([], 0) (below k 0 l) ∙ sym (get_or-map (entry_of list) order k 0 d l));
+      rise = rise;
       count = long ∙ same;
-      are = named_are list order;
+      are = refl;
     }
 
 -- numbers whose keys are in strict order are distinct
@@ -80,40 +95,49 @@ onto ids v same once into n inside =
           absurd (omega (arith, more, same))
     ] refl
 
-module _ (dir ids v : List ℕ) (bytes : All (λ n. AreBytes (key_at dir n)) ids) (ordered : AreInOrder (keyed dir ids) v) where
+module _ (dir ids v : List ℕ) (ordered : AreInOrder (keyed dir ids) v) where
   each : All (IsKeyed dir) ordered.entries
   each = λ k d lt.
       let h : Contains (keyed dir ids) (get_or ordered.entries k d) = ordered.held k d lt in
-      subst (IsKeyed dir) h.2 (each_keyed dir ids bytes h.0 (get_or ordered.entries k d) h.1)
+      subst (IsKeyed dir) h.2 (each_keyed dir ids h.0 (get_or ordered.entries k d) h.1)
 
-  less : (a b : List ℕ × ℕ) → IsKeyed dir a → IsKeyed dir b → key_cmp a.0 b.0 ≡ Less → key_cmp (key_at dir a.1) (key_at dir b.1) ≡ Less
-  less a b ha hb e =
-      sym (numbers_cmp (key_at dir a.1) (key_at dir b.1) ha.bytes hb.bytes) ∙ sym (λ t. key_cmp (ha.keyed_by t) (hb.keyed_by t)) ∙ e
+  walked_sorted : IsStrictlySortedBy key_cmp (map (key_at dir) v)
+  walked_sorted = subst (IsStrictlySortedBy key_cmp) (keys_are dir ordered.entries each ∙ ap (map (key_at dir)) (sym ordered.are)) ordered.rise
 
-  rises : (n : ℕ) (d : List ℕ × ℕ) → n + 1 < length ordered.entries
-      → key_cmp (key_at dir (get_or ordered.entries n d).1) (key_at dir (get_or ordered.entries (n + 1) d).1) ≡ Less
-  rises n d lt =
-      let l : n < length ordered.entries = omega (arith, lt) in
-      less _ _ (each n d l) (each (n + 1) d lt)
-      ((λ t. key_cmp (get_or_default ordered.entries n d ([], 0) l t).0 (get_or_default ordered.entries (n + 1) d ([], 0) lt t).0) ∙ ordered.rise n lt)
-
-  pub walked_sorted : IsStrictlySortedBy key_cmp (map (key_at dir) v)
-  walked_sorted =
-      subst (IsStrictlySortedBy key_cmp) (sym (ap (map (key_at dir)) ordered.are ∙ mapped (key_at dir) ordered.entries)) (sorted (λ e. key_at dir e.1) ordered.entries rises)
-
-  pub as_long : length v ≡ length ids
-  as_long = ap length ordered.are ∙ length-map ordered.entries (λ e. e.1) ∙ ordered.count ∙ length-map {B = List ℕ × ℕ} ids (λ id. (numbers (key_at dir id), id))
+  as_long : length v ≡ length ids
+  as_long = ap length ordered.are ∙ length-map ordered.entries (λ e. e.1) ∙ ordered.count ∙ as_keyed dir ids
 
   into : (n : ℕ) → Contains v n → Contains ids n
   into n (k, lt, is) =
-      let l : k < length ordered.entries = omega (arith, lt, as_long, ordered.count, length-map {B = List ℕ × ℕ} ids (λ id. (numbers (key_at dir id), id))) in
+      let l : k < length ordered.entries = omega (arith, lt, as_long, ordered.count, as_keyed dir ids) in
       let e : List ℕ × ℕ = get_or ordered.entries k ([], 0) in
       let h : Contains (keyed dir ids) e = ordered.held k ([], 0) l in
-      let long : h.0 < length ids = omega (arith, h.1, length-map {B = List ℕ × ℕ} ids (λ id. (numbers (key_at dir id), id))) in
-      let at : get_or (keyed dir ids) h.0 e ≡ (numbers (key_at dir (get_or ids h.0 n)), get_or ids h.0 n) =
-      get_or-map (λ id. (numbers (key_at dir id), id)) ids h.0 n e long in
+      let long : h.0 < length ids = omega (arith, h.1, as_keyed dir ids) in
+      let at : get_or (keyed dir ids) h.0 e ≡ key_and_id dir (get_or ids h.0 n) = get_or-map (key_and_id dir) ids h.0 n e long in
       let named : get_or v k n ≡ e.1 = ap (λ xs. get_or xs k n) ordered.are ∙ get_or-map (λ e. e.1) ordered.entries k ([], 0) n l in
       (h.0, long, sym (ap (λ x. x.1) at) ∙ ap (λ x. x.1) h.2 ∙ sym named ∙ is)
 
-  pub walked_same : (n : ℕ) → Contains ids n ↔ Contains v n
+  walked_same : (n : ℕ) → Contains ids n ↔ Contains v n
   walked_same n = (onto ids v as_long (distinct_by (key_at dir) v walked_sorted) into n, into n)
+
+-- a list of as many numbers in the place of others at the front of a vector is what the vector holds
+written : (new rest : List ℕ) (n : ℕ) → length new ≡ n → take n (new ++ rest) ≡ new
+written new rest n h = take-append-le n new rest (omega (arith, h)) ∙ take_all n new (omega (arith, h))
+
+-- the entries of a storage in the order of their names
+pub record AreSorted (dir ids v : List ℕ) : Type 0 where
+  pub ordered : IsStrictlySortedBy key_cmp (map (key_at dir) v)
+  pub same : (n : ℕ) → Contains ids n ↔ Contains v n
+
+-- as a walk left them in the place of their ids
+pub by_walking : (dir ids v rest : List ℕ) (n : ℕ) → n ≡ length ids → AreInOrder (keyed dir ids) v → AreSorted dir ids (take n (v ++ rest))
+by_walking dir ids v rest n few ordered =
+    subst (AreSorted dir ids) (sym (written v rest n (as_long dir ids v ordered ∙ sym few)))
+    (record { ordered = walked_sorted dir ids v ordered; same = walked_same dir ids v ordered })
+
+-- as sorting did
+pub by_sorting : (dir ids : List ℕ) (list : List (List ℕ × ℕ)) (v rest : List ℕ) (n : ℕ) → n ≡ length ids → IsPermutation (keyed dir ids) list
+    → IsStrictlySortedBy key_cmp (map (key_at dir) (places list)) → v ≡ places list → AreSorted dir ids (take n (v ++ rest))
+by_sorting dir ids list v rest n few permuted ordered is =
+    let long : length v ≡ n = ap length is ∙ length-map list (λ e. e.1) ∙ sym (as_many dir ids list permuted) ∙ sym few in
+    subst (AreSorted dir ids) (sym (written v rest n long ∙ is)) (record { ordered = ordered; same = same_entries dir ids list permuted })

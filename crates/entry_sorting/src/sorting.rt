@@ -5,40 +5,17 @@ ghost use Rattle.cfb_names.specs.Names.{key_cmp};
 ghost use Rattle.file_faults.specs.Faults.{key_at};
 ghost use Rattle.std.specs.List.{All, Contains};
 ghost use Rattle.std.specs.List.Sorted.{IsStrictlySortedBy};
-ghost use Rattle.std.specs.Prelude.{[], ◌*◌, ◌++◌, ◌+◌, ◌<◌, ◌↔◌, ◌∷◌, ◌≡◌, ◌≢◌, ◌≤◌, IfErr, IfOk, OnOk, false, length, map, true, vec_capacity, vec_len, ℕ};
-ghost use Rattle.entry_sorting.specs.Sorting.{AllAdjacentApart, AreBelow, AreBytes, AreInOrder, DoRise, HasEqualNeighbours, MayRefuseNames, MayRefuseOneOf, eight, keyed, named, numbers, places};
+ghost use Rattle.std.specs.Map.{keys_of};
+ghost use Rattle.std.specs.Prelude.{[], ◌++◌, ◌+◌, ◌<◌, ◌↔◌, ◌∷◌, ◌≡◌, ◌≢◌, ◌≤◌, IfErr, IfOk, OnOk, false, length, map, true, vec_capacity, vec_len, ℕ};
+ghost use Rattle.entry_sorting.specs.Sorting.{AllAdjacentApart, AreInOrder, HasEqualNeighbours, MayRefuseNames, MayRefuseOneOf, at_each, keyed, places};
 
 use cfb_directory::entries::Entries;
 use cfb_names::fault::DirFault;
+use cfb_names::key::Key;
 use std::cmp::Ordering;
 
-/// Eight bytes of a key as a number, of which the first is worth most. Where they stand is known when this is compiled, and
-/// each half is small enough for its sum to be seen not to overflow: so nothing is tested when it runs.
-fn number<const AT: usize>(key: &[u8; 32]) -> u64
-    requires { AT + 8 ≤ 32 }
-    ensures number { result ≡ eight key.now AT }
-    ensures bytes { AreBytes key.now }
-{
-    let high = u32::from_be_bytes([key[AT], key[AT + 1], key[AT + 2], key[AT + 3]]);
-    let low = u32::from_be_bytes([key[AT + 4], key[AT + 5], key[AT + 6], key[AT + 7]]);
-    high as u64 * 0x1_0000_0000 + low as u64
-}
-
-/// A key as four numbers: they are ordered as keys are, and compared in fewer steps.
-fn numbers(key: &[u8; 32]) -> [u64; 4]
-    ensures numbers { result ≡ numbers key.now }
-    ensures bytes { AreBytes key.now }
-{
-    [
-        number::<0>(key),
-        number::<8>(key),
-        number::<16>(key),
-        number::<24>(key),
-    ]
-}
-
 /// Adds an entry to a list that has room for it.
-fn push_within(list: &mut Vec<([u64; 4], u32)>, key: [u64; 4], id: u32)
+fn push_within(list: &mut Vec<(Key, u32)>, key: Key, id: u32)
     requires { vec_len list.old < vec_capacity list.old }
     ensures items { list.new.items ≡ list.old.items ++ (key, id) ∷ [] }
     ensures room { vec_capacity list.old ≤ vec_capacity list.new }
@@ -52,16 +29,11 @@ fn push_within(list: &mut Vec<([u64; 4], u32)>, key: [u64; 4], id: u32)
 /// Lists the entries, each behind the key of its name, where there is room for all.
 ///
 /// Refused: as `Entries::name`.
-fn list_keys(
-    entries: &Entries<'_>,
-    ids: &[u32],
-    list: &mut Vec<([u64; 4], u32)>,
-) -> Result<(), DirFault>
+fn list_keys(entries: &Entries<'_>, ids: &[u32], list: &mut Vec<(Key, u32)>) -> Result<(), DirFault>
     requires below_root { All (λ n. n ≢ 0) ids.now }
     requires none { list.old.items ≡ [] }
     requires room { length ids.now ≤ vec_capacity list.old }
     ensures listed { OnOk result (list.new.items ≡ keyed entries.now.directory ids.now) }
-    ensures bytes { OnOk result (All (λ n. AreBytes (key_at entries.now.directory n)) ids.now) }
     ensures refused { IfErr result (MayRefuseOneOf entries.now.directory ids.now) }
 {
     for id in ids {
@@ -69,14 +41,13 @@ fn list_keys(
             Ok(name) => name,
             Err(fault) => return Err(fault),
         };
-        let key = name.key();
-        push_within(list, numbers(key.as_bytes()), *id);
+        push_within(list, name.key(), *id);
     }
     Ok(())
 }
 
 /// Whether no two neighbours have one key.
-fn are_apart(list: &[([u64; 4], u32)]) -> bool
+fn are_apart(list: &[(Key, u32)]) -> bool
     ensures apart { result ≡ true → AllAdjacentApart list.now }
     ensures equal { result ≡ false → HasEqualNeighbours list.now }
 {
@@ -89,7 +60,7 @@ fn are_apart(list: &[([u64; 4], u32)]) -> bool
 }
 
 /// Whether the entry at an index of a list stands before a key. Where there is none, it doesn't.
-fn is_before(list: &[([u64; 4], u32)], index: u32, key: &[u64; 4]) -> bool {
+fn is_before(list: &[(Key, u32)], index: u32, key: &Key) -> bool {
     match list.get(index as usize) {
         Some(entry) => matches!(entry.0.cmp(key), Ordering::Less),
         None => false,
@@ -99,8 +70,8 @@ fn is_before(list: &[([u64; 4], u32)], index: u32, key: &[u64; 4]) -> bool {
 /// Moves what waits and stands before a key to what is done: `order` has what is done in its front, so many, and behind
 /// `waiting` what waits, the least first. Answers how many are done, and where what waits begins.
 fn finish_before(
-    list: &[([u64; 4], u32)],
-    key: &[u64; 4],
+    list: &[(Key, u32)],
+    key: &Key,
     order: &mut [u32],
     done: usize,
     waiting: usize,
@@ -126,7 +97,7 @@ fn finish_before(
 /// right side, as their indices in the list. An entry waits while what comes is before it.
 ///
 /// Nothing is promised of it: what it gives is looked at.
-fn walk_in_order(list: &[([u64; 4], u32)], order: &mut [u32])
+fn walk_in_order(list: &[(Key, u32)], order: &mut [u32])
     requires { length order.old ≡ length list.now }
     ensures length { length order.new ≡ length order.old }
 {
@@ -141,7 +112,7 @@ fn walk_in_order(list: &[([u64; 4], u32)], order: &mut [u32])
 
 /// Whether all indices are below a count.
 fn are_inside(order: &[u32], count: usize) -> bool
-    ensures inside { result ≡ true → AreBelow count order.now }
+    ensures inside { result ≡ true → All (λ n. n < count) order.now }
 {
     for index in order {
         if *index as usize >= count {
@@ -152,9 +123,9 @@ fn are_inside(order: &[u32], count: usize) -> bool
 }
 
 /// Whether the entries at these indices are in strict order.
-fn do_rise(list: &[([u64; 4], u32)], order: &[u32]) -> bool
-    requires inside { AreBelow (length list.now) order.now }
-    ensures rise { result ≡ true → DoRise list.now order.now }
+fn do_rise(list: &[(Key, u32)], order: &[u32]) -> bool
+    requires inside { All (λ n. n < length list.now) order.now }
+    ensures rise { result ≡ true → IsStrictlySortedBy key_cmp (keys_of (at_each list.now order.now)) }
 {
     for k in 1..order.len() {
         let earlier = &list[order[k - 1] as usize].0;
@@ -167,9 +138,9 @@ fn do_rise(list: &[([u64; 4], u32)], order: &[u32]) -> bool
 }
 
 /// Puts the entries at these indices in the place of the indices.
-fn put_named(list: &[([u64; 4], u32)], order: &mut [u32])
-    requires inside { AreBelow (length list.now) order.old }
-    ensures { order.new ≡ named list.now order.old }
+fn put_named(list: &[(Key, u32)], order: &mut [u32])
+    requires inside { All (λ n. n < length list.now) order.old }
+    ensures { order.new ≡ places (at_each list.now order.old) }
 {
     for k in 0..order.len() {
         order[k] = list[order[k] as usize].1;
@@ -177,7 +148,7 @@ fn put_named(list: &[([u64; 4], u32)], order: &mut [u32])
 }
 
 /// Puts the entries of a list in strict order in the place of as many others, if the list came as a search tree is walked.
-fn put_walked(list: &[([u64; 4], u32)], ids: &mut [u32]) -> bool
+fn put_walked(list: &[(Key, u32)], ids: &mut [u32]) -> bool
     requires { length ids.old ≡ length list.now }
     ensures length { length ids.new ≡ length ids.old }
     ensures ordered { result ≡ true → AreInOrder list.now ids.new }
@@ -194,7 +165,7 @@ fn put_walked(list: &[([u64; 4], u32)], ids: &mut [u32]) -> bool
 }
 
 /// Puts the entries of a list in the place of as many others.
-fn put_ids(list: &[([u64; 4], u32)], ids: &mut [u32])
+fn put_ids(list: &[(Key, u32)], ids: &mut [u32])
     requires { length ids.old ≡ length list.now }
     ensures { ids.new ≡ places list.now }
 {
@@ -212,7 +183,7 @@ fn put_ids(list: &[([u64; 4], u32)], ids: &mut [u32])
 pub fn by_name(
     entries: &Entries<'_>,
     mut ids: Vec<u32>,
-    mut list: Vec<([u64; 4], u32)>,
+    mut list: Vec<(Key, u32)>,
 ) -> Result<Vec<u32>, DirFault>
     requires below_root { All (λ n. n ≢ 0) ids.items }
     requires distinct { AreDistinct ids.items }

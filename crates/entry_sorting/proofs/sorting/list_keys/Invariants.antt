@@ -1,9 +1,7 @@
 use Rattle.std.proofs.Common.{◌≡◌, ◌≤◌, length, take}
 use Rattle.std.specs.Prelude.{vec_capacity}
-use Rattle.std.specs.List.{All}
-use Rattle.file_faults.specs.Faults.{key_at}
-use Rattle.entry_sorting.specs.Sorting.{AreBytes, keyed}
+use Rattle.entry_sorting.specs.Sorting.{keyed}
 use Rattle.entry_sorting.proofs.sorting.list_keys.Given as goal
 
 abbrev pub invariant-loop-id : goal.invariant-loop-id
-invariant-loop-id l = (l.list.items ≡ keyed l.entries.directory (take l.id-index l.ids)) × All (λ n. AreBytes (key_at l.entries.directory n)) (take l.id-index l.ids) × (length l.ids ≤ vec_capacity l.list)
+invariant-loop-id l = (l.list.items ≡ keyed l.entries.directory (take l.id-index l.ids)) × (length l.ids ≤ vec_capacity l.list)

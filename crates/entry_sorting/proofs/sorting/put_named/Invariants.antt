@@ -1,5 +1,5 @@
 use Rattle.std.proofs.Common.{◌≡◌, ◌<◌, ◌≤◌, ℕ, length, get_or}
-use Rattle.entry_sorting.specs.Sorting.{named}
+use Rattle.entry_sorting.proofs.Walked.{named}
 use Rattle.entry_sorting.proofs.sorting.put_named.Given as goal
 
 abbrev pub invariant-loop-k : goal.invariant-loop-k

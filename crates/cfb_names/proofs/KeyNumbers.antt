@@ -1,14 +1,14 @@
--- Keys as numbers, which are ordered as keys are.
-use Rattle.std.proofs.Common.{◌≡◌, ◌<◌, ◌≤◌, ◌+◌, ◌*◌, ℕ, zero, suc, List, [], ◌∷◌, length, get_or, take, drop, nat_cmp, refl, sym, ◌∙◌, ap, subst, arith}
+-- Keys eight bytes at a time, as numbers that are ordered as the bytes are.
+use Rattle.std.proofs.Common.{◌≡◌, ◌<◌, ◌≤◌, ◌+◌, ◌*◌, true, false, ℕ, zero, suc, List, [], ◌∷◌, length, get_or, take, drop, nat_cmp, refl, sym, ◌∙◌, ap, subst, arith}
 use Rattle.std.proofs.Math.Seq.{drop-cons}
 use Rattle.std.proofs.lemmas.List.{drop-drop, drop_all, get_or-drop, length-drop}
 use Rattle.std.specs.Cmp.{nat_cmp_is, ranks}
 use Rattle.std.specs.Cmp.Lexicographic.{slice_cmp}
 use Rattle.std.specs.FinMap.{nat_cmp-IsAntisymmetric}
-use Rattle.std.specs.Ordering.{MatchOrdering, ordering_then}
+use Rattle.std.specs.Ordering.{MatchOrdering, is_ne, ordering_then}
 use Rattle.std.specs.declared.cmp.Ordering.{Ordering}
 use Rattle.std.specs.declared.cmp.Ordering.TheVariants.{Less, Equal, Greater}
-use Rattle.entry_sorting.specs.Sorting.{AreBytes, eight, numbers, spelled}
+use Rattle.cfb_names.specs.Numbers.{AreBytes, eight, spelled}
 
 abbrev Bytes : List ℕ → Type 0
 Bytes xs = (k : ℕ) → get_or xs k 0 < 256
@@ -98,20 +98,41 @@ pub eight_are : (at : ℕ) (xs : List ℕ) → at + 8 ≤ length xs
 unfolding eight
 eight_are at xs le = omega arith ∙ sym (ap (spelled 0) (read_out at xs le))
 
--- keys in numbers are in the order of the keys
-pub numbers_cmp : (xs ys : List ℕ) → AreBytes xs → AreBytes ys → slice_cmp nat_cmp (numbers xs) (numbers ys) ≡ slice_cmp nat_cmp xs ys
-numbers_cmp xs ys g h =
-    let n : length xs ≡ 32 = g.count in
-    let m : length ys ≡ 32 = h.count in
-    let step = λ (at : ℕ) (lt : at + 8 ≤ 32). compared at xs ys (omega (arith, n, lt)) (omega (arith, m, lt)) g.small h.small in
-    let a : Ordering = nat_cmp (eight xs 0) (eight ys 0) in
-    let b : Ordering = nat_cmp (eight xs 8) (eight ys 8) in
-    let c : Ordering = nat_cmp (eight xs 16) (eight ys 16) in
-    let d : Ordering = nat_cmp (eight xs 24) (eight ys 24) in
-    let none : slice_cmp nat_cmp (drop 32 xs) (drop 32 ys) ≡ Equal =
-    (λ t. slice_cmp nat_cmp (drop_all 32 xs (omega (arith, n)) t) (drop_all 32 ys (omega (arith, m)) t)) in
-    ap (λ o. ordering_then a (ordering_then b (ordering_then c (ordering_then d o)))) (sym none)
-    ∙ ap (λ o. ordering_then a (ordering_then b (ordering_then c o))) (step 24 (omega arith))
-    ∙ ap (λ o. ordering_then a (ordering_then b o)) (step 16 (omega arith))
-    ∙ ap (λ o. ordering_then a o) (step 8 (omega arith))
-    ∙ step 0 (omega arith)
+-- how keys compare from a byte on
+abbrev Behind : ℕ → List ℕ → List ℕ → Ordering
+Behind at xs ys = slice_cmp nat_cmp (drop at xs) (drop at ys)
+
+settles : (o p : Ordering) → is_ne o ≡ true → ordering_then o p ≡ o
+settles Less p e = refl
+settles Equal p e = absurd (cc e)
+settles Greater p e = refl
+
+passes : (o p : Ordering) → is_ne o ≡ false → ordering_then o p ≡ p
+passes Less p e = absurd (cc e)
+passes Equal p e = refl
+passes Greater p e = absurd (cc e)
+
+ends : (o : Ordering) → ordering_then o Equal ≡ o
+ends Less = refl
+ends Equal = refl
+ends Greater = refl
+
+module _ (xs ys : List ℕ) (g : AreBytes xs) (h : AreBytes ys) where
+  step : (at : ℕ) (o : Ordering) → at + 8 ≤ 32 → o ≡ nat_cmp (eight xs at) (eight ys at) → ordering_then o (Behind (at + 8) xs ys) ≡ Behind at xs ys
+  step at o lt is =
+      ap (λ p. ordering_then p (Behind (at + 8) xs ys)) is
+      ∙ compared at xs ys (omega (arith, g.count, lt)) (omega (arith, h.count, lt)) g.small h.small
+
+  -- eight bytes that differ decide
+  pub decided : (at : ℕ) (o : Ordering) → at + 8 ≤ 32 → o ≡ nat_cmp (eight xs at) (eight ys at) → is_ne o ≡ true → o ≡ Behind at xs ys
+  decided at o lt is differs = sym (settles o (Behind (at + 8) xs ys) differs) ∙ step at o lt is
+
+  -- where they don't, those behind them do
+  pub passed : (at : ℕ) (o : Ordering) → at + 8 ≤ 32 → o ≡ nat_cmp (eight xs at) (eight ys at) → is_ne o ≡ false → Behind (at + 8) xs ys ≡ Behind at xs ys
+  passed at o lt is same = sym (passes o (Behind (at + 8) xs ys) same) ∙ step at o lt is
+
+  -- and none are behind the last
+  pub decided_last : (o : Ordering) → o ≡ nat_cmp (eight xs 24) (eight ys 24) → o ≡ Behind 24 xs ys
+  decided_last o is =
+      let none : Behind 32 xs ys ≡ Equal = (λ t. slice_cmp nat_cmp (drop_all 32 xs (omega (arith, g.count)) t) (drop_all 32 ys (omega (arith, h.count)) t)) in
+      sym (ends o) ∙ ap (ordering_then o) (sym none) ∙ step 24 o (omega arith) is
