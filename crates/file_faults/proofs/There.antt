@@ -15,7 +15,7 @@ use Rattle.chain_model.specs.Fat.{set_all}
 use Rattle.cfb_names.specs.declared.fault.DirFault.{DirFault}
 use Rattle.cfb_names.specs.declared.fault.DirFault.TheVariants.{NameEmpty, NameTooLong, NameNotAscii, NameForbidden, DuplicateName, BadEntry, TreeCycle, TooNested, NoMemory}
 use Rattle.cfb_directory.proofs.Marks.{set_all-there}
-use Rattle.storage_tree.specs.Tree.{Tree}
+use Rattle.tree_model.specs.Tree.{Tree}
 use Rattle.file_model.specs.Denotes.{Denotes, directory_of, root_of}
 use Rattle.file_faults.proofs.EntryKinds.{kind_inside}
 use Rattle.file_faults.proofs.Opened.{IsOpened}

@@ -7,7 +7,7 @@ use Rattle.cfb_directory.specs.Entries.{entry_at, root_name}
 use Rattle.cfb_directory.specs.Written.{entry_bytes, free_entry_bytes}
 use Rattle.cfb_directory.specs.declared.write.EntryFields.{EntryFields}
 use Rattle.cfb_directory.proofs.Fields.{length-entry_bytes, length-free_entry_bytes}
-use Rattle.storage_tree.specs.Tree.{Tree}
+use Rattle.tree_model.specs.Tree.{Tree}
 use Rattle.file_model.specs.Need.{pieces, entries, mini_sectors, long_sectors, directory_sectors, mini_fat_sectors, mini_stream_sectors, data_sectors}
 use Rattle.file_layout.specs.Image.{Parts, behind_fat, counts, image, runs, pieces_of, whole_pieces}
 use Rattle.file_layout.specs.Placed.{Fits, IsPlaced, ArePlaced, layout_of}

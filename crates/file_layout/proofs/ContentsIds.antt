@@ -8,7 +8,7 @@ use Rattle.std.specs.List.{Contains}
 use Rattle.cfb_directory.specs.Entries.{NO_STREAM}
 use Rattle.cfb_directory.specs.SearchTree.{IsSearchTree, empty, node, middle}
 use Rattle.cfb_directory.proofs.Trees.{Reached}
-use Rattle.storage_tree.specs.Tree.{Children, none, stream, storage}
+use Rattle.tree_model.specs.Tree.{Children, none, stream, storage}
 use Rattle.file_model.specs.Need.{entries, entries_of}
 use Rattle.file_layout.specs.Directory.{IsLink}
 use Rattle.file_layout.specs.Directory.{Siblings, AreBalanced, ids_from, linked}

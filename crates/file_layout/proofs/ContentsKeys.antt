@@ -4,8 +4,8 @@ use Rattle.std.specs.List.{AllByRecursion}
 use Rattle.std.specs.List.Sorted.{IsStrictlySortedBy}
 use Rattle.std.specs.declared.cmp.Ordering.TheVariants.{Less}
 use Rattle.cfb_names.specs.Names.{key_cmp}
-use Rattle.storage_tree.specs.Tree.{Children, none, stream, storage, keys}
-use Rattle.storage_tree.specs.Whole.{AreAbove, AreTrees}
+use Rattle.tree_model.specs.Tree.{Children, none, stream, storage, keys}
+use Rattle.tree_model.specs.Whole.{AreAbove, AreTrees}
 
 -- every key behind is greater, so the keys stand in order
 above-all : (k : List ℕ) (cs : Children) → AreAbove k cs → AllByRecursion (λ q. key_cmp k q ≡ Less) (keys cs)

@@ -5,7 +5,7 @@ use Rattle.std.specs.Prelude.{if◌then◌else◌}
 use Rattle.std.specs.List.{range_with_len, sum}
 use Rattle.cfb_header.specs.Bytes.{joined}
 use Rattle.chain_model.specs.Chain.{Store, IsChainOf}
-use Rattle.storage_tree.specs.Tree.{Tree, Children, tree, none, stream, storage}
+use Rattle.tree_model.specs.Tree.{Tree, Children, tree, none, stream, storage}
 use Rattle.file_model.specs.Need.{pieces, over_streams, over_streams_of, short_pieces, long_pieces}
 use Rattle.file_layout.specs.Image.{start, pieces_of}
 use Rattle.file_layout.specs.Directory.{short_streams, short_streams_of, long_streams, long_streams_of}

@@ -7,8 +7,8 @@ use Rattle.cfb_directory.specs.Entries.{entry_at, kind, kind_number, left, right
 use Rattle.cfb_directory.specs.Written.{entry_bytes}
 use Rattle.cfb_directory.specs.declared.write.EntryFields.{EntryFields}
 use Rattle.cfb_directory.proofs.Fields.{length-entry_bytes, kind-entry_bytes, left-entry_bytes, right-entry_bytes, child-entry_bytes, class_of-entry_bytes, state_of-entry_bytes, first_of-entry_bytes, size_of-entry_bytes, is_named-entry_bytes}
-use Rattle.storage_tree.specs.Tree.{Tree, Children, tree, none, stream, storage}
-use Rattle.storage_tree.specs.Whole.{AreTrees, IsTree}
+use Rattle.tree_model.specs.Tree.{Tree, Children, tree, none, stream, storage}
+use Rattle.tree_model.specs.Whole.{AreTrees, IsTree}
 use Rattle.file_model.specs.Need.{pieces, entries, entries_of, over_streams_of, mini_sectors, long_sectors, short_pieces, long_pieces}
 use Rattle.file_layout.specs.Image.{start}
 use Rattle.file_layout.specs.Directory.{Siblings, AreBalanced, ids_from, first_of_stream, child_of, class_in, state_in, stream_says, storage_says, entries_below, each_entry, IsSpelled, AreSpelled}

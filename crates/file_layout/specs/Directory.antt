@@ -6,9 +6,9 @@ use Rattle.cfb_directory.specs.SearchTree.{link_to, middle, IsSearchTree}
 use Rattle.cfb_directory.specs.Written.{entry_bytes, free_entry_bytes}
 use Rattle.cfb_directory.specs.declared.write.EntryFields.{EntryFields}
 use Rattle.cfb_directory.specs.declared.entries.EntryKind.TheVariants as kinds
-use Rattle.storage_tree.specs.Tree.{Tree, Children, tree, none, stream, storage}
-use Rattle.storage_tree.specs.Change.{Seen, bytes, inner}
-use Rattle.storage_tree.specs.Whole.{IsTree}
+use Rattle.tree_model.specs.Tree.{Tree, Children, tree, none, stream, storage}
+use Rattle.tree_model.specs.Seen.{Seen, bytes, inner}
+use Rattle.tree_model.specs.Whole.{IsTree}
 use Rattle.file_model.specs.Need.{pieces, entries, mini_sectors, long_sectors, short_pieces, long_pieces, directory_sectors, mini_fat_sectors, mini_stream_sectors, data_sectors}
 use Rattle.file_model.specs.Limits.{CUTOFF, MOST_FAT_SECTORS}
 use Rattle.file_layout.specs.Image.{Parts, behind_fat, start, padded, pieces_of, whole_pieces, image}

@@ -9,8 +9,8 @@ use Rattle.chain_model.proofs.Blocks.{length_block, length_joined}
 use Rattle.chain_model.proofs.Chains.{chain_room}
 use Rattle.cfb_names.specs.Names.{key, key_cmp}
 use Rattle.cfb_directory.specs.Entries.{AreLinked, IsNamed, child, class_of, entry_at, first_of, kind, name_of, size_of, state_of}
-use Rattle.storage_tree.specs.Tree.{Tree, Children, tree, none, stream, storage}
-use Rattle.storage_tree.specs.Whole.{AreAbove, AreTrees, IsTree}
+use Rattle.tree_model.specs.Tree.{Tree, Children, tree, none, stream, storage}
+use Rattle.tree_model.specs.Whole.{AreAbove, AreTrees, IsTree}
 use Rattle.file_model.specs.Limits.{CUTOFF}
 use Rattle.file_model.specs.Denotes.{Layout, Used, AreChildren, Holds, HoldsBytes, HoldsEach, IsCalled, both, directory_of, entry, minis, sectors, store_for, taken}
 use Rattle.file_model.specs.Outline.{outline, outline_of, outlines_of, storage_part, stream_part}

@@ -1,7 +1,7 @@
 -- Which trees are refused, by how many entries, mini sectors and sectors they need.
 use Rattle.std.proofs.Common.{◌≡◌, ◌≤◌, ◌<◌, ◌*◌, ◌-◌, subst, min, ℕ, cond, Ok, Err, ap, arith}
 use Rattle.std.proofs.lemmas.Bool.{lt-ltb, le-ltb}
-use Rattle.storage_tree.specs.Tree.{Tree}
+use Rattle.tree_model.specs.Tree.{Tree}
 use Rattle.file_model.specs.Limits.{MANY, MOST_FAT_SECTORS}
 use Rattle.file_model.specs.Need.{entries, mini_sectors, long_sectors, data_sectors, fat_sectors, needed, pieces}
 use Rattle.file_model.specs.Refusals.{writable}

@@ -8,8 +8,8 @@ use Rattle.cfb_header.specs.Header.{IsHeader, difat, header_of, listed, first_di
 use Rattle.chain_model.specs.Fat.{IsFat, sectors_of, mini_sectors_of}
 use Rattle.cfb_names.specs.Names.{key, key_cmp}
 use Rattle.cfb_directory.specs.Entries.{entry_at, kind, child, class_of, state_of, first_of, size_of, name_of, IsNamed, AreLinked}
-use Rattle.storage_tree.specs.Tree.{Tree, Children, tree, none, stream, storage}
-use Rattle.storage_tree.specs.Whole.{IsTree}
+use Rattle.tree_model.specs.Tree.{Tree, Children, tree, none, stream, storage}
+use Rattle.tree_model.specs.Whole.{IsTree}
 use Rattle.file_model.specs.Limits.{CUTOFF}
 
 -- Where the system's own parts of a file lie: the sectors of the FAT, of the DIFAT, of the directory, of the mini FAT and

@@ -1,6 +1,6 @@
 -- The file of a root without children, byte by byte (MS-CFB 2.2, 2.3, 2.6).
 use Rattle.std.specs.Prelude.{ℕ, List, [], ◌∷◌, ◌++◌, replicate}
-use Rattle.storage_tree.specs.Tree.{Tree, tree, none}
+use Rattle.tree_model.specs.Tree.{Tree, tree, none}
 
 abbrev pub empty_header : List ℕ
 empty_header = (0xD0 ∷ 0xCF ∷ 0x11 ∷ 0xE0 ∷ 0xA1 ∷ 0xB1 ∷ 0x1A ∷ 0xE1 ∷ []) ++ replicate 16 0

@@ -1,6 +1,6 @@
 -- The room that a tree needs in a compound file (MS-CFB 2.3 to 2.6).
 use Rattle.std.specs.Prelude.{◌≤◌, ◌+◌, ◌-◌, ◌*◌, ◌/◌, ℕ, List, length, if◌then◌else◌, nat_lt}
-use Rattle.storage_tree.specs.Tree.{Tree, Children, tree, none, stream, storage}
+use Rattle.tree_model.specs.Tree.{Tree, Children, tree, none, stream, storage}
 use Rattle.file_model.specs.Limits.{CUTOFF, LISTED, NAMED}
 
 -- so many pieces of a width as hold so many bytes

@@ -1,7 +1,7 @@
 -- The outline of a tree: its storages and streams, each stream by its length alone.
 use Rattle.std.specs.Prelude.{ℕ, List, length}
-use Rattle.storage_tree.specs.Tree.{Tree, Children, tree, none, stream, storage}
-use Rattle.storage_tree.specs.Change.{Seen, bytes, inner}
+use Rattle.tree_model.specs.Tree.{Tree, Children, tree, none, stream, storage}
+use Rattle.tree_model.specs.Seen.{Seen, bytes, inner}
 
 -- A storage is its class id, its state bits and its children in name order, each with its name as it is spelled: a stream
 -- of so many bytes, or a storage.

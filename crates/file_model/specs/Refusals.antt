@@ -1,6 +1,6 @@
 -- Which trees no file holds, and what a call answers for them.
 use Rattle.std.specs.Prelude.{◌≡◌, nat_lt, cond, Result, Ok, Err, IsOk}
-use Rattle.storage_tree.specs.Tree.{Tree}
+use Rattle.tree_model.specs.Tree.{Tree}
 use Rattle.file_model.specs.Limits.{MOST_FAT_SECTORS}
 use Rattle.file_model.specs.Need.{fat_sectors, data_sectors}
 use Rattle.file_model.specs.declared.fault.WriteFault.{WriteFault}

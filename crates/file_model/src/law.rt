@@ -1,7 +1,7 @@
 //! Laws of what compound files denote.
 
 ghost use Rattle.std.specs.Prelude.{List, ℕ, ◌≡◌};
-ghost use Rattle.storage_tree.specs.Tree.{Tree};
+ghost use Rattle.tree_model.specs.Tree.{Tree};
 ghost use Rattle.file_model.specs.Denotes.{Denotes};
 ghost use Rattle.file_model.specs.EmptyDocument.{empty_document as empty_bytes, empty_tree};
 ghost use Rattle.file_model.specs.Need.{LeastFat};

@@ -2,16 +2,12 @@
 use Rattle.std.specs.Prelude.{ℕ, ◌≡◌, List, [], ◌∷◌, Option, Some, None, Result, Ok, Err, IsOk, Bool, cond}
 use Rattle.std.specs.Ordering.{match_ordering}
 use Rattle.cfb_names.specs.Names.{key, key_cmp, key_eq}
-use Rattle.storage_tree.specs.Tree.{Tree, Children, tree, none, stream, storage}
+pub use Rattle.tree_model.specs.Seen.{Seen, bytes, inner}
+use Rattle.storage_tree.specs.Tree.{Children, tree, none, stream, storage}
 use Rattle.storage_tree.specs.declared.fault.TreeFault.{TreeFault}
 use Rattle.storage_tree.specs.declared.fault.TreeFault.TheVariants.{NotFound, Exists, WrongKind, TooDeep, NoMemory}
 use Rattle.storage_tree.specs.declared.storage.Edit.{Edit}
 use Rattle.storage_tree.specs.declared.storage.Edit.TheVariants.{Put, Add, Make, Remove, Rename}
-
--- what stands at a path: a stream's bytes, or a storage
-pub data Seen : Type 0 where
-  bytes : List ℕ → Seen
-  inner : Tree → Seen
 
 -- a child under a key: its name as it is spelled, and what it is
 abbrev pub child : List ℕ → List ℕ × Seen → Children → Children

@@ -2,8 +2,8 @@
 use Rattle.std.specs.Prelude.{ℕ, zero, suc, ◌≡◌, List, [], ◌∷◌}
 use Rattle.std.specs.declared.cmp.Ordering.TheVariants.{Less}
 use Rattle.cfb_names.specs.Names.{IsName, key, key_cmp}
-use Rattle.storage_tree.specs.Tree.{Tree, Children, tree, none, stream, storage}
-use Rattle.storage_tree.specs.Change.{Seen, bytes, inner}
+use Rattle.tree_model.specs.Tree.{Tree, Children, tree, none, stream, storage}
+use Rattle.tree_model.specs.Seen.{Seen, bytes, inner}
 
 -- a child under the key of its name, which is one that a directory takes
 pub record IsNamed (k n : List ℕ) : Type 0 where
