@@ -8,6 +8,7 @@ use folder_program::extracting::extract;
 use folder_program::packing::pack;
 use make_program::making::make;
 use program_ends::command_lines::{CLEAN, FILE, GET, JSON, LIST, LONG, MAKE, OUT, PATH};
+use std::alloc::Global;
 use std::process::ExitCode;
 use std::rt::Runtime;
 
@@ -59,6 +60,7 @@ impl<'a> Task<'a> {
 
     /// Does what is asked for, and gives the status to end with.
     pub fn run<R: Runtime + AllocGlobal>(self, rt: &R) -> ExitCode {
+        keep_blocks(rt.alloc());
         match self {
             Task::Make(path) => make(rt, path),
             Task::List(path, listing) => list(rt, path, listing),
@@ -70,6 +72,15 @@ impl<'a> Task<'a> {
             Task::Pack(folder, path) => pack(rt, folder, path),
         }
     }
+}
+
+/// How many bytes a block has that is taken once and given back untouched.
+const KEPT: usize = 8_388_608;
+
+/// Has large blocks of memory used again: the C library's malloc asks the system for each of them, whose pages are then touched
+/// anew, until one of that size was given back; from then on it keeps those that it has.
+fn keep_blocks(alloc: Global) {
+    drop(Vec::<u8>::with_capacity(alloc, KEPT));
 }
 
 fn making<'a>(made: &ArgMatches<'a>) -> Option<Task<'a>> {

@@ -3,15 +3,13 @@
 use file_folders::folder::{Folder, FolderFault};
 use file_folders::notes::{NOTES, is_plain, notes};
 use file_folders::plan::{Content, Entry};
+use program_ends::new_file::{MOST_NAMES, name_beside};
 use std::alloc::{AllocError, Global};
 use std::fs::{self, OpenOptions};
 use std::io::{self, ErrorKind, Write};
 use std::path::PathBuf;
 use std::rt::Files;
 use storage_tree::class_id::ClassId;
-
-/// How many names are tried for a new file beside the one that it replaces.
-const MOST_NAMES: u32 = 1000;
 
 /// A folder of a system in which entries are made. Each folder below it is made new, and each file too, so no link that
 /// stands in it is followed, unless what stands there is to be replaced: then a folder that is none by a link is taken as it
@@ -103,8 +101,11 @@ impl<'a, R: Files + AllocGlobal> DiskFolder<'a, R> {
 
     /// Writes a new file beside a path, and puts it in the place of what stands there.
     fn replace_file(&self, path: &str, bytes: &[u8]) -> Result<(), FolderFault> {
+        let Ok(target) = PathBuf::from_str(self.rt.alloc(), path) else {
+            return Err(FolderFault::NoMemory);
+        };
         for number in 0..MOST_NAMES {
-            let Ok(beside) = name_beside(self.rt.alloc(), path, number) else {
+            let Ok(beside) = name_beside(self.rt.alloc(), &target, number) else {
                 return Err(FolderFault::NoMemory);
             };
             match self.write_new(beside.as_str(), bytes) {
@@ -138,13 +139,6 @@ impl<'a, R: Files + AllocGlobal> DiskFolder<'a, R> {
             let _ = fs::remove_file(self.rt, path);
         }
     }
-}
-
-/// The name of this number for a new file beside the one of a path.
-fn name_beside(alloc: Global, path: &str, number: u32) -> Result<PathBuf, AllocError> {
-    let target = PathBuf::from_str(alloc, path)?;
-    let spelled = format!(in alloc; ".olecon-{number}")?;
-    target.with_file_name(alloc, spelled.as_str())
 }
 
 /// Why nothing new is made at a path.

@@ -11,8 +11,8 @@ use std::rt::Files;
 /// How many links are followed to where a file is to be made.
 const MOST_LINKS: u32 = 40;
 
-/// How many names are tried for the file beside it.
-const MOST_NAMES: u32 = 1000;
+/// How many names are tried for a new file beside another.
+pub const MOST_NAMES: u32 = 1000;
 
 /// Who may read and write a new file, but for what the process takes away.
 const NEW_MODE: u32 = 0o666;
@@ -224,8 +224,8 @@ fn create_beside<R: Files + AllocGlobal>(
     Err(io::Error::from(ErrorKind::AlreadyExists))
 }
 
-/// The name of this number for a new file beside a path.
-fn name_beside(alloc: Global, target: &PathBuf, number: u32) -> Result<PathBuf, AllocError> {
+/// The name of this number for a new file beside that of a path, `.olecon-NUMBER` in its folder.
+pub fn name_beside(alloc: Global, target: &PathBuf, number: u32) -> Result<PathBuf, AllocError> {
     let spelled = format!(in alloc; ".olecon-{number}")?;
     target.with_file_name(alloc, spelled.as_str())
 }
