@@ -1,13 +1,20 @@
--- Commands of a description, one after another.
-use Rattle.std.proofs.Common.{◌≡◌, ◌++◌, ℕ, List, [], ◌∷◌, Result, Ok, Err, refl, sym, ap, ◌∙◌, subst, inl, inr, rules}
-use Rattle.std.specs.Prelude.{IsOk}
+-- The lines of a description, one after another.
+use Rattle.std.proofs.Common.{◌≡◌, ◌++◌, ◌⊎◌, ℕ, List, [], ◌∷◌, Option, Some, None, Result, Ok, Err, cond, refl, sym, ap, ◌∙◌, subst, inl, inr, rules}
+use Rattle.std.specs.Option.{option_map}
+use Rattle.std.specs.Prelude.{IsOk, IsSome, is_some}
 use Rattle.storage_tree.specs.Kept.{Kept}
-use Rattle.texts.specs.Lines.{RefusesText}
+use Rattle.text_words.specs.Words.{lines}
+use Rattle.texts.specs.Lines.{RefusesText, asked, asking, put_first}
 use Rattle.texts.specs.declared.lines.SyntaxFault.{SyntaxFault}
 use Rattle.texts.specs.declared.lines.SyntaxFault.TheVariants as syntax_fault
-use Rattle.file_making.specs.Commands.{commands_read, numbered_read}
+use Rattle.texts.proofs.Asking.{all-asked, asked-so-far, asked-turn, bad-at, lacking_at, one-more}
+use Rattle.texts.proofs.LineByLine.{behind}
+use Rattle.file_making.specs.Building.{IsBuilt}
+use Rattle.file_making.specs.Commands.{commands_read, line_read, numbered_read}
 use Rattle.file_making.specs.Description.{Refuses, RefusesCommands, RefusesDescription, MayLackRoom, carried, carried_out, at_line, described, nothing, of_syntax, then_by}
 use Rattle.file_making.specs.Faults.{of_syntax_fault}
+use Rattle.file_making.specs.Refusal.{refusal}
+use Rattle.file_making.specs.declared.building.Building.{Building}
 use Rattle.file_making.specs.declared.command.Command.{Command}
 use Rattle.file_making.specs.declared.fault.LineFault.{LineFault}
 use Rattle.file_making.specs.declared.fault.LineFault.TheVariants.{Bad, Name, Tree, NoMemory}
@@ -20,7 +27,7 @@ carried-append ((n, command) ∷ before) others k =
     [ Ok next ↦ carried-append before others next | Err fault ↦ refl ]
 
 -- one more command
-pub carried-turn : (before : List (ℕ × Command)) (n : ℕ) (command : Command) (k next : Kept) → carried before nothing ≡ Ok k → carried_out command k ≡ Ok next
+carried-turn : (before : List (ℕ × Command)) (n : ℕ) (command : Command) (k next : Kept) → carried before nothing ≡ Ok k → carried_out command k ≡ Ok next
     → carried (before ++ (n, command) ∷ []) nothing ≡ Ok next
 carried-turn before n command k next so is =
     carried-append before ((n, command) ∷ []) nothing
@@ -56,28 +63,115 @@ stopped-at before behind n command k (Name fault) so told = refused-at before be
 stopped-at before behind n command k (Tree fault) so told = refused-at before behind n command k (Tree fault) so told
 stopped-at before behind n command k NoMemory so told = lacking-at before behind n command k so told
 
--- a command that is refused, where those before it were carried out
-pub stopped : (commands before behind : List (ℕ × Command)) (n : ℕ) (command : Command) (k : Kept) (fault : LineFault) → before ++ (n, command) ∷ behind ≡ commands
-    → carried before nothing ≡ Ok k → Refuses (carried_out command k) fault → RefusesCommands commands (n, fault)
-stopped commands before behind n command k fault all so told =
-    let P : List (ℕ × Command) → Type 0 = λ cs. RefusesCommands cs (n, fault) in
-    subst P all (stopped-at before behind n command k fault so told)
-
 ran : (text : List ℕ) (commands : List (ℕ × Command)) → commands_read text ≡ Ok commands → described text ≡ carried commands nothing
 ran text commands read = ap (λ r. then_by (of_syntax r) (λ cs. carried cs nothing)) read
 
-pub ran_through : (text : List ℕ) (commands : List (ℕ × Command)) (k : Kept) → commands_read text ≡ Ok commands → carried commands nothing ≡ Ok k → described text ≡ Ok k
-ran_through text commands k read so = ran text commands read ∙ so
+ran-through : (text : List ℕ) (commands : List (ℕ × Command)) (k : Kept) → commands_read text ≡ Ok commands → carried commands nothing ≡ Ok k → described text ≡ Ok k
+ran-through text commands k read so = ran text commands read ∙ so
 
 -- a description whose commands are refused
-pub refused_commands : (text : List ℕ) (commands : List (ℕ × Command)) (n : ℕ) (fault : LineFault) → commands_read text ≡ Ok commands
+refused-commands : (text : List ℕ) (commands : List (ℕ × Command)) (n : ℕ) (fault : LineFault) → commands_read text ≡ Ok commands
     → RefusesCommands commands (n, fault) → RefusesDescription text (n, fault)
-refused_commands text commands n Bad read told = ran text commands read ∙ told
-refused_commands text commands n (Name fault) read told = ran text commands read ∙ told
-refused_commands text commands n (Tree fault) read told = ran text commands read ∙ told
-refused_commands text commands n NoMemory read told = inr (commands, read, told)
+refused-commands text commands n Bad read told = ran text commands read ∙ told
+refused-commands text commands n (Name fault) read told = ran text commands read ∙ told
+refused-commands text commands n (Tree fault) read told = ran text commands read ∙ told
+refused-commands text commands n NoMemory read told = inr (commands, read, told)
 
 -- one whose lines are
-pub refused_lines : (text : List ℕ) (n : ℕ) (fault : SyntaxFault) → RefusesText numbered_read text (n, fault) → RefusesDescription text (n, of_syntax_fault fault)
-refused_lines text n syntax_fault.Bad told = ap (λ r. then_by (of_syntax r) (λ cs. carried cs nothing)) told
-refused_lines text n syntax_fault.NoMemory told = inl told
+refused-lines : (text : List ℕ) (n : ℕ) (fault : SyntaxFault) → RefusesText numbered_read text (n, fault) → RefusesDescription text (n, of_syntax_fault fault)
+refused-lines text n syntax_fault.Bad told = ap (λ r. then_by (of_syntax r) (λ cs. carried cs nothing)) told
+refused-lines text n syntax_fault.NoMemory told = inl told
+
+-- ---- line by line
+no-command : IsSome {T = Command} None → ⊥
+no-command h = search rules
+
+-- the lines behind one whose command can't be carried out: all are within the grammar, or one of them is the first that isn't
+abbrev Rest : List (ℕ × List ℕ) → ℕ × LineFault → Type 0
+Rest left told = ((others : List (ℕ × Command)) × (asked numbered_read left ≡ Ok others) × (refusal left told ≡ told))
+    ⊎ ((m : ℕ) × (asked numbered_read left ≡ Err (m, syntax_fault.Bad)) × (refusal left told ≡ (m, Bad)))
+
+rest-behind : (n : ℕ) (line : List ℕ) (left : List (ℕ × List ℕ)) (told : ℕ × LineFault) (read : Option Command) → line_read line ≡ read → Rest left told → Rest ((n, line) ∷ left) told
+rest-behind n line left told None is others = inr (
+  n,
+  ap (λ r. put_first n (option_map (λ command. (n, command)) r) (asked numbered_read left)) is,
+  ap (λ r. cond (is_some r) (refusal left told) (n, Bad)) is,
+)
+rest-behind n line left told (Some command) is (inl (others, all, same)) = inl (
+  (n, command) ∷ others,
+  ap (λ r. put_first n (option_map (λ command. (n, command)) r) (asked numbered_read left)) is ∙ ap (put_first n (Some (n, command))) all,
+  ap (λ r. cond (is_some r) (refusal left told) (n, Bad)) is ∙ same,
+)
+rest-behind n line left told (Some command) is (inr (m, first, other)) = inr (
+  m,
+  ap (λ r. put_first n (option_map (λ command. (n, command)) r) (asked numbered_read left)) is ∙ ap (put_first n (Some (n, command))) first,
+  ap (λ r. cond (is_some r) (refusal left told) (n, Bad)) is ∙ other,
+)
+
+rest-of : (left : List (ℕ × List ℕ)) (told : ℕ × LineFault) → Rest left told
+rest-of [] told = inl ([], refl, refl)
+rest-of ((n, line) ∷ left) told = rest-behind n line left told (line_read line) refl (rest-of left told)
+
+-- some lines of a description were carried out, and others are left
+pub record IsUnderway (text : List ℕ) (left : List (ℕ × List ℕ)) (b : Building) : Type 0 where
+  pub gone : List (ℕ × List ℕ)
+  pub commands : List (ℕ × Command)
+  pub k : Kept
+  pub parts : asking 1 (lines text) ≡ gone ++ left
+  pub read : asked numbered_read gone ≡ Ok commands
+  pub so_far : carried commands nothing ≡ Ok k
+  pub built : IsBuilt b k
+
+pub begins : (text : List ℕ) (left : List (ℕ × List ℕ)) (b : Building) → left ≡ asking 1 (lines text) → IsBuilt b nothing → IsUnderway text left b
+begins text left b all built = record { gone = []; commands = []; k = nothing; parts = sym all; read = refl; so_far = refl; built = built }
+
+module _ (text : List ℕ) (left : List (ℕ × List ℕ)) (b : Building) (u : IsUnderway text left b) where
+  -- all lines were carried out
+  pub ends : left ≡ [] → described text ≡ Ok u.k
+  ends none = ran-through text u.commands u.k (all-asked numbered_read text u.gone left u.commands u.parts u.read none) u.so_far
+
+  module _ (n : ℕ) (line : List ℕ) (rest : List (ℕ × List ℕ)) (taken : left ≡ (n, line) ∷ rest) where
+    parts-here : asking 1 (lines text) ≡ u.gone ++ (n, line) ∷ rest
+    parts-here = u.parts ∙ ap (λ l. u.gone ++ l) taken
+
+    -- one more was
+    pub goes_on : (command : Command) (next : Building) → Some command ≡ line_read line → (k : Kept) × (carried_out command u.k ≡ Ok k) × IsBuilt next k → IsUnderway text rest next
+    goes_on command next is (k, carries, built) = record {
+      gone = u.gone ++ (n, line) ∷ [];
+      commands = u.commands ++ (n, command) ∷ [];
+      k = k;
+      parts = one-more (asking 1 (lines text)) u.gone left (n, line) rest u.parts taken;
+      read = asked-turn numbered_read u.gone n line u.commands (n, command) u.read (ap (option_map (λ c. (n, c))) is);
+      so_far = carried-turn u.commands n command u.k k u.so_far carries;
+      built = built;
+    }
+
+    -- one is outside the grammar
+    pub outside : None ≡ line_read line → described text ≡ Err (n, Bad)
+    outside is = refused-lines text n syntax_fault.Bad (bad-at numbered_read text u.gone n line rest u.commands parts-here u.read (ap (option_map (λ c. (n, c))) is))
+
+    within : (read : Option Command) → IsSome read → IsSome {T = ℕ × Command} (option_map (λ c. (n, c)) read)
+    within (Some command) is = refl
+    within None is = absurd (no-command is)
+
+    -- memory ran out while one was read
+    pub lacking : IsSome (line_read line) → RefusesDescription text (n, NoMemory)
+    lacking is = inl (lacking_at numbered_read text u.gone n line rest u.commands parts-here u.read (within (line_read line) is))
+
+    refused-by : (command : Command) (fault : LineFault) → Some command ≡ line_read line → Refuses (carried_out command u.k) fault → Rest rest (n, fault)
+        → RefusesDescription text (refusal rest (n, fault))
+    refused-by command fault is told (inl (others, all, same)) =
+        subst (RefusesDescription text) (sym same) (refused-commands text (u.commands ++ (n, command) ∷ others) n fault (
+        asked-so-far numbered_read text u.gone ((n, line) ∷ rest) u.commands parts-here u.read
+        ∙ ap (λ r. behind (Ok u.commands) (put_first n (option_map (λ c. (n, c)) r) (asked numbered_read rest))) (sym is)
+        ∙ ap (λ r. behind (Ok u.commands) (put_first n (Some (n, command)) r)) all)
+        (stopped-at u.commands others n command u.k fault u.so_far told))
+    refused-by command fault is told (inr (m, first, other)) =
+        subst (RefusesDescription text) (sym other) (refused-lines text m syntax_fault.Bad (
+        asked-so-far numbered_read text u.gone ((n, line) ∷ rest) u.commands parts-here u.read
+        ∙ ap (λ r. behind (Ok u.commands) (put_first n (option_map (λ c. (n, c)) r) (asked numbered_read rest))) (sym is)
+        ∙ ap (λ r. behind (Ok u.commands) (put_first n (Some (n, command)) r)) first))
+
+    -- one can't be carried out
+    pub refused_at : (command : Command) (fault : LineFault) → Some command ≡ line_read line → Refuses (carried_out command u.k) fault → RefusesDescription text (refusal rest (n, fault))
+    refused_at command fault is told = refused-by command fault is told (rest-of rest (n, fault))

@@ -1,14 +1,13 @@
 //! Commands of a description.
 
 ghost use Rattle.file_making.specs.Commands.{fill_read, line_read, storage_read, stream_of, stream_read};
-ghost use Rattle.std.specs.Prelude.{◌≡◌, IfErr, IfOk, IsSome};
+ghost use Rattle.std.specs.Prelude.{◌≡◌, IfErr, IfOk, IsSome, is_some};
 ghost use Rattle.texts.specs.Paths.{path_read};
 ghost use Rattle.texts.specs.Words.{content_read};
 
 use std::alloc::{AllocError, Global};
 use storage_tree::bytes::Bytes;
 use text_words::words::{Pieces, number};
-use texts::lines::Grammar;
 use texts::path::{Path, is_path};
 use texts::words::{byte, content, is_content};
 
@@ -42,6 +41,17 @@ impl Command {
         } else {
             Ok(None)
         }
+    }
+}
+
+/// Whether a line spells a command.
+pub fn is_command(alloc: Global, line: &[u8]) -> bool
+    ensures { result ≡ is_some (line_read line.now) }
+{
+    match Command::parse(alloc, line) {
+        Ok(command) => command.is_some(),
+        // Memory is told to lack only for a line that spells one.
+        Err(_) => true,
     }
 }
 
@@ -118,27 +128,5 @@ fn fill(alloc: Global, mut words: Pieces<'_>) -> Result<Option<Command>, AllocEr
     match Path::parse(alloc, path)? {
         Some(path) => Ok(Some(Command::Fill(path, count, value))),
         None => Ok(None),
-    }
-}
-
-/// The commands of a description, each with the number of its line.
-pub struct Commands;
-
-impl Grammar for Commands {
-    type Line = (usize, Command);
-
-    ghost use Rattle.file_making.specs.Commands.{numbered_read};
-
-    ghost read = { numbered_read };
-
-    fn parse(
-        alloc: Global,
-        number: usize,
-        line: &[u8],
-    ) -> Result<Option<(usize, Command)>, AllocError> {
-        match Command::parse(alloc, line)? {
-            Some(command) => Ok(Some((number, command))),
-            None => Ok(None),
-        }
     }
 }

@@ -1,33 +1,61 @@
 //! Descriptions of trees.
 
 ghost use Rattle.file_making.specs.Building.{Builds, IsBuilt, IsDescribed};
-ghost use Rattle.file_making.specs.Description.{RefusesCommands, RefusesDescription, carried, carried_out, described, nothing};
+ghost use Rattle.file_making.specs.Description.{RefusesDescription, carried_out, described};
+ghost use Rattle.file_making.specs.Refusal.{refusal};
 ghost use Rattle.std.specs.Prelude.{◌≡◌, ◌<◌, ◌^◌, Ok, length, IfErr, IfOk};
 ghost use Rattle.storage_tree.specs.Kept.{Kept};
 
 use crate::building::{Building, Described};
-use crate::command::{Command, Commands};
+use crate::command::{Command, is_command};
 use crate::fault::LineFault;
 use std::alloc::Global;
-use texts::lines::parse_lines;
+use texts::lines::Lines;
 
 /// The tree that a description describes, or its outline where its streams have more bytes than a file.
 ///
 /// Refused: the first line that is outside the grammar (`Bad`), or else the first that can't be carried out, with its
 /// number from 1; `NoMemory` at the line at which no memory was left.
-#[tactic(auto, using(crate::proofs::Described::ran_through, crate::proofs::Described::refused_commands, crate::proofs::Described::refused_lines))]
 pub fn describe(alloc: Global, text: &[u8]) -> Result<Described, (usize, LineFault)>
     requires { length text.now < 2 ^ 32 }
     ensures made { IfOk result (λ d. (k : Kept) × (described text.now ≡ Ok k) × IsDescribed k d) }
     ensures refused { IfErr result (RefusesDescription text.now) }
 {
-    match parse_lines::<Commands>(alloc, text) {
-        Ok(commands) => match carry_all(alloc, commands) {
-            Ok(described) => Ok(described),
-            Err((number, fault)) => Err((number, fault)),
-        },
-        Err((number, fault)) => Err((number, LineFault::from(fault))),
+    let mut building = Building::new(alloc);
+    let mut left = Lines::new(text);
+    while let Some((number, line)) = left.next_line() {
+        match Command::parse(alloc, line) {
+            Ok(Some(command)) => match carry_out(alloc, &mut building, command) {
+                Ok(()) => {}
+                Err(fault) => {
+                    // Nothing can come of the tree.
+                    drop(building);
+                    return Err(refusal(alloc, left, number, fault));
+                }
+            },
+            Ok(None) => return Err((number, LineFault::Bad)),
+            Err(_) => return Err((number, LineFault::NoMemory)),
+        }
     }
+    Ok(building.finish())
+}
+
+/// What a description is refused for where the command of a line can't be carried out, given the lines behind it: a line
+/// outside the grammar comes first.
+fn refusal(
+    alloc: Global,
+    mut left: Lines<'_>,
+    number: usize,
+    fault: LineFault,
+) -> (usize, LineFault)
+    ensures { result ≡ refusal left.entry (number, fault) }
+{
+    while let Some((place, line)) = left.next_line() {
+        if !is_command(alloc, line) {
+            return (place, LineFault::Bad);
+        }
+    }
+    (number, fault)
 }
 
 /// Carries out a command.
@@ -48,22 +76,4 @@ fn carry_out(alloc: Global, building: &mut Building, command: Command) -> Result
             Err(fault) => Err(LineFault::Name(fault)),
         },
     }
-}
-
-/// Carries out commands, one after another.
-fn carry_all(
-    alloc: Global,
-    commands: Vec<(usize, Command)>,
-) -> Result<Described, (usize, LineFault)>
-    ensures made { IfOk result (λ d. (k : Kept) × (carried commands.items nothing ≡ Ok k) × IsDescribed k d) }
-    ensures refused { IfErr result (RefusesCommands commands.items) }
-{
-    let mut building = Building::new(alloc);
-    for (number, command) in commands {
-        match carry_out(alloc, &mut building, command) {
-            Ok(()) => {}
-            Err(fault) => return Err((number, fault)),
-        }
-    }
-    Ok(building.finish())
 }

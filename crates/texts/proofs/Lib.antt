@@ -1,3 +1,4 @@
+pub mod Asking
 mod Digits
 pub mod Hex
 pub mod Inputs

@@ -1,11 +1,11 @@
 -- Lines of a text, one after another.
-use Rattle.std.proofs.Common.{◌≡◌, ◌≤◌, ◌<◌, ◌+◌, ◌-◌, ◌++◌, ℕ, zero, suc, true, false, List, [], ◌∷◌, Option, Some, None, Result, Ok, Err, cond, length, take, drop, slice_get, refl, sym, ap, ◌∙◌, subst, arith, append-nil, nat_eq, add-zero, rules}
+use Rattle.std.proofs.Common.{◌≡◌, ◌≤◌, ◌<◌, ◌+◌, ◌++◌, ℕ, zero, suc, true, false, List, [], ◌∷◌, Option, Some, None, Result, Ok, Err, cond, length, take, drop, slice_get, refl, sym, ap, ◌∙◌, subst, arith, append-nil, nat_eq, add-zero, rules}
 use Rattle.std.specs.Prelude.{IsOk, IsSome}
 use Rattle.std.proofs.lemmas.List.{take-append-drop, length-take}
 use Rattle.std.proofs.lemmas.List.Splits.{length-slice_split}
 use Rattle.std.proofs.lemmas.List.Sums.{count_by-le-length}
-use Rattle.text_words.specs.Words.{pieces, lines}
-use Rattle.texts.specs.Lines.{is_skipped, put_first, lines_read, MayLackMemory}
+use Rattle.text_words.specs.Words.{pieces}
+use Rattle.texts.specs.Lines.{is_skipped, put_first, lines_read}
 use Rattle.texts.specs.declared.lines.SyntaxFault.{SyntaxFault}
 use Rattle.texts.specs.declared.lines.SyntaxFault.TheVariants.{Bad}
 
@@ -20,7 +20,7 @@ pub record Stands (ls : List (List ℕ)) (k : ℕ) (line : List ℕ) (rest : Lis
   pub upto : take (k + 1) ls ≡ take k ls ++ line ∷ []
   pub behind : drop (k + 1) ls ≡ rest
 
-is_empty : {A : Type 0} {x : A} {xs : List A} → ◌≡◌ {A = List A} [] (x ∷ xs) → ⊥
+pub is_empty : {A : Type 0} {x : A} {xs : List A} → ◌≡◌ {A = List A} [] (x ∷ xs) → ⊥
 is_empty h = search rules
 
 pub stands : (ls : List (List ℕ)) (k : ℕ) (line : List ℕ) (rest : List (List ℕ)) → drop k ls ≡ line ∷ rest → Stands ls k line rest
@@ -47,13 +47,13 @@ behind (Ok xs) (Ok ys) = Ok (xs ++ ys)
 behind (Ok xs) (Err e) = Err e
 
 module _ {A : Type 0} (read : ℕ → List ℕ → Option A) where
-  behind-first : (n : ℕ) (asked : Option A) (xs ys : Result (List A) (ℕ × SyntaxFault)) → put_first n asked (behind xs ys) ≡ behind (put_first n asked xs) ys
+  pub behind-first : (n : ℕ) (asked : Option A) (xs ys : Result (List A) (ℕ × SyntaxFault)) → put_first n asked (behind xs ys) ≡ behind (put_first n asked xs) ys
   behind-first n None xs ys = refl
   behind-first n (Some a) (Ok xs) (Ok ys) = refl
   behind-first n (Some a) (Ok xs) (Err e) = refl
   behind-first n (Some a) (Err e) ys = refl
 
-  behind-none : (ys : Result (List A) (ℕ × SyntaxFault)) → behind (Ok []) ys ≡ ys
+  pub behind-none : (ys : Result (List A) (ℕ × SyntaxFault)) → behind (Ok []) ys ≡ ys
   behind-none (Ok ys) = refl
   behind-none (Err e) = refl
 
@@ -109,34 +109,15 @@ module _ {A : Type 0} (read : ℕ → List ℕ → Option A) where
       ∙ ap (λ b. behind (Ok front) (cond b (lines_read read (k + 1 + 1) rest) (put_first (k + 1) (read (k + 1) line) (lines_read read (k + 1 + 1) rest)))) says
       ∙ ap (behind (Ok front)) (refused-here (k + 1) (read (k + 1) line) (lines_read read (k + 1 + 1) rest) is)
 
-  -- all lines were read
-  pub all_read : (ls : List (List ℕ)) (k : ℕ) (front : List A) → drop k ls ≡ [] → lines_read read 1 (take k ls) ≡ Ok front → lines_read read 1 ls ≡ Ok front
-  all_read ls k front left so =
-      ap (lines_read read 1) (sym (take-append-drop k ls) ∙ ap (λ rest. take k ls ++ rest) left ∙ append-nil (take k ls)) ∙ so
-
   no_value : IsSome {T = A} None → ⊥
   no_value h = search rules
 
-  some_of : (asked : Option A) → IsSome asked → (a : A) × (Some a ≡ asked)
+  pub some_of : (asked : Option A) → IsSome asked → (a : A) × (Some a ≡ asked)
   some_of (Some a) is = (a, refl)
   some_of None is = absurd (no_value is)
 
   pub some_is : (asked : Option A) (a : A) → Some a ≡ asked → IsSome asked
   some_is asked a is = let P : Option A → Type 0 = IsSome in subst P is refl
 
-  ok_is : (r : Result (List A) (ℕ × SyntaxFault)) (xs : List A) → r ≡ Ok xs → IsOk r
+  pub ok_is : (r : Result (List A) (ℕ × SyntaxFault)) (xs : List A) → r ≡ Ok xs → IsOk r
   ok_is r xs is = let P : Result (List A) (ℕ × SyntaxFault) → Type 0 = IsOk in subst P (sym is) refl
-
-  -- memory ran out at a line within the grammar
-  pub lacking : (text : List ℕ) (k : ℕ) (line : List ℕ) (rest : List (List ℕ)) (front : List A) → drop k (lines text) ≡ line ∷ rest → lines_read read 1 (take k (lines text)) ≡ Ok front
-      → is_skipped line ≡ false → IsSome (read (k + 1) line) → MayLackMemory read text (k + 1)
-  lacking text k line rest front left so says within =
-      let at : Stands (lines text) k line rest = stands (lines text) k line rest left in
-      let asked = some_of (read (k + 1) line) within in
-      let same : k + 1 - 1 ≡ k = omega arith in
-      record {
-        line = line;
-        stands = ap (slice_get (lines text)) same ∙ at.here;
-        asks = says;
-        within = ok_is (lines_read read 1 (take (k + 1) (lines text))) (front ++ asked.0 ∷ []) (read_more (lines text) k line rest front asked.0 left so says asked.1);
-      }

@@ -1,10 +1,11 @@
 //! Texts whose lines ask for one thing each.
 
 ghost use Rattle.text_words.specs.Words.{lines};
-ghost use Rattle.std.specs.Prelude.{◌≡◌, ◌<◌, ◌^◌, Ok, length, IfErr, IfOk, IsSome, ℕ, List, Option};
-ghost use Rattle.texts.specs.Lines.{RefusesText, is_skipped, text_read};
+ghost use Rattle.std.specs.Prelude.{◌≡◌, ◌<◌, ◌^◌, ◌∷◌, [], Ok, length, IfErr, IfOk, IsSome, MatchOption, ℕ, List, Option};
+ghost use Rattle.texts.specs.Lines.{RefusesText, asking, is_skipped, text_read};
 
 use std::alloc::{AllocError, Global};
+use std::marker::Model;
 use text_words::words::Pieces;
 use thiserror::Error;
 
@@ -57,6 +58,51 @@ fn is_skipped(line: &[u8]) -> bool
     }
 }
 
+/// The lines of a text that ask for something, one after another. Empty lines and lines that begin with `#` are skipped.
+#[derive(Drop)]
+pub struct Lines<'a> {
+    left: Pieces<'a>,
+    /// How many lines are behind us.
+    number: usize,
+}
+
+impl<'a> Model for Lines<'a> {
+    ghost use Rattle.std.specs.Prelude.{◌+◌, ◌≤◌, ◌^◌, List, ℕ, length};
+    ghost use Rattle.texts.specs.Lines.{asking};
+
+    ghost Value = { List (ℕ × List ℕ) };
+
+    ghost view = { λ l. asking (l.number + 1) l.left };
+
+    ghost invariant = { λ l. l.number + length l.left ≤ 2 ^ 32 };
+}
+
+impl<'a> Lines<'a> {
+    /// All such lines of a text.
+    pub fn new(text: &'a [u8]) -> Lines<'a>
+        requires { length text.now < 2 ^ 32 }
+        ensures { result ≡ asking 1 (lines text.now) }
+    {
+        Lines {
+            left: Pieces::new(text, b'\n'),
+            number: 0,
+        }
+    }
+
+    /// The next line, if one is left, with its number in the text from 1.
+    pub fn next_line(&mut self) -> Option<(usize, &'a [u8])>
+        ensures { MatchOption result ((self.old ≡ []) × (self.new ≡ [])) (λ found. self.old ≡ (found.0, found.1.now) ∷ self.new) }
+    {
+        while let Some(line) = self.left.next_piece() {
+            self.number += 1;
+            if !is_skipped(line) {
+                return Some((self.number, line));
+            }
+        }
+        None
+    }
+}
+
 /// What the lines of a text ask for. Empty lines and lines that begin with `#` are skipped.
 ///
 /// Refused: the first line that is outside the grammar (`Bad`), with its number from 1; `NoMemory` with the number of
@@ -70,13 +116,8 @@ pub fn parse_lines<G: Grammar>(
     ensures refused { IfErr result (RefusesText G.read text.now) }
 {
     let mut asked = Vec::new(alloc);
-    let mut left = Pieces::new(text, b'\n');
-    let mut number: usize = 0;
-    while let Some(line) = left.next_piece() {
-        number += 1;
-        if is_skipped(line) {
-            continue;
-        }
+    let mut left = Lines::new(text);
+    while let Some((number, line)) = left.next_line() {
         match G::parse(alloc, number, line) {
             Ok(Some(one)) => match asked.push(one) {
                 Ok(()) => {}

@@ -1,46 +1,37 @@
-use Rattle.std.proofs.Common.{◌≡◌, ◌+◌, ◌∷◌, Ok, drop, ap, sym, ◌∙◌, length, arith}
+use Rattle.std.proofs.Common.{◌++◌, ◌∷◌, [], Ok, ap, sym, ◌∙◌}
 use Rattle.text_words.specs.Words.{lines}
-use Rattle.texts.proofs.LineByLine.{stands, skipped, read_more, bad, lacking, some_is, length-pieces}
+use Rattle.texts.specs.Lines.{asking}
+use Rattle.texts.proofs.Asking.{all-asked, asked-turn, bad-at, lacking_at, one-more}
+use Rattle.texts.proofs.LineByLine.{some_is}
 use Rattle.texts.proofs.lines.parse_lines.Goals as goal
 
-pub loop-line-init : goal.loop-line-init
-loop-line-init g c = record {
-  few = rw c.new-left.ensures (omega (arith, length-pieces 10 c.args.text.now));
-  left = sym c.new-left.ensures;
-  read = ap Ok (sym c.new-asked.ensures.items);
-}
+pub loop-number-init : goal.loop-number-init
+loop-number-init g c = ([], sym c.new-left.ensures, ap Ok (sym c.new-asked.ensures.items))
 
-pub loop-line-preserved-then-is_skipped : goal.loop-line-preserved-then-is_skipped
-loop-line-preserved-then-is_skipped g c =
-    let taken : c.loop-line.left ≡ c.in-Some.line.now ∷ c.next_piece.new.self = c.in-Some.ensures in
-    let at : drop c.loop-line.number (lines c.args.text.now) ≡ c.in-Some.line.now ∷ c.next_piece.new.self = c.loop-line.invariant.left ∙ taken in
-    record {
-      few = omega (arith, c.loop-line.invariant.few, ap length taken);
-      left = (stands (lines c.args.text.now) c.loop-line.number c.in-Some.line.now c.next_piece.new.self at).behind;
-      read = skipped g.G.Grammar.read (lines c.args.text.now) c.loop-line.number c.in-Some.line.now c.next_piece.new.self c.loop-line.asked.items at c.loop-line.invariant.read (sym c.is_skipped.ensures ∙ c.if-is_skipped.true);
-    }
-
-pub loop-line-preserved : goal.loop-line-preserved
-loop-line-preserved g c =
-    let taken : c.loop-line.left ≡ c.in-Some.line.now ∷ c.next_piece.new.self = c.in-Some.ensures in
-    let at : drop c.loop-line.number (lines c.args.text.now) ≡ c.in-Some.line.now ∷ c.next_piece.new.self = c.loop-line.invariant.left ∙ taken in
-    record {
-      few = omega (arith, c.loop-line.invariant.few, ap length taken);
-      left = (stands (lines c.args.text.now) c.loop-line.number c.in-Some.line.now c.next_piece.new.self at).behind;
-      read = rw c.in-Ok.ensures.items (read_more g.G.Grammar.read (lines c.args.text.now) c.loop-line.number c.in-Some.line.now c.next_piece.new.self c.loop-line.asked.items c.in-Ok-Some.one at c.loop-line.invariant.read (sym c.is_skipped.ensures ∙ c.if-is_skipped.false) (sym c.in-Ok-Some.field-0-is ∙ c.in-Ok-Some.ensures.read));
-    }
+pub loop-number-preserved : goal.loop-number-preserved
+loop-number-preserved g c =
+    let gone = c.loop-number.invariant.0 in (
+      gone ++ (c.in-Some.number, c.in-Some.line.now) ∷ [],
+      one-more (asking 1 (lines c.args.text.now)) gone c.loop-number.left (c.in-Some.number, c.in-Some.line.now) c.next_line.new.self c.loop-number.invariant.1 c.in-Some.ensures,
+      rw c.in-Ok.ensures.items (asked-turn g.G.Grammar.read gone c.in-Some.number c.in-Some.line.now c.loop-number.asked.items c.in-Ok-Some.one c.loop-number.invariant.2 (sym c.in-Ok-Some.field-0-is ∙ c.in-Ok-Some.ensures.read)),
+    )
 
 pub returns-in-Err-push-clause-refused : goal.returns-in-Err-push-clause-refused
 returns-in-Err-push-clause-refused g c =
-    lacking g.G.Grammar.read c.args.text.now c.loop-line.number c.in-Some.line.now c.next_piece.new.self c.loop-line.asked.items (c.loop-line.invariant.left ∙ c.in-Some.ensures) c.loop-line.invariant.read (sym c.is_skipped.ensures ∙ c.if-is_skipped.false)
-    (some_is g.G.Grammar.read (g.G.Grammar.read (c.loop-line.number + 1) c.in-Some.line.now) c.in-Ok-Some.one (sym c.in-Ok-Some.field-0-is ∙ c.in-Ok-Some.ensures.read))
+    lacking_at g.G.Grammar.read c.args.text.now c.loop-number.invariant.0 c.in-Some.number c.in-Some.line.now c.next_line.new.self c.loop-number.asked.items
+    (c.loop-number.invariant.1 ∙ ap (λ l. c.loop-number.invariant.0 ++ l) c.in-Some.ensures) c.loop-number.invariant.2
+    (some_is g.G.Grammar.read (g.G.Grammar.read c.in-Some.number c.in-Some.line.now) c.in-Ok-Some.one (sym c.in-Ok-Some.field-0-is ∙ c.in-Ok-Some.ensures.read))
 
 pub returns-in-Ok-None-clause-refused : goal.returns-in-Ok-None-clause-refused
 returns-in-Ok-None-clause-refused g c =
-    bad g.G.Grammar.read (lines c.args.text.now) c.loop-line.number c.in-Some.line.now c.next_piece.new.self c.loop-line.asked.items (c.loop-line.invariant.left ∙ c.in-Some.ensures) c.loop-line.invariant.read (sym c.is_skipped.ensures ∙ c.if-is_skipped.false)
-    (sym c.in-Ok-None.field-0-is ∙ c.in-Ok-None.ensures.read)
+    bad-at g.G.Grammar.read c.args.text.now c.loop-number.invariant.0 c.in-Some.number c.in-Some.line.now c.next_line.new.self c.loop-number.asked.items
+    (c.loop-number.invariant.1 ∙ ap (λ l. c.loop-number.invariant.0 ++ l) c.in-Some.ensures) c.loop-number.invariant.2 (sym c.in-Ok-None.field-0-is ∙ c.in-Ok-None.ensures.read)
 
 pub returns-in-Err-clause-refused : goal.returns-in-Err-clause-refused
 returns-in-Err-clause-refused g c =
-    lacking g.G.Grammar.read c.args.text.now c.loop-line.number c.in-Some.line.now c.next_piece.new.self c.loop-line.asked.items (c.loop-line.invariant.left ∙ c.in-Some.ensures) c.loop-line.invariant.read (sym c.is_skipped.ensures ∙ c.if-is_skipped.false)
-    c.in-Err.ensures.within
+    lacking_at g.G.Grammar.read c.args.text.now c.loop-number.invariant.0 c.in-Some.number c.in-Some.line.now c.next_line.new.self c.loop-number.asked.items
+    (c.loop-number.invariant.1 ∙ ap (λ l. c.loop-number.invariant.0 ++ l) c.in-Some.ensures) c.loop-number.invariant.2 c.in-Err.ensures.within
+
+pub returns-clause-read : goal.returns-clause-read
+returns-clause-read g c =
+    all-asked g.G.Grammar.read c.args.text.now c.loop-number.invariant.0 c.loop-number.left c.loop-number.asked.items c.loop-number.invariant.1 c.loop-number.invariant.2 c.in_default.ensures.0
