@@ -1,7 +1,5 @@
 -- A step of pushing the entries of siblings.
-use Rattle.std.proofs.Common.{◌≡◌, ◌+◌, ℕ, List, ◌∷◌, ◌++◌, length, sym, ◌∙◌, ap, subst, arith, append_assoc, ◌<◌, ◌^◌}
-use Rattle.cfb_directory.specs.Written.{entry_bytes}
-use Rattle.cfb_directory.specs.declared.write.EntryFields.{EntryFields}
+use Rattle.std.proofs.Common.{◌≡◌, ◌+◌, ℕ, List, [], ◌∷◌, ◌++◌, length, sym, ◌∙◌, ap, subst, arith, append_assoc, ◌<◌, ◌^◌}
 use Rattle.storage_tree.specs.Tree.{Tree, Children, tree}
 use Rattle.storage_tree.specs.Change.{Seen, bytes, inner, child}
 use Rattle.storage_tree.specs.View.{view, seen, children}
@@ -10,12 +8,14 @@ use Rattle.storage_tree.specs.declared.storage.Node.TheVariants as variant
 use Rattle.storage_tree.specs.declared.storage.Storage.{Storage}
 use Rattle.storage_tree.proofs.Entries.{seen-storage, view-out}
 use Rattle.file_model.specs.Need.{entries_of, over_streams_of, short_pieces, long_pieces}
-use Rattle.file_layout.specs.Directory.{IsSpelled, AreSpelled, class_in, state_in, ids_from, children_in, balanced, storage_says, entries_below, each_entry, entries_with}
+use Rattle.file_layout.specs.Directory.{IsSpelled, AreSpelled, children_in, class_in, entries_with, ids_from, state_in}
 use Rattle.file_writer.specs.Streams.{minis_with, sectors_with}
-use Rattle.file_writer.specs.Siblings.{AreSiblings, IsChildSpelled, past, past_all, child_entries, sibling_entries}
+use Rattle.file_writer.specs.Siblings.{AreSiblings, IsChildSpelled, past, past_all}
+use Rattle.file_writer.specs.Leads.{child_leads, each_lead, leads_below, sibling_leads, storage_leads}
+use Rattle.file_writer.specs.declared.entries.Lead.{Lead}
 use Rattle.file_writer.specs.declared.entries.Cursor.{Cursor}
 use Rattle.file_writer.specs.declared.entries.Siblings.{Siblings}
-use Rattle.file_writer.proofs.ContentsWalk.{Entries, entries-first, ids-first, minis-first, sectors-first, each-first, below-is}
+use Rattle.file_writer.proofs.ContentsWalk.{Entries, entries-first, ids-first, minis-first, sectors-first, leads-first, leads-are}
 
 module _ (rest es : Entries) (k : List ℕ) (v : List ℕ × Node) (steps : rest ≡ (k, v) ∷ es) (at next : Cursor) (after : next ≡ past at (seen v.1)) where
   pub step-places : (place n : ℕ) → place + length (ids_from at.id (children rest)) ≡ n → place + 1 + length (ids_from next.id (children es)) ≡ n
@@ -31,27 +31,27 @@ module _ (rest es : Entries) (k : List ℕ) (v : List ℕ × Node) (steps : rest
       let s : at.sector + sectors_with (seen v.1) + over_streams_of long_pieces (children es) ≡ at.sector + over_streams_of long_pieces (children rest) = omega (arith, sectors-first rest es k v steps) in
       ap (λ c. past_all c (children es)) after ∙ (λ t. record { id = i t; mini = m t; sector = s t }) ∙ h
 
-  pub step-pushed : (ids : List ℕ) (place : ℕ) (out out' whole : List ℕ) → out' ≡ out ++ child_entries ids place at v.0 (seen v.1)
-      → out ++ sibling_entries ids place at (children rest) ≡ whole → out' ++ sibling_entries ids (place + 1) next (children es) ≡ whole
+  pub step-pushed : (ids : List ℕ) (place : ℕ) (out out' whole : List Lead) → out' ≡ out ++ child_leads ids place at (seen v.1)
+      → out ++ sibling_leads ids place at (children rest) ≡ whole → out' ++ sibling_leads ids (place + 1) next (children es) ≡ whole
   step-pushed ids place out out' whole pushed h =
-      let one : List ℕ = child_entries ids place at v.0 (seen v.1) in
-      let more : List ℕ = sibling_entries ids (place + 1) (past at (seen v.1)) (children es) in
-      (λ t. pushed t ++ sibling_entries ids (place + 1) (after t) (children es)) ∙ append_assoc out one more
-      ∙ ap (λ x. out ++ x) (sym (each-first ids place at rest es k v steps)) ∙ h
+      let one : List Lead = child_leads ids place at (seen v.1) in
+      let more : List Lead = sibling_leads ids (place + 1) (past at (seen v.1)) (children es) in
+      (λ t. pushed t ++ sibling_leads ids (place + 1) (after t) (children es)) ∙ append_assoc out one more
+      ∙ ap (λ x. out ++ x) (sym (leads-first ids place at rest es k v steps)) ∙ h
 
--- the entry of a storage, and those below it
-pub storage-pushed : (ids : List ℕ) (place : ℕ) (at : Cursor) (name name' : List ℕ) (node : Node) (s : Storage) (siblings : Siblings) (e : EntryFields) (old mid new : List ℕ)
-    → node ≡ variant.Storage s → name' ≡ name → AreSiblings siblings (at.id + 1) (children_in (view s)) → e ≡ storage_says balanced ids place at.id (view s)
-    → mid ≡ old ++ entry_bytes name' e → new ≡ mid ++ sibling_entries siblings.ids.items 0 (record { id = at.id + 1; mini = at.mini; sector = at.sector }) (children_in (view s))
-    → new ≡ old ++ child_entries ids place at name (seen node)
-storage-pushed ids place at name name' node s siblings e old mid new is named has says first rest =
+-- where the entry of a storage leads, and those below it
+pub storage-pushed : (ids : List ℕ) (place : ℕ) (at : Cursor) (node : Node) (s : Storage) (siblings : Siblings) (e : Lead) (old mid new : List Lead)
+    → node ≡ variant.Storage s → AreSiblings siblings (at.id + 1) (children_in (view s)) → e ≡ storage_leads ids place at.id (view s)
+    → mid ≡ old ++ e ∷ [] → new ≡ mid ++ sibling_leads siblings.ids.items 0 (record { id = at.id + 1; mini = at.mini; sector = at.sector }) (children_in (view s))
+    → new ≡ old ++ child_leads ids place at (seen node)
+storage-pushed ids place at node s siblings e old mid new is has says first rest =
     let t : Tree = view s in
-    let one : List ℕ = entry_bytes name (storage_says balanced ids place at.id t) in
-    let more : List ℕ = entries_below balanced at.id at.mini at.sector t in
-    let a : mid ≡ old ++ one = first ∙ (λ i. old ++ entry_bytes (named i) (says i)) in
-    let b : sibling_entries siblings.ids.items 0 (record { id = at.id + 1; mini = at.mini; sector = at.sector }) (children_in t) ≡ more =
-    ap (λ xs. each_entry balanced xs 0 (at.id + 1) at.mini at.sector (children_in t)) has.ids ∙ sym (below-is at.id at.mini at.sector t) in
-    rest ∙ (λ i. a i ++ b i) ∙ append_assoc old one more ∙ ap (λ x. old ++ child_entries ids place at name x) (sym (ap seen is ∙ seen-storage s))
+    let one : List Lead = storage_leads ids place at.id t ∷ [] in
+    let more : List Lead = leads_below at.id at.mini at.sector t in
+    let a : mid ≡ old ++ one = first ∙ (λ i. old ++ says i ∷ []) in
+    let b : sibling_leads siblings.ids.items 0 (record { id = at.id + 1; mini = at.mini; sector = at.sector }) (children_in t) ≡ more =
+    ap (λ xs. each_lead xs 0 (at.id + 1) at.mini at.sector (children_in t)) has.ids ∙ sym (leads-are at.id at.mini at.sector t) in
+    rest ∙ (λ i. a i ++ b i) ∙ append_assoc old one more ∙ ap (λ x. old ++ child_leads ids place at x) (sym (ap seen is ∙ seen-storage s))
 
 spelled-child : (k n : List ℕ) (s : Seen) (cs : Children) → IsChildSpelled s → AreSpelled cs → AreSpelled (child k (n, s) cs)
 spelled-child k n (bytes b) cs h i = (h, i)

@@ -1,14 +1,20 @@
 -- A walk over the children of a storage.
-use Rattle.std.proofs.Common.{◌≡◌, ◌≤◌, ◌<◌, ◌+◌, ℕ, min, List, [], ◌∷◌, refl, sym, ◌∙◌, ap, arith, ◌++◌, append_assoc}
+use Rattle.std.proofs.Common.{◌≡◌, ◌≤◌, ◌<◌, ◌+◌, ◌*◌, ℕ, length, length-append, min, List, [], ◌∷◌, refl, sym, ◌∙◌, ap, subst, arith, ◌++◌, append_assoc}
 use Rattle.storage_tree.specs.Tree.{Tree, Children, tree}
 use Rattle.storage_tree.specs.Change.{Seen, bytes, inner, child}
-use Rattle.storage_tree.specs.View.{seen, children}
+use Rattle.storage_tree.specs.View.{children, seen, view}
 use Rattle.storage_tree.specs.declared.storage.Node.{Node}
+use Rattle.storage_tree.specs.declared.storage.Node.TheVariants as variant
+use Rattle.storage_tree.specs.declared.storage.Storage.{Storage}
+use Rattle.storage_tree.proofs.Entries.{seen-storage, seen-stream}
 use Rattle.file_model.specs.Need.{entries, entries_of, over_streams_of, short_pieces, long_pieces, mini_sectors, long_sectors}
-use Rattle.file_layout.specs.Directory.{entries_with, ids_from, children_in, balanced, storage_says, entries_below, each_entry}
+use Rattle.file_layout.specs.Directory.{children_in, class_in, entries_with, ids_from}
 use Rattle.cfb_directory.specs.Written.{entry_bytes}
+use Rattle.cfb_directory.proofs.Fields.{length-entry_bytes}
 use Rattle.file_writer.specs.Streams.{minis_with, sectors_with}
-use Rattle.file_writer.specs.Siblings.{past, child_entries, sibling_entries}
+use Rattle.file_writer.specs.Siblings.{past}
+use Rattle.file_writer.specs.Leads.{child_leads, child_led, each_lead, each_led, lead_in, leads_below, led_below, sibling_leads, storage_leads, storage_led, stream_led}
+use Rattle.file_writer.specs.declared.entries.Lead.{Lead}
 use Rattle.file_writer.specs.declared.entries.Cursor.{Cursor}
 
 abbrev pub Entries : Type 0
@@ -67,19 +73,69 @@ pub sectors-first : (rest es : Entries) (k : List ℕ) (v : List ℕ × Node) �
     → over_streams_of long_pieces (children rest) ≡ sectors_with (seen v.1) + over_streams_of long_pieces (children es)
 sectors-first rest es k v e = ap (λ r. over_streams_of long_pieces (children r)) e ∙ sectors-child k v.0 (seen v.1) (children es)
 
-each-child : (ids : List ℕ) (place : ℕ) (at : Cursor) (k n : List ℕ) (s : Seen) (cs : Children)
-    → sibling_entries ids place at (child k (n, s) cs) ≡ child_entries ids place at n s ++ sibling_entries ids (place + 1) (past at s) cs
-each-child ids place at k n (bytes b) cs = refl
-each-child ids place at k n (inner t) cs =
+leads-child : (ids : List ℕ) (place : ℕ) (at : Cursor) (k n : List ℕ) (s : Seen) (cs : Children)
+    → sibling_leads ids place at (child k (n, s) cs) ≡ child_leads ids place at s ++ sibling_leads ids (place + 1) (past at s) cs
+leads-child ids place at k n (bytes b) cs = refl
+leads-child ids place at k n (inner t) cs =
     let e : at.id + 1 + entries t ≡ at.id + (1 + entries t) = omega arith in
-    let one : List ℕ = entry_bytes n (storage_says balanced ids place at.id t) in
-    let more : List ℕ = entries_below balanced at.id at.mini at.sector t in
-    ap (λ x. one ++ (more ++ each_entry balanced ids (place + 1) x (at.mini + mini_sectors t) (at.sector + long_sectors t) cs)) e
-    ∙ sym (append_assoc one more (each_entry balanced ids (place + 1) (at.id + (1 + entries t)) (at.mini + mini_sectors t) (at.sector + long_sectors t) cs))
+    let one : Lead = storage_leads ids place at.id t in
+    let more : List Lead = leads_below at.id at.mini at.sector t in
+    ap (λ x. one ∷ (more ++ each_lead ids (place + 1) x (at.mini + mini_sectors t) (at.sector + long_sectors t) cs)) e
 
-pub each-first : (ids : List ℕ) (place : ℕ) (at : Cursor) (rest es : Entries) (k : List ℕ) (v : List ℕ × Node) → rest ≡ (k, v) ∷ es
-    → sibling_entries ids place at (children rest) ≡ child_entries ids place at v.0 (seen v.1) ++ sibling_entries ids (place + 1) (past at (seen v.1)) (children es)
-each-first ids place at rest es k v e = ap (λ r. sibling_entries ids place at (children r)) e ∙ each-child ids place at k v.0 (seen v.1) (children es)
+pub leads-first : (ids : List ℕ) (place : ℕ) (at : Cursor) (rest es : Entries) (k : List ℕ) (v : List ℕ × Node) → rest ≡ (k, v) ∷ es
+    → sibling_leads ids place at (children rest) ≡ child_leads ids place at (seen v.1) ++ sibling_leads ids (place + 1) (past at (seen v.1)) (children es)
+leads-first ids place at rest es k v e = ap (λ r. sibling_leads ids place at (children r)) e ∙ leads-child ids place at k v.0 (seen v.1) (children es)
 
-pub below-is : (id mini sector : ℕ) (t : Tree) → entries_below balanced id mini sector t ≡ each_entry balanced (ids_from (id + 1) (children_in t)) 0 (id + 1) mini sector (children_in t)
-below-is id mini sector (tree class state cs) = refl
+pub leads-are : (id mini sector : ℕ) (t : Tree) → leads_below id mini sector t ≡ each_lead (ids_from (id + 1) (children_in t)) 0 (id + 1) mini sector (children_in t)
+leads-are id mini sector (tree class state cs) = refl
+
+led-child : (leads : List Lead) (at : ℕ) (k n : List ℕ) (s : Seen) (cs : Children)
+    → each_led leads at (child k (n, s) cs) ≡ child_led leads at n s ++ each_led leads (at + entries_with s) cs
+led-child leads at k n (bytes b) cs = refl
+led-child leads at k n (inner t) cs =
+    let e : at + 1 + entries t ≡ at + (1 + entries t) = omega arith in
+    let one : List ℕ = entry_bytes n (storage_led (lead_in leads at) t) in
+    let more : List ℕ = led_below leads (at + 1) t in
+    ap (λ x. one ++ (more ++ each_led leads x cs)) e ∙ sym (append_assoc one more (each_led leads (at + (1 + entries t)) cs))
+
+-- one more child is sent
+module _ (leads : List Lead) (at next : ℕ) (rest es : Entries) (k : List ℕ) (v : List ℕ × Node) (steps : rest ≡ (k, v) ∷ es) (after : next ≡ at + entries_with (seen v.1)) where
+  led-first : each_led leads at (children rest) ≡ child_led leads at v.0 (seen v.1) ++ each_led leads next (children es)
+  led-first =
+      ap (λ r. each_led leads at (children r)) steps ∙ led-child leads at k v.0 (seen v.1) (children es)
+      ∙ ap (λ n. child_led leads at v.0 (seen v.1) ++ each_led leads n (children es)) (sym after)
+
+  pub led-more : (sent whole : List ℕ) → sent ++ each_led leads at (children rest) ≡ whole
+      → (sent ++ child_led leads at v.0 (seen v.1)) ++ each_led leads next (children es) ≡ whole
+  led-more sent whole h =
+      append_assoc sent (child_led leads at v.0 (seen v.1)) (each_led leads next (children es)) ∙ ap (λ r. sent ++ r) (sym led-first) ∙ h
+
+  pub led-counted : (all : ℕ) → at + entries_of (children rest) ≡ all → next + entries_of (children es) ≡ all
+  led-counted all h = omega (arith, h, after, entries-first rest es k v steps)
+
+  pub led-long : length (child_led leads at v.0 (seen v.1)) ≡ 128 * entries_with (seen v.1) → length (each_led leads next (children es)) ≡ 128 * entries_of (children es)
+      → length (each_led leads at (children rest)) ≡ 128 * entries_of (children rest)
+  led-long one more =
+      let both : length (child_led leads at v.0 (seen v.1) ++ each_led leads next (children es)) ≡ length (child_led leads at v.0 (seen v.1)) + length (each_led leads next (children es)) =
+      length-append (child_led leads at v.0 (seen v.1)) (each_led leads next (children es)) in
+      omega (arith, ap length led-first, both, one, more, entries-first rest es k v steps)
+
+-- the entry of a stream, and that of a storage with those below it, which take 128 bytes each
+module _ (leads : List Lead) (at : ℕ) (name : List ℕ) (node : Node) (short : length name ≤ 31) where
+  pub stream-long : (b : List ℕ) → node ≡ variant.Stream b → length (child_led leads at name (seen node)) ≡ 128 * entries_with (seen node)
+  stream-long b is =
+      subst (λ (s : Seen). length (child_led leads at name s) ≡ 128 * entries_with s) (sym (ap seen is ∙ seen-stream b))
+      (length-entry_bytes name (stream_led (lead_in leads at) (length b)) short refl)
+
+  pub storage-long : (s : Storage) → node ≡ variant.Storage s → length (class_in (view s)) ≡ 16 → length (led_below leads (at + 1) (view s)) ≡ 128 * entries (view s)
+      → length (child_led leads at name (seen node)) ≡ 128 * entries_with (seen node)
+  storage-long s is class below =
+      let one : List ℕ = entry_bytes name (storage_led (lead_in leads at) (view s)) in
+      let a : length (one ++ led_below leads (at + 1) (view s)) ≡ length one + length (led_below leads (at + 1) (view s)) = length-append one (led_below leads (at + 1) (view s)) in
+      let b : length one ≡ 128 = length-entry_bytes name (storage_led (lead_in leads at) (view s)) short class in
+      let both : length (one ++ led_below leads (at + 1) (view s)) ≡ 128 * (1 + entries (view s)) = omega (arith, a, b, below) in
+      subst (λ (z : Seen). length (child_led leads at name z) ≡ 128 * entries_with z) (sym (ap seen is ∙ seen-storage s)) both
+
+pub storage-led : (leads : List Lead) (at : ℕ) (name : List ℕ) (node : Node) (s : Storage) → node ≡ variant.Storage s
+    → entry_bytes name (storage_led (lead_in leads at) (view s)) ++ led_below leads (at + 1) (view s) ≡ child_led leads at name (seen node)
+storage-led leads at name node s is = sym (ap (child_led leads at name) (ap seen is ∙ seen-storage s))

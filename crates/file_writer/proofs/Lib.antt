@@ -6,3 +6,6 @@ pub mod ContentsStreams
 pub mod Lists
 pub mod Sent
 pub mod Zeros
+pub mod Leads
+pub mod Length
+pub mod Whole

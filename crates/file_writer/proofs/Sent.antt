@@ -1,15 +1,18 @@
 -- What goes on its way to a writer, piece by piece.
-use Rattle.std.proofs.Common.{◌≡◌, ◌+◌, ◌*◌, ◌∙◌, ℕ, List, Option, [], ◌++◌, ap, append_assoc, arith, length, length-append, subst, sym}
+use Rattle.std.proofs.Common.{◌≡◌, ◌<◌, ◌≤◌, ◌+◌, ◌*◌, ◌∙◌, ℕ, List, Option, [], ◌∷◌, ◌++◌, add-one, ap, append_assoc, arith, drop, drop_of_length-le, get_or, length, refl, subst, sym}
+use Rattle.std.proofs.Math.Seq.{drop-cons}
+use Rattle.std.specs.Int.{to_le_bytes, w32}
 use Rattle.std.proofs.lemmas.List.{append-nil}
 use Rattle.std.proofs.KnownBytes.{Appends-nil, Appends-trans}
 use Rattle.std.specs.Io.KnownBytes.{Appends}
 use Rattle.std.specs.List.{sum}
 use Rattle.storage_tree.specs.Tree.{Tree}
-use Rattle.file_model.specs.Need.{long_sectors, mini_sectors, pieces}
-use Rattle.file_layout.specs.Directory.{long_streams, short_streams}
-use Rattle.file_layout.specs.Image.{padded, pieces_of, whole_pieces}
-use Rattle.file_layout.proofs.ContentsNext.{longs-sum, shorts-sum}
-use Rattle.file_layout.proofs.ContentsPieces.{length-padded, length-whole, width-512, width-64}
+use Rattle.file_model.specs.Need.{mini_sectors}
+use Rattle.file_layout.specs.Directory.{short_streams}
+use Rattle.file_layout.specs.Image.{pieces_of, whole_pieces}
+use Rattle.file_layout.proofs.ContentsNext.{shorts-sum}
+use Rattle.file_layout.proofs.ContentsPieces.{length-whole, width-64}
+use Rattle.file_layout.proofs.Tables.{numbers_bytes}
 use Rattle.file_writer.specs.Sending.{Sends}
 
 -- nothing went
@@ -51,14 +54,19 @@ short_bytes t minis counted =
     let whole : length (whole_pieces 64 (short_streams t)) ≡ 64 * sum (pieces_of 64 (short_streams t)) = length-whole 64 width-64 (short_streams t) in
     omega (arith, counted, whole, shorts-sum t)
 
--- how many bytes a front, the mini stream and the long streams have
-pub sent_streams : (t : Tree) (front file : List ℕ) (n minis longs : ℕ) → front ++ padded 512 (whole_pieces 64 (short_streams t)) ++ whole_pieces 512 (long_streams t) ≡ file
-    → minis ≡ mini_sectors t → longs ≡ long_sectors t → n ≡ length front + 512 * pieces 512 (64 * minis) + 512 * longs → n ≡ length file
-sent_streams t front file n minis longs is few counted e =
-    let shorts : List ℕ = padded 512 (whole_pieces 64 (short_streams t)) in
-    let short : length shorts ≡ 512 * pieces 512 (64 * minis) =
-    length-padded 512 width-512 (whole_pieces 64 (short_streams t)) ∙ ap (λ k. 512 * pieces 512 k) (short_bytes t minis few) in
-    let whole : length (whole_pieces 512 (long_streams t)) ≡ 512 * sum (pieces_of 512 (long_streams t)) = length-whole 512 width-512 (long_streams t) in
-    let both : length (front ++ shorts ++ whole_pieces 512 (long_streams t)) ≡ length (front ++ shorts) + length (whole_pieces 512 (long_streams t)) = length-append (front ++ shorts) (whole_pieces 512 (long_streams t)) in
-    let first : length (front ++ shorts) ≡ length front + length shorts = length-append front shorts in
-    omega (arith, e, counted, whole, longs-sum t, both, first, short) ∙ ap length is
+-- one more number is sent
+pub numbers_more : (numbers : List ℕ) (k : ℕ) (sent more whole : List ℕ) → k < length numbers → more ≡ to_le_bytes w32 (get_or numbers k 0)
+    → sent ++ numbers_bytes (drop k numbers) ≡ whole → (sent ++ more) ++ numbers_bytes (drop (k + 1) numbers) ≡ whole
+numbers_more numbers k sent more whole some is h =
+    let here : drop k numbers ≡ get_or numbers k 0 ∷ drop (k + 1) numbers = rw (add-one, drop-cons numbers k 0) refl in
+    append_assoc sent more (numbers_bytes (drop (k + 1) numbers)) ∙ (λ i. sent ++ (is i ++ numbers_bytes (drop (k + 1) numbers)))
+    ∙ ap (λ ns. sent ++ numbers_bytes ns) (sym here) ∙ h
+
+-- no bytes went behind the others
+pub sends_nothing : (w v : Option (List ℕ)) (b c x : List ℕ) → x ≡ [] → Sends w v b c [] → Sends w v b c x
+sends_nothing w v b c x e h = subst (λ (zs : List ℕ). Sends w v b c zs) (sym e) h
+
+-- all numbers were sent
+pub numbers_sent : (numbers : List ℕ) (k : ℕ) (sent whole : List ℕ) → length numbers ≤ k → sent ++ numbers_bytes (drop k numbers) ≡ whole → sent ≡ whole
+numbers_sent numbers k sent whole all h =
+    sym (append-nil sent) ∙ ap (λ ns. sent ++ numbers_bytes ns) (sym (drop_of_length-le numbers all)) ∙ h

@@ -1,13 +1,12 @@
 -- The entries of siblings as the writer keeps them.
-use Rattle.std.specs.Prelude.{◌≡◌, ◌<◌, ◌^◌, ◌+◌, ◌++◌, ℕ, List, length, if◌then◌else◌, nat_lt}
+use Rattle.std.specs.Prelude.{◌≡◌, ◌<◌, ◌^◌, ◌+◌, ℕ, length, if◌then◌else◌, nat_lt}
 use Rattle.cfb_directory.specs.SearchTree.{IsSearchTree}
-use Rattle.cfb_directory.specs.Written.{entry_bytes}
 use Rattle.storage_tree.specs.Tree.{Children}
 use Rattle.storage_tree.specs.Change.{Seen, bytes, inner}
 use Rattle.file_model.specs.Limits.{CUTOFF}
 use Rattle.file_model.specs.Need.{entries_of, over_streams_of, short_pieces, long_pieces, pieces}
 use Rattle.file_writer.specs.Streams.{minis_with, sectors_with}
-use Rattle.file_layout.specs.Directory.{IsSpelled, ids_from, entries_with, stream_says, storage_says, entries_below, each_entry, balanced}
+use Rattle.file_layout.specs.Directory.{IsSpelled, entries_with, ids_from}
 use Rattle.file_writer.specs.declared.entries.Siblings.{Siblings}
 use Rattle.file_writer.specs.declared.entries.Cursor.{Cursor}
 
@@ -39,15 +38,6 @@ pub record IsBelow (at : Cursor) (bound : ℕ) : Type 0 where
   pub id : at.id < bound
   pub mini : at.mini < bound
   pub sector : at.sector < bound
-
--- the entry of a child, and those below it
-abbrev pub child_entries : List ℕ → ℕ → Cursor → List ℕ → Seen → List ℕ
-child_entries ids place at name (bytes b) = entry_bytes name (stream_says balanced ids place at.mini at.sector (length b))
-child_entries ids place at name (inner t) = entry_bytes name (storage_says balanced ids place at.id t) ++ entries_below balanced at.id at.mini at.sector t
-
--- the entries of siblings
-abbrev pub sibling_entries : List ℕ → ℕ → Cursor → Children → List ℕ
-sibling_entries ids place at cs = each_entry balanced ids place at.id at.mini at.sector cs
 
 -- a child whose class ids have 16 bytes and whose numbers have four
 abbrev pub IsChildSpelled : Seen → Type 0

@@ -1,23 +1,21 @@
-//! The entries of a tree, as they are written (MS-CFB 2.6).
+//! What the entries of a tree say (MS-CFB 2.6).
 
-ghost use Rattle.std.specs.Prelude.{◌≡◌, ◌<◌, ◌+◌, ◌^◌, ◌++◌, ℕ, IfOk, OnOk, length, min, replicate};
-ghost use Rattle.cfb_directory.specs.Written.{free_entry_bytes};
-ghost use Rattle.std.specs.List.{concat};
+ghost use Rattle.std.specs.Prelude.{◌≡◌, ◌<◌, ◌+◌, ◌^◌, ◌++◌, ℕ, IfOk, OnOk, length, min};
 ghost use Rattle.std.specs.Vec.{vec_len};
 ghost use Rattle.storage_tree.specs.View.{seen, view};
 ghost use Rattle.file_model.specs.Need.{entries, long_sectors};
 ghost use Rattle.file_model.specs.declared.limit.TheConstants.{MANY};
 ghost use Rattle.file_writer.specs.Counted.{AreCounts};
-ghost use Rattle.file_writer.specs.Siblings.{IsBelow, IsChildSpelled, AreSiblings, IsJoined, child_entries, past, past_all, past_stream, sibling_entries};
+ghost use Rattle.file_writer.specs.Siblings.{IsBelow, IsChildSpelled, AreSiblings, IsJoined, past, past_all, past_stream};
+ghost use Rattle.file_writer.specs.Leads.{IsDirectory, child_leads, sibling_leads, storage_leads, stream_leads};
 ghost use Rattle.file_layout.specs.Image.{start};
-ghost use Rattle.file_layout.specs.Directory.{AreSpelled, IsSpelled, balanced as balanced_links, children_in, entries_with, first_of_stream, directory_of_tree, ids_from, long_start, root_says, storage_says, stream_says};
+ghost use Rattle.file_layout.specs.Directory.{AreSpelled, balanced as balanced_links, children_in, entries_with, first_of_stream, ids_from, long_start, root_says};
 
 use crate::streams::{is_short, mini_count, sector_count};
 use cfb_directory::entries::{EntryKind, NO_STREAM};
 use cfb_directory::links::{Links, balanced};
-use cfb_directory::write::{EntryFields, write_entry, write_free_entry};
+use cfb_directory::write::EntryFields;
 use cfb_header::header::END_OF_CHAIN;
-use cfb_names::name::Name;
 use file_model::limit::MANY;
 use file_model::need::difat_sectors;
 use std::alloc::{AllocError, Global};
@@ -150,27 +148,31 @@ fn stream_start(at: Cursor, len: usize) -> u32
     }
 }
 
-/// What the entry of the stream of so many bytes at a place says.
-fn stream_entry(siblings: &Siblings, place: usize, at: Cursor, len: usize) -> EntryFields
+/// Where an entry leads: to its siblings on both sides, and down to a stream's first sector or to the child on top of a
+/// storage.
+#[derive(Clone, Copy, PartialEq, Eq)]
+pub(crate) struct Lead {
+    pub(crate) left: u32,
+    pub(crate) right: u32,
+    pub(crate) down: u32,
+}
+
+/// Where the entry of the stream of so many bytes at a place leads.
+fn stream_lead(siblings: &Siblings, place: usize, at: Cursor, len: usize) -> Lead
     requires joined { IsJoined siblings.now }
     requires there { place < length siblings.now.ids.items }
     requires few { len < 2 ^ 32 }
-    ensures { result ≡ stream_says balanced_links siblings.now.ids.items place at.mini at.sector len }
+    ensures { result ≡ stream_leads siblings.now.ids.items place at.mini at.sector len }
 {
-    EntryFields {
-        kind: EntryKind::Stream,
+    Lead {
         left: siblings.left(place),
         right: siblings.right(place),
-        child: NO_STREAM,
-        class: [0; 16],
-        state: 0,
-        first: stream_start(at, len),
-        size: len as u32,
+        down: stream_start(at, len),
     }
 }
 
 /// The bytes of a class id, of which there are 16.
-fn class_bytes(bytes: &[u8; 16]) -> [u8; 16]
+pub(crate) fn class_bytes(bytes: &[u8; 16]) -> [u8; 16]
     ensures same { result ≡ bytes.now }
     ensures len { length bytes.now ≡ 16 }
 {
@@ -178,37 +180,28 @@ fn class_bytes(bytes: &[u8; 16]) -> [u8; 16]
 }
 
 /// State bits, which have four bytes.
-fn state_bits(state: u32) -> u32
+pub(crate) fn state_bits(state: u32) -> u32
     ensures same { result ≡ state }
     ensures fits { state < 2 ^ 32 }
 {
     state
 }
 
-/// What the entry of the storage at a place says, whose children are these.
-fn storage_entry(
-    siblings: &Siblings,
-    place: usize,
-    storage: &Storage,
-    children: &Siblings,
-) -> EntryFields
+/// Where the entry of the storage at a place leads, whose children are these.
+fn storage_lead(siblings: &Siblings, place: usize, storage: &Storage, children: &Siblings) -> Lead
     requires joined { IsJoined siblings.now }
     requires there { place < length siblings.now.ids.items }
     requires below { IsJoined children.now }
     ensures class_id { length storage.now.class ≡ 16 }
     ensures state_bits { storage.now.state < 2 ^ 32 }
-    ensures says { (id : ℕ) → AreSiblings children.now (id + 1) (children_in (view storage.now)) → result ≡ storage_says balanced_links siblings.now.ids.items place id (view storage.now) }
+    ensures leads { (id : ℕ) → AreSiblings children.now (id + 1) (children_in (view storage.now)) → result ≡ storage_leads siblings.now.ids.items place id (view storage.now) }
 {
-    let state = state_bits(storage.state);
-    EntryFields {
-        kind: EntryKind::Storage,
+    let _class = class_bytes(storage.class.as_bytes());
+    let _state = state_bits(storage.state);
+    Lead {
         left: siblings.left(place),
         right: siblings.right(place),
-        child: children.top(),
-        class: class_bytes(storage.class.as_bytes()),
-        state,
-        first: 0,
-        size: 0,
+        down: children.top(),
     }
 }
 
@@ -234,52 +227,51 @@ impl Cursor {
     }
 }
 
-/// Adds the entries below a storage, whose children these are.
-#[cycle(push_entries)]
+/// Adds where the entries below a storage lead, whose children these are.
+#[cycle(push_leads)]
 fn push_below(
     alloc: Global,
-    out: &mut Vec<u8>,
+    leads: &mut Vec<Lead>,
     storage: &Storage,
     siblings: &Siblings,
     at: Cursor,
 ) -> Result<Cursor, AllocError>
     requires siblings { AreSiblings siblings.now at.id (children_in (view storage.now)) }
     requires few { IsBelow (past_all at (children_in (view storage.now))) MANY }
-    ensures pushed { OnOk result (out.new.items ≡ out.old.items ++ sibling_entries siblings.now.ids.items 0 at (children_in (view storage.now))) }
+    ensures pushed { OnOk result (leads.new.items ≡ leads.old.items ++ sibling_leads siblings.now.ids.items 0 at (children_in (view storage.now))) }
     ensures next { IfOk result (λ next. next ≡ past_all at (children_in (view storage.now))) }
     ensures spelled { OnOk result (AreSpelled (children_in (view storage.now))) }
 {
     let mut next = at;
     let mut place = 0;
     for (_, child) in storage.children.iter() {
-        next = push_child(alloc, out, child, siblings, place, next)?;
+        next = push_child(alloc, leads, &child.1, siblings, place, next)?;
         place += 1;
     }
     Ok(next)
 }
 
-/// Adds the entry of a child at a place, and those below it.
-#[cycle(push_entries)]
+/// Adds where the entry of a child at a place leads, and those below it.
+#[cycle(push_leads)]
 fn push_child(
     alloc: Global,
-    out: &mut Vec<u8>,
-    child: &(Name, Node),
+    leads: &mut Vec<Lead>,
+    child: &Node,
     siblings: &Siblings,
     place: usize,
     at: Cursor,
 ) -> Result<Cursor, AllocError>
     requires joined { IsJoined siblings.now }
     requires there { place < length siblings.now.ids.items }
-    requires few { IsBelow (past at (seen child.now.1)) MANY }
-    ensures pushed { OnOk result (out.new.items ≡ out.old.items ++ child_entries siblings.now.ids.items place at child.now.0 (seen child.now.1)) }
-    ensures next { IfOk result (λ next. next ≡ past at (seen child.now.1)) }
-    ensures spelled { OnOk result (IsChildSpelled (seen child.now.1)) }
+    requires few { IsBelow (past at (seen child.now)) MANY }
+    ensures pushed { OnOk result (leads.new.items ≡ leads.old.items ++ child_leads siblings.now.ids.items place at (seen child.now)) }
+    ensures next { IfOk result (λ next. next ≡ past at (seen child.now)) }
+    ensures spelled { OnOk result (IsChildSpelled (seen child.now)) }
 {
-    let name = child.0.as_bytes();
-    match &child.1 {
+    match child {
         Node::Stream(bytes) => {
             let len = bytes.len();
-            write_entry(out, name, &stream_entry(siblings, place, at, len))?;
+            leads.push(stream_lead(siblings, place, at, len))?;
             Ok(at.past(len))
         }
         Node::Storage(inner) => {
@@ -289,8 +281,8 @@ fn push_child(
                 sector: at.sector,
             };
             let children = siblings_of(alloc, inner, below.id)?;
-            write_entry(out, name, &storage_entry(siblings, place, inner, &children))?;
-            let next = push_below(alloc, out, inner, &children, below)?;
+            leads.push(storage_lead(siblings, place, inner, &children))?;
+            let next = push_below(alloc, leads, inner, &children, below)?;
             Ok(next)
         }
     }
@@ -380,6 +372,7 @@ impl Counts {
         requires few_entries { self.entries ≤ MANY }
         requires few_minis { self.minis ≤ MANY }
         requires few_sectors { self.longs ≤ MANY }
+        ensures { result ≡ 512 * (1 + (behind_fat self.fat + needed self.entries self.minis self.longs)) }
     {
         512 * (1 + self.sectors() as usize)
     }
@@ -407,47 +400,33 @@ fn root_entry(root: &Storage, children: &Siblings, counts: Counts) -> EntryField
     }
 }
 
-/// Adds entries that aren't used.
-fn push_unused(out: &mut Vec<u8>, count: u32) -> Result<(), AllocError>
-    ensures { OnOk result (out.new.items ≡ out.old.items ++ concat (replicate count free_entry_bytes)) }
-{
-    for _ in 0..count {
-        write_free_entry(out)?;
-    }
-    Ok(())
+/// What the root's entry says, and where the others lead, in the order in which they stand.
+#[derive(Drop)]
+pub(crate) struct Directory {
+    pub(crate) root: EntryFields,
+    pub(crate) leads: Vec<Lead>,
 }
 
-/// Adds the directory of a tree: the root, what is below it, and unused entries up to a whole sector.
-///
-/// Where no memory is left, a part of it may have been added.
-pub(crate) fn push_directory(
+/// The directory of a tree with these counts.
+pub(crate) fn directory_of(
     alloc: Global,
-    out: &mut Vec<u8>,
     root: &Storage,
     counts: Counts,
-) -> Result<(), AllocError>
+) -> Result<Directory, AllocError>
     requires counts { AreCounts counts (view root.now) }
     requires few { long_start counts.fat (view root.now) + long_sectors (view root.now) < MANY }
-    ensures pushed { OnOk result (out.new.items ≡ out.old.items ++ directory_of_tree balanced_links counts.fat (view root.now)) }
-    ensures spelled { OnOk result (IsSpelled (view root.now)) }
+    ensures { IfOk result (λ directory. IsDirectory directory counts.fat (view root.now)) }
 {
-    let directory = counts.directory_sectors();
-    let tables = counts.own_sectors() + directory + counts.mini_fat_sectors();
+    let tables = counts.own_sectors() + counts.directory_sectors() + counts.mini_fat_sectors();
     let sector = tables + counts.mini_stream_sectors();
-    let children = siblings_of(alloc, root, 1)?;
-    let name = Name::root();
-    write_entry(out, name.as_bytes(), &root_entry(root, &children, counts))?;
-    push_below(
-        alloc,
-        out,
-        root,
-        &children,
-        Cursor {
-            id: 1,
-            mini: 0,
-            sector,
-        },
-    )?;
-    push_unused(out, 4 * directory - (1 + counts.entries))?;
-    Ok(())
+    let first = Cursor {
+        id: 1,
+        mini: 0,
+        sector,
+    };
+    let children = siblings_of(alloc, root, first.id)?;
+    let mut leads = Vec::with_capacity(alloc, counts.entries as usize)?;
+    push_below(alloc, &mut leads, root, &children, first)?;
+    let root = root_entry(root, &children, counts);
+    Ok(Directory { root, leads })
 }

@@ -1,14 +1,19 @@
 //! The room that a tree needs in its file, counted in one walk.
 
-ghost use Rattle.std.specs.Prelude.{◌≡◌, if◌then◌else◌, min, nat_lt};
+ghost use Rattle.std.specs.Prelude.{◌≡◌, if◌then◌else◌, Err, IfErr, IfOk, Ok, OnOk, min, nat_lt};
 ghost use Rattle.storage_tree.specs.View.{seen, view};
 ghost use Rattle.file_layout.specs.Directory.{entries_with};
 ghost use Rattle.file_model.specs.Need.{entries, long_sectors, mini_sectors, pieces};
 ghost use Rattle.file_model.specs.declared.limit.TheConstants.{CUTOFF, MANY};
+ghost use Rattle.file_model.specs.Refusals.{writable};
+ghost use Rattle.file_writer.specs.Counted.{AreEnough, IsCounted};
 ghost use Rattle.file_writer.specs.Streams.{minis_with, sectors_with};
 
+use crate::entries::Counts;
 use crate::streams::{is_short, mini_count, sector_count};
-use file_model::limit::MANY;
+use file_model::fault::WriteFault;
+use file_model::limit::{MANY, MOST_FAT_SECTORS};
+use file_model::need::fat_sectors;
 use storage_tree::storage::{Node, Storage};
 
 /// What a part of a tree needs, each sort of room counted up to the bound: entries, mini sectors and sectors of long streams.
@@ -81,4 +86,34 @@ fn needs_of_stream(len: usize) -> Needs
             longs: sector_count(len).min(MANY as usize) as u32,
         }
     }
+}
+
+/// What a tree needs, each sort of room counted up to the bound.
+fn survey(root: &Storage) -> Counts
+    ensures { IsCounted result (view root.now) }
+{
+    let needs = needs_below(root);
+    let mut counts = Counts {
+        fat: 0,
+        entries: needs.entries,
+        minis: needs.minis,
+        longs: needs.longs,
+    };
+    counts.fat = fat_sectors(counts.data_sectors());
+    counts
+}
+
+/// The counts of a tree, and the least number of FAT sectors that covers it.
+///
+/// Refused: `TooBig` where that is above the limit.
+pub(crate) fn count(root: &Storage) -> Result<Counts, WriteFault>
+    ensures refused { IfErr result (λ e. writable (view root.now) ≡ Err e) }
+    ensures allowed { OnOk result (writable (view root.now) ≡ Ok tt) }
+    ensures counted { IfOk result (λ counts. AreEnough counts (view root.now)) }
+{
+    let counts = survey(root);
+    if counts.fat > MOST_FAT_SECTORS {
+        return Err(WriteFault::TooBig);
+    }
+    Ok(counts)
 }

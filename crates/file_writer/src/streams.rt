@@ -33,16 +33,6 @@ pub(crate) fn sector_count(len: usize) -> usize
     len.div_ceil(512)
 }
 
-/// Adds zero bytes.
-fn push_zeros(out: &mut Vec<u8>, count: usize) -> Result<(), AllocError>
-    requires { count < 512 }
-    ensures { OnOk result (out.new.items ≡ out.old.items ++ replicate count 0) }
-{
-    let len = out.len() + count;
-    out.resize(len, 0)?;
-    Ok(())
-}
-
 /// How many zeros stand behind so many bytes up to whole mini sectors.
 pub(crate) fn mini_zeros(len: usize) -> usize
     ensures few { result < 512 }
@@ -57,95 +47,6 @@ pub(crate) fn sector_zeros(len: usize) -> usize
     ensures zeros { result ≡ 512 * pieces 512 len - len }
 {
     (512 - len % 512) % 512
-}
-
-/// Adds the bytes of a stream, with zeros up to whole mini sectors.
-fn push_minis(out: &mut Vec<u8>, bytes: &[u8]) -> Result<(), AllocError>
-    ensures { OnOk result (out.new.items ≡ out.old.items ++ padded 64 bytes.now) }
-{
-    out.extend_from_slice(bytes)?;
-    push_zeros(out, mini_zeros(bytes.len()))?;
-    Ok(())
-}
-
-/// Adds the bytes of a stream, with zeros up to whole sectors.
-fn push_sectors(out: &mut Vec<u8>, bytes: &[u8]) -> Result<(), AllocError>
-    ensures { OnOk result (out.new.items ≡ out.old.items ++ padded 512 bytes.now) }
-{
-    out.extend_from_slice(bytes)?;
-    push_zeros(out, sector_zeros(bytes.len()))?;
-    Ok(())
-}
-
-/// Adds the streams below a storage that are shorter than 4,096 bytes, in the order of their entries, each in whole
-/// mini sectors.
-#[cycle(push_short)]
-fn push_short(out: &mut Vec<u8>, storage: &Storage) -> Result<(), AllocError>
-    ensures { OnOk result (out.new.items ≡ out.old.items ++ whole_pieces 64 (short_streams (view storage.now))) }
-{
-    for (_, child) in storage.children.iter() {
-        push_short_child(out, &child.1)?;
-    }
-    Ok(())
-}
-
-/// Adds a child's.
-#[cycle(push_short)]
-fn push_short_child(out: &mut Vec<u8>, child: &Node) -> Result<(), AllocError>
-    ensures { OnOk result (out.new.items ≡ out.old.items ++ whole_pieces 64 (short_within (seen child.now))) }
-{
-    match child {
-        Node::Stream(bytes) => {
-            let bytes = bytes.as_slice();
-            if is_short(bytes.len()) {
-                push_minis(out, bytes)?;
-            }
-        }
-        Node::Storage(inner) => push_short(out, inner)?,
-    }
-    Ok(())
-}
-
-/// Adds the streams below a storage that have 4,096 bytes or more, in the order of their entries, each in whole
-/// sectors.
-#[cycle(push_long)]
-pub(crate) fn push_long(out: &mut Vec<u8>, storage: &Storage) -> Result<(), AllocError>
-    ensures { OnOk result (out.new.items ≡ out.old.items ++ whole_pieces 512 (long_streams (view storage.now))) }
-{
-    for (_, node) in storage.children.iter() {
-        push_long_child(out, &node.1)?;
-    }
-    Ok(())
-}
-
-/// Adds a child's.
-#[cycle(push_long)]
-fn push_long_child(out: &mut Vec<u8>, child: &Node) -> Result<(), AllocError>
-    ensures { OnOk result (out.new.items ≡ out.old.items ++ whole_pieces 512 (long_within (seen child.now))) }
-{
-    match child {
-        Node::Stream(bytes) => {
-            let bytes = bytes.as_slice();
-            if !is_short(bytes.len()) {
-                push_sectors(out, bytes)?;
-            }
-        }
-        Node::Storage(inner) => push_long(out, inner)?,
-    }
-    Ok(())
-}
-
-/// Adds the mini stream of a tree, in whole sectors.
-///
-/// Where no memory is left, a part of it may have been added.
-pub(crate) fn push_mini_stream(out: &mut Vec<u8>, root: &Storage) -> Result<(), AllocError>
-    ensures { OnOk result (out.new.items ≡ out.old.items ++ padded 512 (whole_pieces 64 (short_streams (view root.now)))) }
-{
-    let before = out.len();
-    push_short(out, root)?;
-    let len = out.len() - before;
-    push_zeros(out, sector_zeros(len))?;
-    Ok(())
 }
 
 /// Adds how many mini sectors each stream below a storage takes that is shorter than 4,096 bytes, in the order of their
