@@ -37,20 +37,22 @@ fn outline_of(alloc: Global, catalog: &Catalog) -> Result<Outline, ReadFault>
     }
 }
 
-/// The root that an outline shows, of a file of which some blocks were read.
+/// The root that an outline shows, of a file of which some blocks were read. These are given back once the streams can be found
+/// without them, so that the tree takes their memory.
 ///
 /// Refused: `Unreadable` where a read fails, and `NoMemory`.
 fn fill<S: Source>(
     alloc: Global,
     source: &mut S,
-    catalog: &Catalog,
+    catalog: Catalog,
     outline: &Outline,
 ) -> Result<Storage, SeekFault>
-    requires header { header_read catalog.now.file ≡ Ok catalog.now.header }
-    ensures denotes { IfOk result (λ s. (a : List ℕ) → S.bytes source.old ≡ Some a → Alike a catalog.now.file → (t : Tree) → IsPlaced a t outline.now → Denotes a (view s)) }
+    requires header { header_read catalog.file ≡ Ok catalog.header }
+    ensures denotes { IfOk result (λ s. (a : List ℕ) → S.bytes source.old ≡ Some a → Alike a catalog.file → (t : Tree) → IsPlaced a t outline.now → Denotes a (view s)) }
     ensures kept { S.bytes source.new ≡ S.bytes source.old }
 {
     let tables = read_tables(alloc, source, &catalog.header, &catalog.file)?;
+    drop(catalog);
     let root = storage_at(alloc, source, &tables, outline)?;
     Ok(root)
 }
@@ -74,7 +76,7 @@ pub fn read_source<S: Source>(alloc: Global, source: &mut S) -> Result<Storage, 
         Ok(outline) => outline,
         Err(fault) => return Err(SourceFault::Read(fault)),
     };
-    match fill(alloc, source, &catalog, &outline) {
+    match fill(alloc, source, catalog, &outline) {
         Ok(root) => Ok(root),
         Err(fault) => Err(of_seeking(fault)),
     }

@@ -9,7 +9,7 @@ use Rattle.tree_seeking.proofs.reading.fill.Goals as goal
 
 pub returns-clause-denotes : goal.returns-clause-denotes
 returns-clause-denotes g c = λ a known h t p.
-    let b : List ℕ = c.args.catalog.now.file in
+    let b : List ℕ = c.args.catalog.file in
     let tables = c.in_ok-tables.tables in
     let are : AreTablesOf a p.denotes.layout tables =
     known_is (g.S.Source.bytes c.args.source.now) (λ a. Alike a b → (t : Tree) → (d : Denotes a t) → AreTablesOf a d.layout tables) a c.in_ok-tables.ensures.tables known h t p.denotes in
