@@ -10,6 +10,7 @@ use Rattle.storage_tree.proofs.Entries.{seen-storage, seen-stream}
 use Rattle.file_model.specs.Need.{entries, entries_of, over_streams_of, short_pieces, long_pieces, mini_sectors, long_sectors}
 use Rattle.file_layout.specs.Directory.{children_in, class_in, entries_with, ids_from}
 use Rattle.cfb_directory.specs.Written.{entry_bytes}
+use Rattle.cfb_directory.specs.declared.write.EntryFields.{EntryFields}
 use Rattle.cfb_directory.proofs.Fields.{length-entry_bytes}
 use Rattle.file_writer.specs.Streams.{minis_with, sectors_with}
 use Rattle.file_writer.specs.Siblings.{past}
@@ -127,15 +128,18 @@ module _ (leads : List Lead) (at : ℕ) (name : List ℕ) (node : Node) (short :
       subst (λ (s : Seen). length (child_led leads at name s) ≡ 128 * entries_with s) (sym (ap seen is ∙ seen-stream b))
       (length-entry_bytes name (stream_led (lead_in leads at) (length b)) short refl)
 
-  pub storage-long : (s : Storage) → node ≡ variant.Storage s → length (class_in (view s)) ≡ 16 → length (led_below leads (at + 1) (view s)) ≡ 128 * entries (view s)
+  pub storage-long : (s : Storage) (lead : Lead) (e : EntryFields) → node ≡ variant.Storage s → e ≡ storage_led lead (view s) → length e.class ≡ 16 → length (led_below leads (at + 1) (view s)) ≡ 128 * entries (view s)
       → length (child_led leads at name (seen node)) ≡ 128 * entries_with (seen node)
-  storage-long s is class below =
+  storage-long s lead e is says class below =
+      let whole : length (class_in (view s)) ≡ 16 = ap (λ (x : EntryFields). length x.class) (sym says) ∙ class in
       let one : List ℕ = entry_bytes name (storage_led (lead_in leads at) (view s)) in
       let a : length (one ++ led_below leads (at + 1) (view s)) ≡ length one + length (led_below leads (at + 1) (view s)) = length-append one (led_below leads (at + 1) (view s)) in
-      let b : length one ≡ 128 = length-entry_bytes name (storage_led (lead_in leads at) (view s)) short class in
+      let b : length one ≡ 128 = length-entry_bytes name (storage_led (lead_in leads at) (view s)) short whole in
       let both : length (one ++ led_below leads (at + 1) (view s)) ≡ 128 * (1 + entries (view s)) = omega (arith, a, b, below) in
       subst (λ (z : Seen). length (child_led leads at name z) ≡ 128 * entries_with z) (sym (ap seen is ∙ seen-storage s)) both
 
-pub storage-led : (leads : List Lead) (at : ℕ) (name : List ℕ) (node : Node) (s : Storage) → node ≡ variant.Storage s
-    → entry_bytes name (storage_led (lead_in leads at) (view s)) ++ led_below leads (at + 1) (view s) ≡ child_led leads at name (seen node)
-storage-led leads at name node s is = sym (ap (child_led leads at name) (ap seen is ∙ seen-storage s))
+pub storage-led : (leads : List Lead) (at : ℕ) (name name' : List ℕ) (node : Node) (s : Storage) (lead : Lead) (e : EntryFields) → node ≡ variant.Storage s → name' ≡ name
+    → lead ≡ lead_in leads at → e ≡ storage_led lead (view s) → entry_bytes name' e ++ led_below leads (at + 1) (view s) ≡ child_led leads at name (seen node)
+storage-led leads at name name' node s lead e is named there says =
+    let all : e ≡ storage_led (lead_in leads at) (view s) = says ∙ ap (λ (l : Lead). storage_led l (view s)) there in
+    (λ i. entry_bytes (named i) (all i) ++ led_below leads (at + 1) (view s)) ∙ sym (ap (child_led leads at name) (ap seen is ∙ seen-storage s))

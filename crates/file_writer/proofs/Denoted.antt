@@ -6,7 +6,7 @@ use Rattle.file_layout.specs.Directory.{IsSpelled, balanced, parts_of}
 use Rattle.file_layout.specs.Image.{image}
 use Rattle.file_layout.proofs.Contents.{image-denotes}
 use Rattle.file_writer.specs.Counted.{AreEnough}
-use Rattle.file_writer.specs.declared.entries.Counts.{Counts}
+use Rattle.file_writer.specs.declared.counts.Counts.{Counts}
 
 pub file_denotes : (c : Counts) (t : Tree) → AreEnough c t → IsSpelled t → IsTree 32 t → Denotes (image c.fat (parts_of balanced c.fat t)) t
 file_denotes c t are spelled whole = image-denotes c.fat t (record { whole = whole; spelled = spelled; few = are.counts.few_sectors; covered = are.covered })

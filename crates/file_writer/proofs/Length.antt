@@ -52,10 +52,11 @@ module _ (f : ℕ) (t : Tree) where
   length-longs : length (whole_pieces 512 p.longs) ≡ 512 * long_sectors t
   length-longs = length-whole 512 width-512 p.longs ∙ ap (λ n. 512 * n) (longs-sum t)
 
+  -- the FAT
   abbrev fat : List ℕ
   fat = own_entries f ++ runs (behind_fat f) (counts p)
 
-  length-fat : length fat ≡ behind_fat f + data_sectors t
+  pub length-fat : length fat ≡ behind_fat f + data_sectors t
   length-fat =
       length-append (own_entries f) (runs (behind_fat f) (counts p))
       ∙ omega (arith, length-own f, length-runs (behind_fat f) (counts p), counts-sum balanced f t)

@@ -7,17 +7,20 @@ use Rattle.std.proofs.KnownBytes.{Appends-nil, Appends-trans}
 use Rattle.std.specs.Io.KnownBytes.{Appends}
 use Rattle.std.specs.List.{sum}
 use Rattle.storage_tree.specs.Tree.{Tree}
-use Rattle.file_model.specs.Need.{mini_sectors}
-use Rattle.file_layout.specs.Directory.{short_streams}
+use Rattle.file_model.specs.Need.{long_sectors, mini_sectors}
+use Rattle.file_layout.specs.Directory.{long_streams, short_streams}
 use Rattle.file_layout.specs.Image.{pieces_of, whole_pieces}
-use Rattle.file_layout.proofs.ContentsNext.{shorts-sum}
-use Rattle.file_layout.proofs.ContentsPieces.{length-whole, width-64}
+use Rattle.file_layout.proofs.ContentsNext.{longs-sum, shorts-sum}
+use Rattle.file_layout.proofs.ContentsPieces.{length-whole, width-512, width-64}
 use Rattle.file_layout.proofs.Tables.{numbers_bytes}
 use Rattle.file_writer.specs.Sending.{Sends}
 
 -- nothing went
 pub sends_none : (w : Option (List ℕ)) (b : List ℕ) → Sends w w b b []
 sends_none w b = record { gone = []; written = Appends-nil w; all = sym (append-nil b) }
+
+pub sends_nothing : (w : Option (List ℕ)) (b x : List ℕ) → x ≡ [] → Sends w w b b x
+sends_nothing w b x e = subst (λ (zs : List ℕ). Sends w w b b zs) (sym e) (sends_none w b)
 
 -- bytes wait behind the others
 pub sends_wait : (w : Option (List ℕ)) (b c x : List ℕ) → c ≡ b ++ x → Sends w w b c x
@@ -54,6 +57,19 @@ short_bytes t minis counted =
     let whole : length (whole_pieces 64 (short_streams t)) ≡ 64 * sum (pieces_of 64 (short_streams t)) = length-whole 64 width-64 (short_streams t) in
     omega (arith, counted, whole, shorts-sum t)
 
+-- where streams take no room there are no bytes of them
+no_bytes : (bytes : List ℕ) → length bytes ≡ 0 → bytes ≡ []
+no_bytes [] e = refl
+no_bytes (x ∷ xs) e = absurd (omega (arith, e))
+
+pub no_shorts : (t : Tree) (minis : ℕ) → minis ≡ mini_sectors t → minis ≡ 0 → whole_pieces 64 (short_streams t) ≡ []
+no_shorts t minis counted none = no_bytes (whole_pieces 64 (short_streams t)) (omega (arith, short_bytes t minis counted, none))
+
+pub no_longs : (t : Tree) (longs : ℕ) → longs ≡ long_sectors t → longs ≡ 0 → whole_pieces 512 (long_streams t) ≡ []
+no_longs t longs counted none =
+    let whole : length (whole_pieces 512 (long_streams t)) ≡ 512 * sum (pieces_of 512 (long_streams t)) = length-whole 512 width-512 (long_streams t) in
+    no_bytes (whole_pieces 512 (long_streams t)) (omega (arith, whole, longs-sum t, counted, none))
+
 -- one more number is sent
 pub numbers_more : (numbers : List ℕ) (k : ℕ) (sent more whole : List ℕ) → k < length numbers → more ≡ to_le_bytes w32 (get_or numbers k 0)
     → sent ++ numbers_bytes (drop k numbers) ≡ whole → (sent ++ more) ++ numbers_bytes (drop (k + 1) numbers) ≡ whole
@@ -61,10 +77,6 @@ numbers_more numbers k sent more whole some is h =
     let here : drop k numbers ≡ get_or numbers k 0 ∷ drop (k + 1) numbers = rw (add-one, drop-cons numbers k 0) refl in
     append_assoc sent more (numbers_bytes (drop (k + 1) numbers)) ∙ (λ i. sent ++ (is i ++ numbers_bytes (drop (k + 1) numbers)))
     ∙ ap (λ ns. sent ++ numbers_bytes ns) (sym here) ∙ h
-
--- no bytes went behind the others
-pub sends_nothing : (w v : Option (List ℕ)) (b c x : List ℕ) → x ≡ [] → Sends w v b c [] → Sends w v b c x
-sends_nothing w v b c x e h = subst (λ (zs : List ℕ). Sends w v b c zs) (sym e) h
 
 -- all numbers were sent
 pub numbers_sent : (numbers : List ℕ) (k : ℕ) (sent whole : List ℕ) → length numbers ≤ k → sent ++ numbers_bytes (drop k numbers) ≡ whole → sent ≡ whole

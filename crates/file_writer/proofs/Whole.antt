@@ -1,11 +1,12 @@
 -- The parts of a file, one behind another, are the file.
-use Rattle.std.proofs.Common.{◌≡◌, ℕ, List, ◌++◌}
+use Rattle.std.proofs.Common.{◌≡◌, ◌+◌, ◌∙◌, ℕ, List, ◌++◌, ap, append_assoc}
 use Rattle.storage_tree.specs.Tree.{Tree}
-use Rattle.file_model.specs.Need.{difat_sectors}
-use Rattle.file_layout.specs.Directory.{balanced, directory_of_tree, long_streams, parts_of, short_streams}
-use Rattle.file_layout.specs.Image.{difat_numbers, image, padded, whole_pieces}
+use Rattle.file_model.specs.Need.{difat_sectors, directory_sectors, mini_fat_sectors, mini_stream_sectors}
+use Rattle.file_layout.specs.Directory.{balanced, directory_of_tree, long_start, long_streams, parts_of, short_streams}
+use Rattle.file_layout.specs.Image.{behind_fat, counts, difat_numbers, image, own_entries, padded, pieces_of, run, runs, whole_pieces}
 use Rattle.file_layout.proofs.Tables.{numbers_bytes}
-use Rattle.file_writer.specs.Front.{fat_numbers, header_for, mini_numbers}
+use Rattle.file_writer.specs.Filled.{fat_numbers, mini_numbers}
+use Rattle.file_writer.specs.Front.{header_for}
 
 pub image_of : (f : ℕ) (t : Tree) (header fat difat minis : List ℕ) → header ≡ header_for f t → fat ≡ fat_numbers f t
     → difat ≡ difat_numbers (difat_sectors f) f 109 f → minis ≡ mini_numbers t
@@ -15,3 +16,16 @@ unfolding image
 image_of f t header fat difat minis h a b m =
     λ i. h i ++ numbers_bytes (a i) ++ numbers_bytes (b i) ++ directory_of_tree balanced f t ++ numbers_bytes (m i)
     ++ padded 512 (whole_pieces 64 (short_streams t)) ++ whole_pieces 512 (long_streams t)
+
+-- the runs of the directory, the mini FAT, the mini stream and the long streams, behind one another
+pub fat_joined : (f : ℕ) (t : Tree) (table : List ℕ)
+    → table ≡ own_entries f ++ run (behind_fat f) (directory_sectors t) ++ run (behind_fat f + directory_sectors t) (mini_fat_sectors t)
+    ++ run (behind_fat f + directory_sectors t + mini_fat_sectors t) (mini_stream_sectors t)
+    → table ++ runs (long_start f t) (pieces_of 512 (long_streams t)) ≡ own_entries f ++ runs (behind_fat f) (counts (parts_of balanced f t))
+fat_joined f t table is =
+    let own : List ℕ = own_entries f in
+    let a : List ℕ = run (behind_fat f) (directory_sectors t) in
+    let b : List ℕ = run (behind_fat f + directory_sectors t) (mini_fat_sectors t) in
+    let c : List ℕ = run (behind_fat f + directory_sectors t + mini_fat_sectors t) (mini_stream_sectors t) in
+    let d : List ℕ = runs (long_start f t) (pieces_of 512 (long_streams t)) in
+    ap (λ ns. ns ++ d) is ∙ append_assoc (own ++ a ++ b) c d ∙ append_assoc (own ++ a) b (c ++ d) ∙ append_assoc own a (b ++ (c ++ d))

@@ -4,7 +4,7 @@ use Rattle.storage_tree.specs.Tree.{Tree}
 use Rattle.file_model.specs.Limits.{MANY, MOST_FAT_SECTORS}
 use Rattle.file_layout.specs.Image.{behind_fat}
 use Rattle.file_model.specs.Need.{data_sectors, entries, fat_sectors, long_sectors, mini_sectors, needed}
-use Rattle.file_writer.specs.declared.entries.Counts.{Counts}
+use Rattle.file_writer.specs.declared.counts.Counts.{Counts}
 
 -- each sort of room up to the bound, and as many FAT sectors as cover what was counted
 pub record IsCounted (c : Counts) (t : Tree) : Type 0 where

@@ -10,7 +10,8 @@ ghost use Rattle.file_writer.specs.Sending.{Sends};
 ghost use Rattle.std.specs.Prelude.{[], ◌++◌, ◌+◌, ◌*◌, ◌<◌, ◌≡◌, IfOk, OnOk, length};
 ghost use Rattle.storage_tree.specs.View.{seen, view};
 
-use crate::entries::{Counts, Directory, Lead, class_bytes, state_bits};
+use crate::counts::Counts;
+use crate::entries::{Directory, Lead, class_bytes, state_bits};
 use crate::pieces::{send_entry, send_unused};
 use cfb_directory::entries::{EntryKind, NO_STREAM};
 use cfb_directory::write::EntryFields;

@@ -8,41 +8,20 @@ ghost use Rattle.file_model.specs.declared.limit.TheConstants.{MANY};
 ghost use Rattle.file_writer.specs.Counted.{AreCounts};
 ghost use Rattle.file_writer.specs.Siblings.{IsBelow, IsChildSpelled, AreSiblings, IsJoined, past, past_all, past_stream};
 ghost use Rattle.file_writer.specs.Leads.{IsDirectory, child_leads, sibling_leads, storage_leads, stream_leads};
-ghost use Rattle.file_layout.specs.Image.{start};
-ghost use Rattle.file_layout.specs.Directory.{AreSpelled, balanced as balanced_links, children_in, entries_with, first_of_stream, ids_from, long_start, root_says};
+ghost use Rattle.file_layout.specs.Image.{pieces_of, runs};
+ghost use Rattle.file_writer.specs.Streams.{long_within, short_within};
+ghost use Rattle.storage_tree.specs.Change.{bytes as content};
+ghost use Rattle.file_layout.specs.Directory.{AreSpelled, balanced as balanced_links, children_in, entries_with, first_of_stream, ids_from, long_start, long_streams, root_says, short_streams};
 
+use crate::counts::{Counts, chain_start};
+use crate::needs::needs_with;
 use crate::streams::{is_short, mini_count, sector_count};
+use crate::tables::{Tables, push_run};
 use cfb_directory::entries::{EntryKind, NO_STREAM};
 use cfb_directory::links::{Links, balanced};
 use cfb_directory::write::EntryFields;
-use cfb_header::header::END_OF_CHAIN;
-use file_model::limit::MANY;
-use file_model::need::difat_sectors;
 use std::alloc::{AllocError, Global};
 use storage_tree::storage::{Node, Storage};
-
-/// How many entries a storage has below its own, or the bound where it has more.
-#[cycle(count_entries)]
-fn count_below(storage: &Storage) -> u32
-    ensures { result ≡ min MANY (entries (view storage.now)) }
-{
-    let mut count: u32 = 0;
-    for (_, child) in storage.children.iter() {
-        count = (count + count_with(&child.1)).min(MANY);
-    }
-    count
-}
-
-/// How many entries a child has with its own, or the bound where it has more.
-#[cycle(count_entries)]
-fn count_with(child: &Node) -> u32
-    ensures { result ≡ min MANY (entries_with (seen child.now)) }
-{
-    match child {
-        Node::Stream(_) => 1,
-        Node::Storage(inner) => (1 + count_below(inner)).min(MANY),
-    }
-}
 
 /// The ids of a storage's children, of which the first has this one.
 fn child_ids(alloc: Global, storage: &Storage, first: u32) -> Result<Vec<u32>, AllocError>
@@ -54,7 +33,7 @@ fn child_ids(alloc: Global, storage: &Storage, first: u32) -> Result<Vec<u32>, A
     let mut id = first;
     for (_, child) in storage.children.iter() {
         ids.push(id)?;
-        id += count_with(&child.1);
+        id += needs_with(&child.1).entries;
     }
     Ok(ids)
 }
@@ -122,18 +101,11 @@ impl Siblings {
 }
 
 /// Where the next entry, mini sector and sector stand.
-#[derive(Clone, Copy, PartialEq, Eq)]
+#[derive(Clone, Copy)]
 struct Cursor {
     id: u32,
     mini: u32,
     sector: u32,
-}
-
-/// Where a run of so many sectors starts, which is nowhere where it is empty.
-pub(crate) fn chain_start(at: u32, count: u32) -> u32
-    ensures { result ≡ start at count }
-{
-    if count == 0 { END_OF_CHAIN } else { at }
 }
 
 /// Where a stream of so many bytes starts.
@@ -150,7 +122,7 @@ fn stream_start(at: Cursor, len: usize) -> u32
 
 /// Where an entry leads: to its siblings on both sides, and down to a stream's first sector or to the child on top of a
 /// storage.
-#[derive(Clone, Copy, PartialEq, Eq)]
+#[derive(Clone, Copy)]
 pub(crate) struct Lead {
     pub(crate) left: u32,
     pub(crate) right: u32,
@@ -227,11 +199,27 @@ impl Cursor {
     }
 }
 
-/// Adds where the entries below a storage lead, whose children these are.
+/// Adds the run of a stream to the table that it lies in.
+fn push_stream(tables: &mut Tables, at: Cursor, bytes: &[u8]) -> Result<(), AllocError>
+    requires { IsBelow (past_stream at (length bytes.now)) MANY }
+    ensures minis { OnOk result (tables.new.minis.items ≡ tables.old.minis.items ++ runs at.mini (pieces_of 64 (short_within (content bytes.now)))) }
+    ensures fat { OnOk result (tables.new.fat.items ≡ tables.old.fat.items ++ runs at.sector (pieces_of 512 (long_within (content bytes.now)))) }
+{
+    let len = bytes.len();
+    if is_short(len) {
+        push_run(&mut tables.minis, at.mini, mini_count(len) as u32)?;
+        return Ok(());
+    }
+    push_run(&mut tables.fat, at.sector, sector_count(len) as u32)?;
+    Ok(())
+}
+
+/// Adds where the entries below a storage lead, whose children these are, and the runs of the streams there.
 #[cycle(push_leads)]
 fn push_below(
     alloc: Global,
     leads: &mut Vec<Lead>,
+    tables: &mut Tables,
     storage: &Storage,
     siblings: &Siblings,
     at: Cursor,
@@ -239,23 +227,26 @@ fn push_below(
     requires siblings { AreSiblings siblings.now at.id (children_in (view storage.now)) }
     requires few { IsBelow (past_all at (children_in (view storage.now))) MANY }
     ensures pushed { OnOk result (leads.new.items ≡ leads.old.items ++ sibling_leads siblings.now.ids.items 0 at (children_in (view storage.now))) }
+    ensures minis { OnOk result (tables.new.minis.items ≡ tables.old.minis.items ++ runs at.mini (pieces_of 64 (short_streams (view storage.now)))) }
+    ensures fat { OnOk result (tables.new.fat.items ≡ tables.old.fat.items ++ runs at.sector (pieces_of 512 (long_streams (view storage.now)))) }
     ensures next { IfOk result (λ next. next ≡ past_all at (children_in (view storage.now))) }
     ensures spelled { OnOk result (AreSpelled (children_in (view storage.now))) }
 {
     let mut next = at;
     let mut place = 0;
     for (_, child) in storage.children.iter() {
-        next = push_child(alloc, leads, &child.1, siblings, place, next)?;
+        next = push_child(alloc, leads, tables, &child.1, siblings, place, next)?;
         place += 1;
     }
     Ok(next)
 }
 
-/// Adds where the entry of a child at a place leads, and those below it.
+/// Adds where the entry of a child at a place leads, and those below it, and the runs of their streams.
 #[cycle(push_leads)]
 fn push_child(
     alloc: Global,
     leads: &mut Vec<Lead>,
+    tables: &mut Tables,
     child: &Node,
     siblings: &Siblings,
     place: usize,
@@ -265,13 +256,17 @@ fn push_child(
     requires there { place < length siblings.now.ids.items }
     requires few { IsBelow (past at (seen child.now)) MANY }
     ensures pushed { OnOk result (leads.new.items ≡ leads.old.items ++ child_leads siblings.now.ids.items place at (seen child.now)) }
+    ensures minis { OnOk result (tables.new.minis.items ≡ tables.old.minis.items ++ runs at.mini (pieces_of 64 (short_within (seen child.now)))) }
+    ensures fat { OnOk result (tables.new.fat.items ≡ tables.old.fat.items ++ runs at.sector (pieces_of 512 (long_within (seen child.now)))) }
     ensures next { IfOk result (λ next. next ≡ past at (seen child.now)) }
     ensures spelled { OnOk result (IsChildSpelled (seen child.now)) }
 {
     match child {
         Node::Stream(bytes) => {
+            let bytes = bytes.as_slice();
             let len = bytes.len();
             leads.push(stream_lead(siblings, place, at, len))?;
+            push_stream(tables, at, bytes)?;
             Ok(at.past(len))
         }
         Node::Storage(inner) => {
@@ -282,99 +277,9 @@ fn push_child(
             };
             let children = siblings_of(alloc, inner, below.id)?;
             leads.push(storage_lead(siblings, place, inner, &children))?;
-            let next = push_below(alloc, leads, inner, &children, below)?;
+            let next = push_below(alloc, leads, tables, inner, &children, below)?;
             Ok(next)
         }
-    }
-}
-
-/// What the counts of a tree say of its file: how many FAT sectors, entries below the root, mini sectors and sectors of
-/// long streams it has.
-#[derive(Clone, Copy, PartialEq, Eq)]
-pub(crate) struct Counts {
-    pub(crate) fat: u32,
-    pub(crate) entries: u32,
-    pub(crate) minis: u32,
-    pub(crate) longs: u32,
-}
-
-impl Counts {
-    ghost use Rattle.std.specs.Prelude.{◌≡◌, ◌≤◌, ◌*◌, ◌+◌};
-    ghost use Rattle.file_layout.specs.Image.{behind_fat};
-    ghost use Rattle.file_model.specs.Need.{difat_sectors as difat_needed, needed, pieces};
-    ghost use Rattle.file_model.specs.declared.limit.TheConstants.{MANY};
-
-    /// The sectors of the directory.
-    pub(crate) fn directory_sectors(self) -> u32
-        requires { self.entries ≤ MANY }
-        ensures { result ≡ pieces 4 (1 + self.entries) }
-    {
-        (1 + self.entries).div_ceil(4)
-    }
-
-    /// The sectors of the mini FAT.
-    pub(crate) fn mini_fat_sectors(self) -> u32
-        requires { self.minis ≤ MANY }
-        ensures { result ≡ pieces 128 self.minis }
-    {
-        self.minis.div_ceil(128)
-    }
-
-    /// The sectors of the mini stream.
-    pub(crate) fn mini_stream_sectors(self) -> u32
-        requires { self.minis ≤ MANY }
-        ensures { result ≡ pieces 512 (64 * self.minis) }
-    {
-        (64 * self.minis).div_ceil(512)
-    }
-
-    /// All sectors but those of the FAT.
-    pub(crate) fn data_sectors(self) -> u32
-        requires few_entries { self.entries ≤ MANY }
-        requires few_minis { self.minis ≤ MANY }
-        requires few_sectors { self.longs ≤ MANY }
-        ensures { result ≡ needed self.entries self.minis self.longs }
-    {
-        let tables = self.directory_sectors() + self.mini_fat_sectors();
-        tables + self.mini_stream_sectors() + self.longs
-    }
-
-    /// The sectors of the DIFAT.
-    pub(crate) fn difat_sectors(self) -> u32
-        ensures value { result ≡ difat_needed self.fat }
-        ensures few { result ≤ self.fat }
-    {
-        difat_sectors(self.fat)
-    }
-
-    /// The sectors of the FAT and the DIFAT.
-    pub(crate) fn own_sectors(self) -> u32
-        requires { self.fat ≤ MANY }
-        ensures { result ≡ behind_fat self.fat }
-    {
-        self.fat + self.difat_sectors()
-    }
-
-    /// All sectors.
-    pub(crate) fn sectors(self) -> u32
-        requires few_fat { self.fat ≤ MANY }
-        requires few_entries { self.entries ≤ MANY }
-        requires few_minis { self.minis ≤ MANY }
-        requires few_sectors { self.longs ≤ MANY }
-        ensures { result ≡ behind_fat self.fat + needed self.entries self.minis self.longs }
-    {
-        self.own_sectors() + self.data_sectors()
-    }
-
-    /// The bytes of the file: its header and all sectors.
-    pub(crate) fn file_len(self) -> usize
-        requires few_fat { self.fat ≤ MANY }
-        requires few_entries { self.entries ≤ MANY }
-        requires few_minis { self.minis ≤ MANY }
-        requires few_sectors { self.longs ≤ MANY }
-        ensures { result ≡ 512 * (1 + (behind_fat self.fat + needed self.entries self.minis self.longs)) }
-    {
-        512 * (1 + self.sectors() as usize)
     }
 }
 
@@ -407,18 +312,21 @@ pub(crate) struct Directory {
     pub(crate) leads: Vec<Lead>,
 }
 
-/// The directory of a tree with these counts.
+/// The directory of a tree with these counts. The runs of the streams go into the tables.
 pub(crate) fn directory_of(
     alloc: Global,
+    tables: &mut Tables,
     root: &Storage,
     counts: Counts,
 ) -> Result<Directory, AllocError>
     requires counts { AreCounts counts (view root.now) }
     requires few { long_start counts.fat (view root.now) + long_sectors (view root.now) < MANY }
-    ensures { IfOk result (λ directory. IsDirectory directory counts.fat (view root.now)) }
+    ensures directory { IfOk result (λ directory. IsDirectory directory counts.fat (view root.now)) }
+    ensures minis { OnOk result (tables.new.minis.items ≡ tables.old.minis.items ++ runs 0 (pieces_of 64 (short_streams (view root.now)))) }
+    ensures fat { OnOk result (tables.new.fat.items ≡ tables.old.fat.items ++ runs (long_start counts.fat (view root.now)) (pieces_of 512 (long_streams (view root.now)))) }
 {
-    let tables = counts.own_sectors() + counts.directory_sectors() + counts.mini_fat_sectors();
-    let sector = tables + counts.mini_stream_sectors();
+    let before = counts.own_sectors() + counts.directory_sectors() + counts.mini_fat_sectors();
+    let sector = before + counts.mini_stream_sectors();
     let first = Cursor {
         id: 1,
         mini: 0,
@@ -426,7 +334,7 @@ pub(crate) fn directory_of(
     };
     let children = siblings_of(alloc, root, first.id)?;
     let mut leads = Vec::with_capacity(alloc, counts.entries as usize)?;
-    push_below(alloc, &mut leads, root, &children, first)?;
+    push_below(alloc, &mut leads, tables, root, &children, first)?;
     let root = root_entry(root, &children, counts);
     Ok(Directory { root, leads })
 }

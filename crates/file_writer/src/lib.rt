@@ -1,6 +1,7 @@
 //! Writing whole compound files.
 #![tactic(auto)]
 
+mod counts;
 mod directory;
 mod entries;
 mod front;
@@ -8,4 +9,5 @@ mod needs;
 mod pieces;
 pub mod sending;
 mod streams;
+mod tables;
 pub mod write;

@@ -9,7 +9,7 @@ ghost use Rattle.file_model.specs.Refusals.{writable};
 ghost use Rattle.file_writer.specs.Counted.{AreEnough, IsCounted};
 ghost use Rattle.file_writer.specs.Streams.{minis_with, sectors_with};
 
-use crate::entries::Counts;
+use crate::counts::Counts;
 use crate::streams::{is_short, mini_count, sector_count};
 use file_model::fault::WriteFault;
 use file_model::limit::{MANY, MOST_FAT_SECTORS};
@@ -17,7 +17,7 @@ use file_model::need::fat_sectors;
 use storage_tree::storage::{Node, Storage};
 
 /// What a part of a tree needs, each sort of room counted up to the bound: entries, mini sectors and sectors of long streams.
-#[derive(Clone, Copy, PartialEq, Eq)]
+#[derive(Clone, Copy)]
 pub(crate) struct Needs {
     pub(crate) entries: u32,
     pub(crate) minis: u32,
@@ -49,7 +49,7 @@ pub(crate) fn needs_below(storage: &Storage) -> Needs
 
 /// What a child needs with its own entry.
 #[cycle(count_needs)]
-fn needs_with(child: &Node) -> Needs
+pub(crate) fn needs_with(child: &Node) -> Needs
     ensures entries { result.entries ≡ min MANY (entries_with (seen child.now)) }
     ensures minis { result.minis ≡ min MANY (minis_with (seen child.now)) }
     ensures longs { result.longs ≡ min MANY (sectors_with (seen child.now)) }

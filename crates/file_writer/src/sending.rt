@@ -5,14 +5,14 @@ ghost use Rattle.file_layout.specs.Image.{behind_fat, image, padded, whole_piece
 ghost use Rattle.file_writer.specs.Counted.{AreEnough};
 ghost use Rattle.file_writer.specs.Front.{IsFront};
 ghost use Rattle.file_writer.specs.Sending.{MayRefuseSend, Sends, WritesFile};
-ghost use Rattle.file_model.specs.Need.{data_sectors, mini_sectors};
+ghost use Rattle.file_model.specs.Need.{data_sectors, long_sectors, mini_sectors};
 ghost use Rattle.file_writer.specs.Streams.{long_within, short_within};
 ghost use Rattle.std.specs.Io.KnownBytes.{Appends};
 ghost use Rattle.std.specs.Prelude.{◌*◌, ◌+◌, ◌≡◌, ◌≢◌, IfErr, IfOk, OnOk, length};
 ghost use Rattle.storage_tree.specs.View.{seen, view};
 
+use crate::counts::Counts;
 use crate::directory::send_directory;
-use crate::entries::Counts;
 use crate::front::{Front, front_of};
 use crate::needs::count;
 use crate::pieces::{finish, send, send_numbers, send_zeros};
@@ -91,6 +91,9 @@ fn send_mini_stream<W: Write>(
     requires { minis ≡ mini_sectors (view root.now) }
     ensures { OnOk result (Sends (W.contents writer.old) (W.contents writer.new) waiting.old.items waiting.new.items (padded 512 (whole_pieces 64 (short_streams (view root.now))))) }
 {
+    if minis == 0 {
+        return Ok(());
+    }
     send_short(writer, waiting, root)?;
     send_zeros(writer, waiting, sector_zeros(64 * minis as usize))?;
     Ok(())
@@ -125,6 +128,23 @@ fn send_long_child<W: Write>(writer: &mut W, waiting: &mut Vec<u8>, child: &Node
     Ok(())
 }
 
+/// Sends the long streams of a tree that take so many sectors.
+fn send_long_streams<W: Write>(
+    writer: &mut W,
+    waiting: &mut Vec<u8>,
+    root: &Storage,
+    longs: u32,
+) -> io::Result<()>
+    requires { longs ≡ long_sectors (view root.now) }
+    ensures { OnOk result (Sends (W.contents writer.old) (W.contents writer.new) waiting.old.items waiting.new.items (whole_pieces 512 (long_streams (view root.now)))) }
+{
+    if longs == 0 {
+        return Ok(());
+    }
+    send_long(writer, waiting, root)?;
+    Ok(())
+}
+
 /// Writes the file of a tree with these counts, of which this is the front, and all through to the writer's end.
 pub(crate) fn send_all<W: Write>(
     writer: &mut W,
@@ -138,12 +158,12 @@ pub(crate) fn send_all<W: Write>(
     ensures long { OnOk result (length (image counts.fat (parts_of balanced counts.fat (view root.now))) ≡ 512 * (1 + behind_fat counts.fat + data_sectors (view root.now))) }
 {
     let mut waiting = front.header;
-    send_numbers(writer, &mut waiting, &front.fat)?;
+    send_numbers(writer, &mut waiting, &front.tables.fat)?;
     send_numbers(writer, &mut waiting, &front.difat)?;
     send_directory(writer, &mut waiting, root, &front.directory, counts)?;
-    send_numbers(writer, &mut waiting, &front.minis)?;
+    send_numbers(writer, &mut waiting, &front.tables.minis)?;
     send_mini_stream(writer, &mut waiting, root, counts.minis)?;
-    send_long(writer, &mut waiting, root)?;
+    send_long_streams(writer, &mut waiting, root, counts.longs)?;
     finish(writer, &waiting)?;
     Ok(())
 }

@@ -1,8 +1,8 @@
-use Rattle.std.proofs.Common.{◌≡◌, ◌∙◌, ◌+◌, ◌*◌, ◌++◌, [], ℕ, List, Option, ap, length, rules, subst, sym}
+use Rattle.std.proofs.Common.{◌≡◌, ◌+◌, ◌*◌, ◌++◌, [], ℕ, List, Option, ap, length, rules, subst}
 use Rattle.cfb_directory.specs.Written.{entry_bytes}
 use Rattle.storage_tree.specs.View.{children, seen, view}
 use Rattle.file_model.specs.Need.{entries_of}
-use Rattle.file_writer.specs.Leads.{child_led, each_led, lead_in, led_below, storage_led}
+use Rattle.file_writer.specs.Leads.{child_led, each_led, led_below}
 use Rattle.file_writer.specs.Sending.{Sends}
 use Rattle.file_writer.proofs.ContentsWalk.{Entries, led-counted, led-long, led-more, storage-led, storage-long, stream-long}
 use Rattle.file_writer.proofs.Sent.{sends_both, sends_none}
@@ -45,14 +45,12 @@ send_child-returns-in_ok-next-in-Storage-clause-sent g t c =
     let d : List ℕ = c.send_below.new.waiting.items in
     let s = c.in-Storage.inner in
     let more : List ℕ = led_below c.args.leads.now (c.args.at + 1) (view s) in
-    let says : c.storage_entry.result ≡ storage_led (lead_in c.args.leads.now c.args.at) (view s) =
-    c.storage_entry.ensures ∙ ap (λ l. storage_led l (view s)) c.lead_at-lead.ensures in
     subst (λ (zs : List ℕ). Sends w u b d zs)
-    ((λ i. entry_bytes (c.as_bytes-name.ensures.spelled i) (says i) ++ more) ∙ storage-led c.args.leads.now c.args.at c.args.child.now.0 c.args.child.now.1 s c.in-Storage.is)
+    (storage-led c.args.leads.now c.args.at c.args.child.now.0 c.as_bytes-name.result.now c.args.child.now.1 s c.lead_at-lead.result c.storage_entry.result
+    c.in-Storage.is c.as_bytes-name.ensures.spelled c.lead_at-lead.ensures c.storage_entry.ensures)
     (sends_both w v u b m d (entry_bytes c.as_bytes-name.result.now c.storage_entry.result) more c.in_ok-send_entry-in-Storage.ensures.sent c.in_ok-next-in-Storage.ensures.sent)
 
 pub send_child-returns-in_ok-next-in-Storage-clause-long : goal.send_child-returns-in_ok-next-in-Storage-clause-long
 send_child-returns-in_ok-next-in-Storage-clause-long g t c =
-    let s = c.in-Storage.inner in
-    storage-long c.args.leads.now c.args.at c.args.child.now.0 c.args.child.now.1 c.as_bytes-name.ensures.valid.short s c.in-Storage.is
-    (ap (λ e. length e.class) (sym c.storage_entry.ensures) ∙ c.send_entry-in-Storage.ensures.class_id) c.in_ok-next-in-Storage.ensures.long
+    storage-long c.args.leads.now c.args.at c.args.child.now.0 c.args.child.now.1 c.as_bytes-name.ensures.valid.short c.in-Storage.inner c.lead_at-lead.result c.storage_entry.result
+    c.in-Storage.is c.storage_entry.ensures c.send_entry-in-Storage.ensures.class_id c.in_ok-next-in-Storage.ensures.long

@@ -1,4 +1,5 @@
 use Rattle.file_writer.proofs.ContentsPush.{step-places, step-next, step-pushed, storage-pushed, step-spelled, spelled-storage, child-spelled}
+use Rattle.file_writer.proofs.ContentsStreams.{long-runs-more, short-runs-more}
 use Rattle.file_writer.proofs.entries.+push_leads.Goals as goal
 
 pub push_child-returns-in_ok-next-in-Storage-clause-pushed : goal.push_child-returns-in_ok-next-in-Storage-clause-pushed
@@ -18,6 +19,10 @@ push_below-loop-child-preserved t c = record {
       (step-spelled c.loop-child.child-iterator c.next.new.self c.in-Some.field-0-0.now c.in-Some.child.now c.in-Some.ensures.steps c.in_ok-next.ensures.spelled h);
   pushed = step-pushed c.loop-child.child-iterator c.next.new.self c.in-Some.field-0-0.now c.in-Some.child.now c.in-Some.ensures.steps c.loop-child.next c.in_ok-next.next c.in_ok-next.ensures.next
       c.args.siblings.now.ids.items c.loop-child.place c.loop-child.leads.items c.push_child.new.leads.items _ c.in_ok-next.ensures.pushed c.loop-child.invariant.pushed;
+  minis = short-runs-more c.loop-child.next c.in_ok-next.next c.loop-child.child-iterator c.next.new.self c.in-Some.field-0-0.now c.in-Some.child.now c.loop-child.tables.minis.items c.push_child.new.tables.minis.items _
+      c.in-Some.ensures.steps c.in_ok-next.ensures.next c.in_ok-next.ensures.minis c.loop-child.invariant.minis;
+  fat = long-runs-more c.loop-child.next c.in_ok-next.next c.loop-child.child-iterator c.next.new.self c.in-Some.field-0-0.now c.in-Some.child.now c.loop-child.tables.fat.items c.push_child.new.tables.fat.items _
+      c.in-Some.ensures.steps c.in_ok-next.ensures.next c.in_ok-next.ensures.fat c.loop-child.invariant.fat;
 }
 
 pub push_child-returns-in_ok-next-in-Storage-clause-spelled : goal.push_child-returns-in_ok-next-in-Storage-clause-spelled

@@ -1,6 +1,7 @@
 use Rattle.std.proofs.Common.{◌≡◌, ◌+◌, ◌++◌, length}
 use Rattle.storage_tree.specs.View.{children}
-use Rattle.file_layout.specs.Directory.{AreSpelled, ids_from}
+use Rattle.file_layout.specs.Directory.{AreSpelled, ids_from, long_streams_of, short_streams_of}
+use Rattle.file_layout.specs.Image.{pieces_of, runs}
 use Rattle.file_writer.specs.Leads.{sibling_leads}
 use Rattle.file_writer.specs.Siblings.{past_all}
 use Rattle.file_writer.proofs.entries.+push_leads.Given as goal
@@ -12,4 +13,8 @@ invariant-push_below-loop-child l = record {
   spelled : AreSpelled (children l.child-iterator) → AreSpelled (children l.storage.children.entries);
   pushed : l.leads.items ++ sibling_leads l.siblings.ids.items l.place l.next (children l.child-iterator)
       ≡ l.initial.leads.items ++ sibling_leads l.siblings.ids.items 0 l.fn.at (children l.storage.children.entries);
+  minis : l.tables.minis.items ++ runs l.next.mini (pieces_of 64 (short_streams_of (children l.child-iterator)))
+      ≡ l.initial.tables.minis.items ++ runs l.fn.at.mini (pieces_of 64 (short_streams_of (children l.storage.children.entries)));
+  fat : l.tables.fat.items ++ runs l.next.sector (pieces_of 512 (long_streams_of (children l.child-iterator)))
+      ≡ l.initial.tables.fat.items ++ runs l.fn.at.sector (pieces_of 512 (long_streams_of (children l.storage.children.entries)));
 }

@@ -11,7 +11,7 @@ loop-child-preserved c =
     let all : ℕ = entries_of (children c.args.storage.now.children.entries) in
     let room : c.args.first + all < MANY = omega (arith, c.requires, ap entries (view-out c.args.storage.now)) in
     record {
-      few = ids-few c.loop-child.child-iterator c.next.new.self c.in-Some.field-0-0.now c.in-Some.child.now c.in-Some.ensures.steps c.args.first c.loop-child.id c.count_with-id.result all MANY c.loop-child.invariant.counted room c.count_with-id.ensures _ _ c.in_ok-push.ensures.len c.loop-child.invariant.few;
-      counted = ids-counted c.loop-child.child-iterator c.next.new.self c.in-Some.field-0-0.now c.in-Some.child.now c.in-Some.ensures.steps c.args.first c.loop-child.id c.count_with-id.result all MANY c.loop-child.invariant.counted room c.count_with-id.ensures;
-      listed = ids-listed c.loop-child.child-iterator c.next.new.self c.in-Some.field-0-0.now c.in-Some.child.now c.in-Some.ensures.steps c.args.first c.loop-child.id c.count_with-id.result all MANY c.loop-child.invariant.counted room c.count_with-id.ensures c.loop-child.ids.items c.push.new.self.items _ c.in_ok-push.ensures.items c.loop-child.invariant.listed;
+      few = ids-few c.loop-child.child-iterator c.next.new.self c.in-Some.field-0-0.now c.in-Some.child.now c.in-Some.ensures.steps c.args.first c.loop-child.id c.needs_with-id.result.entries all MANY c.loop-child.invariant.counted room c.needs_with-id.ensures.entries _ _ c.in_ok-push.ensures.len c.loop-child.invariant.few;
+      counted = ids-counted c.loop-child.child-iterator c.next.new.self c.in-Some.field-0-0.now c.in-Some.child.now c.in-Some.ensures.steps c.args.first c.loop-child.id c.needs_with-id.result.entries all MANY c.loop-child.invariant.counted room c.needs_with-id.ensures.entries;
+      listed = ids-listed c.loop-child.child-iterator c.next.new.self c.in-Some.field-0-0.now c.in-Some.child.now c.in-Some.ensures.steps c.args.first c.loop-child.id c.needs_with-id.result.entries all MANY c.loop-child.invariant.counted room c.needs_with-id.ensures.entries c.loop-child.ids.items c.push.new.self.items _ c.in_ok-push.ensures.items c.loop-child.invariant.listed;
     }

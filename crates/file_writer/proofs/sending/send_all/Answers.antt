@@ -19,14 +19,14 @@ returns-clause-sent g c =
     let w3 : Option (List ℕ) = g.W.Write.contents c.send_directory.new.writer in
     let w4 : Option (List ℕ) = g.W.Write.contents c.send_numbers-3.new.writer in
     let w5 : Option (List ℕ) = g.W.Write.contents c.send_mini_stream.new.writer in
-    let w6 : Option (List ℕ) = g.W.Write.contents c.send_long.new.writer in
+    let w6 : Option (List ℕ) = g.W.Write.contents c.send_long_streams.new.writer in
     let last : Option (List ℕ) = g.W.Write.contents c.finish.new.writer in
     let b1 : List ℕ = c.send_numbers.new.waiting.items in
     let b2 : List ℕ = c.send_numbers-2.new.waiting.items in
     let b3 : List ℕ = c.send_directory.new.waiting.items in
     let b4 : List ℕ = c.send_numbers-3.new.waiting.items in
     let b5 : List ℕ = c.send_mini_stream.new.waiting.items in
-    let b6 : List ℕ = c.send_long.new.waiting.items in
+    let b6 : List ℕ = c.send_long_streams.new.waiting.items in
     let t : Tree = view c.args.root.now in
     let header : List ℕ = c.args.front.header.items in
     let fat : List ℕ = numbers_bytes c.deref.result.now in
@@ -43,7 +43,7 @@ returns-clause-sent g c =
     let s5 : Sends w0 w5 [] b5 (header ++ fat ++ difat ++ directory ++ minis ++ shorts) =
     sends_both w0 w4 w5 [] b4 b5 (header ++ fat ++ difat ++ directory ++ minis) shorts s4 c.in_ok-send_mini_stream.ensures in
     let s6 : Sends w0 w6 [] b6 (header ++ fat ++ difat ++ directory ++ minis ++ shorts ++ longs) =
-    sends_both w0 w5 w6 [] b5 b6 (header ++ fat ++ difat ++ directory ++ minis ++ shorts) longs s5 c.in_ok-send_long.ensures in
+    sends_both w0 w5 w6 [] b5 b6 (header ++ fat ++ difat ++ directory ++ minis ++ shorts) longs s5 c.in_ok-send_long_streams.ensures in
     subst (λ (zs : List ℕ). Appends w0 last zs)
     (image_of c.args.counts.fat t header c.deref.result.now c.deref-2.result.now c.deref-3.result.now c.requires.front.header
     (c.deref.ensures.value ∙ c.requires.front.fat) (c.deref-2.ensures.value ∙ c.requires.front.difat) (c.deref-3.ensures.value ∙ c.requires.front.minis))

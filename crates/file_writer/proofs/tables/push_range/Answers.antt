@@ -1,7 +1,7 @@
 use Rattle.std.proofs.Common.{◌≡◌, ◌∙◌, ◌+◌, ◌-◌, ◌++◌, ◌∷◌, [], ap, arith, rules}
 use Rattle.std.specs.List.{range_with_len}
 use Rattle.file_layout.proofs.Tables.{range_more}
-use Rattle.file_writer.proofs.front.push_range.Goals as goal
+use Rattle.file_writer.proofs.tables.push_range.Goals as goal
 
 pub loop-n-preserved : goal.loop-n-preserved
 loop-n-preserved c =

@@ -1,0 +1,18 @@
+-- The tables of a tree's file as lists of numbers.
+use Rattle.std.specs.Prelude.{◌-◌, ◌*◌, ◌++◌, ℕ, List, length, replicate}
+use Rattle.chain_model.specs.Chain.{FREE_SECTOR}
+use Rattle.storage_tree.specs.Tree.{Tree}
+use Rattle.file_layout.specs.Directory.{balanced, parts_of, short_streams}
+use Rattle.file_layout.specs.Image.{behind_fat, counts, own_entries, pieces_of, runs}
+use Rattle.file_model.specs.Need.{mini_fat_sectors}
+
+-- a table in so many sectors, its unused entries free
+abbrev pub filled : ℕ → List ℕ → List ℕ
+filled sectors ns = ns ++ replicate (128 * sectors - length ns) FREE_SECTOR
+
+-- the numbers of the FAT of a tree with f sectors, and those of its mini FAT
+abbrev pub fat_numbers : ℕ → Tree → List ℕ
+fat_numbers f t = filled f (own_entries f ++ runs (behind_fat f) (counts (parts_of balanced f t)))
+
+abbrev pub mini_numbers : Tree → List ℕ
+mini_numbers t = filled (mini_fat_sectors t) (runs 0 (pieces_of 64 (short_streams t)))
