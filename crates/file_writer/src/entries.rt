@@ -29,7 +29,7 @@ fn child_ids(alloc: Global, storage: &Storage, first: u32) -> Result<Vec<u32>, A
     ensures listed { IfOk result (λ ids. ids.items ≡ ids_from first (children_in (view storage.now))) }
     ensures few { IfOk result (λ ids. vec_len ids < MANY) }
 {
-    let mut ids = Vec::new(alloc);
+    let mut ids = Vec::with_capacity(alloc, storage.children.len())?;
     let mut id = first;
     for (_, child) in storage.children.iter() {
         ids.push(id)?;
