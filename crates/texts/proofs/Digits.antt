@@ -1,5 +1,5 @@
 -- The table of hexadecimal digits.
-use Rattle.std.proofs.Common.{◌≡◌, ◌<◌, ◌++◌, ℕ, zero, suc, List, [], ◌∷◌, replicate, Bool, true, false, cond, nat_eq, Option, Some, None, slice_index_or, refl, ap, ◌∙◌, arith, rules}
+use Rattle.std.proofs.Common.{◌≡◌, ◌<◌, ◌++◌, ℕ, zero, suc, List, [], ◌∷◌, replicate, Bool, true, false, cond, nat_eq, nat_lt, bit_or, Option, Some, None, slice_index_or, refl, ap, ◌∙◌, arith, rules}
 use Rattle.texts.specs.Words.{hex_digit, value_told}
 
 abbrev digits : List ℕ
@@ -42,3 +42,13 @@ tells-is d l = same-is (tells d) (hex_digit d) (every-is (λ x. same (tells x) (
 
 pub in_table : (d n : ℕ) → d < 256 → n ≡ d → tells n ≡ hex_digit d
 in_table d n l at = ap tells at ∙ tells-is d l
+
+-- two values of digits have no other bits together than a digit's
+ltb-lt : (a b : ℕ) → nat_lt a b ≡ true → a < b
+ltb-lt a b h = grind (arith, h)
+
+below-sixteen : (a : ℕ) → a < 16 → every (λ b. nat_lt (bit_or a b) 16) 16 ≡ true
+below-sixteen a l = every-is (λ x. every (λ b. nat_lt (bit_or x b) 16) 16) 16 a refl l
+
+pub or_below : (a b : ℕ) → a < 16 → b < 16 → bit_or a b < 16
+or_below a b l m = ltb-lt (bit_or a b) 16 (every-is (λ x. nat_lt (bit_or a x) 16) 16 b (below-sixteen a l) m)

@@ -1,7 +1,7 @@
 //! Bytes in the words of texts.
 
 ghost use Rattle.std.specs.Option.{option_map};
-ghost use Rattle.std.specs.Prelude.{◌≡◌, ◌<◌, ◌/◌, None, Some, false, length, true, vec_items, is_some, IfErr, IfOk, IfSome, IsSome};
+ghost use Rattle.std.specs.Prelude.{◌≡◌, ◌<◌, ◌+◌, ◌*◌, ◌/◌, None, Some, false, length, true, vec_items, is_some, IfErr, IfOk, IfSome, IsSome};
 ghost use Rattle.texts.specs.Words.{byte_read, content_read, hex_digit, hex_read, is_hidden, is_visible, lower_digit, pair_value, value_told};
 
 use std::alloc::{AllocError, Global};
@@ -92,6 +92,13 @@ pub fn is_content(word: &[u8]) -> bool
     }
 }
 
+/// The byte of two values of digits.
+fn joined(high: u8, low: u8) -> u8
+    ensures { high < 16 → low < 16 → result ≡ 16 * high + low }
+{
+    high.wrapping_mul(16).wrapping_add(low)
+}
+
 /// Fills a buffer of half as many bytes as a word has with those that it spells in two hexadecimal digits each, and says
 /// whether it spells bytes.
 fn fill_hex(buffer: &mut [u8], word: &[u8]) -> bool
@@ -100,14 +107,19 @@ fn fill_hex(buffer: &mut [u8], word: &[u8]) -> bool
     ensures none { result ≡ false → hex_read word.now ≡ None }
 {
     let mut filled = 0;
+    // The bits of all values together, 16 or more once a byte was no digit. A way out of the loop at each byte takes longer.
+    let mut bits: u8 = 0;
     let mut rest = word;
     while let [high, low, more @ ..] = rest {
-        match pair(*high, *low) {
-            Some(byte) => buffer[filled] = byte,
-            None => return false,
-        }
+        let high_value = digit_value(*high);
+        let low_value = digit_value(*low);
+        bits |= high_value | low_value;
+        buffer[filled] = joined(high_value, low_value);
         filled += 1;
         rest = more;
+    }
+    if bits >= 16 {
+        return false;
     }
     rest.is_empty()
 }
