@@ -34,6 +34,14 @@ sends_through w v u b d c x eb ec h k = record {
   all = ap (λ zs. (d ++ x) ++ zs) ec ∙ append-nil (d ++ x) ∙ ap (λ zs. zs ++ x) eb;
 }
 
+-- room was made, and bytes wait there
+pub sends_into : (w v : Option (List ℕ)) (b c d x : List ℕ) → Sends w v b c [] → d ≡ c ++ x → Sends w v b d x
+sends_into w v b c d x h e = record {
+  gone = h.gone;
+  written = h.written;
+  all = ap (λ zs. h.gone ++ zs) e ∙ sym (append_assoc h.gone c x) ∙ ap (λ zs. zs ++ x) (h.all ∙ append-nil b);
+}
+
 -- one after another
 pub sends_both : (w v u : Option (List ℕ)) (b c d x y : List ℕ) → Sends w v b c x → Sends v u c d y → Sends w u b d (x ++ y)
 sends_both w v u b c d x y h k = record {

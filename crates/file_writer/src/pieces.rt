@@ -84,6 +84,17 @@ pub(crate) fn send_zeros<W: Write>(
     Ok(())
 }
 
+/// Writes what waits where that is a whole piece.
+fn make_room<W: Write>(writer: &mut W, waiting: &mut Vec<u8>) -> io::Result<()>
+    ensures { OnOk result (Sends (W.contents writer.old) (W.contents writer.new) waiting.old.items waiting.new.items []) }
+{
+    if waiting.len() < PIECE {
+        return Ok(());
+    }
+    write_waiting(writer, waiting)?;
+    Ok(())
+}
+
 /// Sends numbers, each in four bytes, least byte first.
 pub(crate) fn send_numbers<W: Write>(
     writer: &mut W,
@@ -93,19 +104,9 @@ pub(crate) fn send_numbers<W: Write>(
     ensures { OnOk result (Sends (W.contents writer.old) (W.contents writer.new) waiting.old.items waiting.new.items (flat_map (to_le_bytes w32) numbers.now)) }
 {
     for n in numbers {
-        send(writer, waiting, &n.to_le_bytes())?;
+        make_room(writer, waiting)?;
+        waiting.extend_from_slice(&n.to_le_bytes())?;
     }
-    Ok(())
-}
-
-/// Writes what waits where that is a whole piece.
-fn make_room<W: Write>(writer: &mut W, waiting: &mut Vec<u8>) -> io::Result<()>
-    ensures { OnOk result (Sends (W.contents writer.old) (W.contents writer.new) waiting.old.items waiting.new.items []) }
-{
-    if waiting.len() < PIECE {
-        return Ok(());
-    }
-    write_waiting(writer, waiting)?;
     Ok(())
 }
 
