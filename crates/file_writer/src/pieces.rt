@@ -84,7 +84,8 @@ pub(crate) fn send_zeros<W: Write>(
     Ok(())
 }
 
-/// Writes what waits where that is a whole piece.
+/// Writes what waits where that is a whole piece. In the room that was taken for it, what is put there next needs no
+/// memory.
 fn make_room<W: Write>(writer: &mut W, waiting: &mut Vec<u8>) -> io::Result<()>
     ensures { OnOk result (Sends (W.contents writer.old) (W.contents writer.new) waiting.old.items waiting.new.items []) }
 {
