@@ -64,13 +64,6 @@ impl Key {
     {
         Key { units }
     }
-
-    /// Its bytes.
-    pub fn as_bytes(&self) -> &[u8; 32]
-        ensures { result.now ≡ self.now }
-    {
-        &self.units
-    }
 }
 
 // Keys are equal, and ordered, as their bytes are.

@@ -4,20 +4,25 @@ use Rattle.std.specs.Option.{option_map}
 use Rattle.std.specs.Prelude.{IsOk, IsSome, is_some}
 use Rattle.storage_tree.specs.Kept.{Kept}
 use Rattle.text_words.specs.Words.{lines}
-use Rattle.texts.specs.Lines.{RefusesText, asked, asking, put_first}
+use Rattle.texts.specs.Lines.{RefusesText, asking, put_first}
 use Rattle.texts.specs.declared.lines.SyntaxFault.{SyntaxFault}
 use Rattle.texts.specs.declared.lines.SyntaxFault.TheVariants as syntax_fault
-use Rattle.texts.proofs.Asking.{all-asked, asked-so-far, asked-turn, bad-at, lacking_at, one-more}
+use Rattle.texts.proofs.Asking.{all-asked, asked, asked-so-far, asked-turn, bad-at, lacking_at, one-more}
 use Rattle.texts.proofs.LineByLine.{behind}
 use Rattle.file_making.specs.Building.{IsBuilt}
 use Rattle.file_making.specs.Commands.{commands_read, line_read, numbered_read}
-use Rattle.file_making.specs.Description.{Refuses, RefusesCommands, RefusesDescription, MayLackRoom, carried, carried_out, at_line, described, nothing, of_syntax, then_by}
+use Rattle.file_making.specs.Description.{Refuses, RefusesDescription, MayLackRoom, carried, carried_out, at_line, described, nothing, of_syntax, then_by}
 use Rattle.file_making.specs.Faults.{of_syntax_fault}
 use Rattle.file_making.specs.Refusal.{refusal}
 use Rattle.file_making.specs.declared.building.Building.{Building}
 use Rattle.file_making.specs.declared.command.Command.{Command}
 use Rattle.file_making.specs.declared.fault.LineFault.{LineFault}
 use Rattle.file_making.specs.declared.fault.LineFault.TheVariants.{Bad, Name, Tree, NoMemory}
+
+-- when commands may be refused
+abbrev RefusesCommands : List (ℕ × Command) → ℕ × LineFault → Type 0
+RefusesCommands commands (n, NoMemory) = MayLackRoom commands n
+RefusesCommands commands fault = carried commands nothing ≡ Err fault
 
 -- commands behind others
 carried-append : (before others : List (ℕ × Command)) (k : Kept) → carried (before ++ others) k ≡ then_by (carried before k) (carried others)

@@ -76,11 +76,6 @@ pub record MayLackRoom (commands : List (ℕ × Command)) (n : ℕ) : Type 0 whe
   pub all : commands ≡ before ++ (n, command) ∷ behind
   pub carried_out : IsOk (carried (before ++ (n, command) ∷ []) nothing)
 
--- when commands may be refused
-abbrev pub RefusesCommands : List (ℕ × Command) → ℕ × LineFault → Type 0
-RefusesCommands commands (n, NoMemory) = MayLackRoom commands n
-RefusesCommands commands fault = carried commands nothing ≡ Err fault
-
 -- When a description may be refused. Memory may run out at a line while it is read, where it and all before it are
 -- within the grammar; or while it is carried out, where all lines are within the grammar and those up to it can be
 -- carried out.

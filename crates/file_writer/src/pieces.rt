@@ -11,7 +11,7 @@ use crate::entries::class_bytes;
 use cfb_directory::write::{EntryFields, write_entry, write_free_entry};
 use std::io::{self, Write};
 
-/// As many bytes as wait at the most before they are written.
+/// How many bytes are written at once: where as many wait, no more join them.
 const PIECE: usize = 65536;
 
 /// Room for all that may wait, of which the last bytes are fewer than a piece.

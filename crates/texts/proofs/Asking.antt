@@ -1,10 +1,16 @@
 -- The lines of a text that ask for something.
-use Rattle.std.proofs.Common.{◌≡◌, ◌+◌, ◌-◌, ◌++◌, ℕ, suc, Bool, true, false, List, [], ◌∷◌, Option, Some, None, Ok, Err, cond, take, slice_get, refl, sym, ap, ◌∙◌, append-nil, append_assoc, arith}
+use Rattle.std.proofs.Common.{◌≡◌, ◌+◌, ◌-◌, ◌++◌, ℕ, suc, Bool, true, false, List, [], ◌∷◌, Option, Some, None, Result, Ok, Err, cond, take, slice_get, refl, sym, ap, ◌∙◌, append-nil, append_assoc, arith}
 use Rattle.std.specs.Prelude.{IsSome}
 use Rattle.text_words.specs.Words.{lines}
-use Rattle.texts.specs.Lines.{asked, asking, is_skipped, put_first, lines_read, MayLackMemory}
+use Rattle.texts.specs.Lines.{asking, is_skipped, put_first, lines_read, MayLackMemory}
+use Rattle.texts.specs.declared.lines.SyntaxFault.{SyntaxFault}
 use Rattle.texts.specs.declared.lines.SyntaxFault.TheVariants.{Bad}
 use Rattle.texts.proofs.LineByLine.{behind, behind-first, behind-none, is_empty, ok_is, some_of}
+
+-- what lines ask for that are not skipped, or the first of them that is outside the grammar
+abbrev pub asked : {A : Type 0} → (ℕ → List ℕ → Option A) → List (ℕ × List ℕ) → Result (List A) (ℕ × SyntaxFault)
+asked read [] = Ok []
+asked read ((n, line) ∷ others) = put_first n (read n line) (asked read others)
 
 no_middle : {A : Type 0} (front : List A) (x : A) (back : List A) → ◌≡◌ {A = List A} [] (front ++ x ∷ back) → ⊥
 no_middle [] x back h = is_empty h

@@ -29,11 +29,6 @@ abbrev pub asking : ℕ → List (List ℕ) → List (ℕ × List ℕ)
 asking n [] = []
 asking n (line ∷ lines) = cond (is_skipped line) (asking (n + 1) lines) ((n, line) ∷ asking (n + 1) lines)
 
--- what such lines ask for, or the first of them that is outside the grammar
-abbrev pub asked : {A : Type 0} → (ℕ → List ℕ → Option A) → List (ℕ × List ℕ) → Result (List A) (ℕ × SyntaxFault)
-asked read [] = Ok []
-asked read ((n, line) ∷ others) = put_first n (read n line) (asked read others)
-
 -- Memory may have run out at line n: it asks for something, and it and all lines before it are within the grammar.
 pub record MayLackMemory {A : Type 0} (read : ℕ → List ℕ → Option A) (text : List ℕ) (n : ℕ) : Type 0 where
   pub line : List ℕ

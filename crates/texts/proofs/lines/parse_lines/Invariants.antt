@@ -1,6 +1,7 @@
 use Rattle.std.proofs.Common.{◌≡◌, ◌++◌, ℕ, List, length, Ok}
 use Rattle.text_words.specs.Words.{lines}
-use Rattle.texts.specs.Lines.{asked, asking}
+use Rattle.texts.specs.Lines.{asking}
+use Rattle.texts.proofs.Asking.{asked}
 use Rattle.texts.proofs.lines.parse_lines.Given as goal
 
 abbrev pub invariant-loop-number : goal.invariant-loop-number
