@@ -335,11 +335,29 @@ impl<'a> Fat<'a> {
         ensures kept { OnErr result (self.new ≡ self.old) }
     {
         let mini_stream = self.find(alloc, start, size as u64)?;
-        let pieces = self.mini_pieces(alloc, &mini_stream)?;
+        let mini = self.mini_over(alloc, mini_fat, &mini_stream, size)?;
+        self.mark(&mini_stream);
+        Ok(mini)
+    }
+
+    /// The table of the mini stream of `size` bytes that lies in some sectors, with the mini FAT that lies in others.
+    fn mini_over(
+        &self,
+        alloc: Global,
+        mini_fat: &[u32],
+        mini_stream: &[u32],
+        size: u32,
+    ) -> Result<Fat<'a>, AllocError>
+        requires present { All (λ n. n < length self.now.table) mini_fat.now }
+        requires few { length mini_fat.now < 2 ^ 32 }
+        requires there { All (λ n. n < length self.now.table) mini_stream.now }
+        requires either { (self.now.width ≡ 512) ⊎ (self.now.width ≡ 64) }
+        ensures { IfOk result (IsMiniTable self.now mini_fat.now mini_stream.now size) }
+    {
+        let pieces = self.mini_pieces(alloc, mini_stream)?;
         let count = (128 * mini_fat.len()).min((size as usize + 63) / 64);
         let next = self.mini_links(alloc, mini_fat, count)?;
         let used = vec![in alloc; false; count]?;
-        self.mark(&mini_stream);
         Ok(Fat { pieces, next, used })
     }
 

@@ -62,3 +62,47 @@ returns-clause-kept c = λ no_chain.
       table = c.self.inside.next;
       used = (again ∙ cleared ∙ c.as_mut_slice.ensures.value) i;
     }) ∙ c.self.view_is
+
+-- what the marks leave of the table is sound
+pub invariant_of-self : goal.invariant_of-self
+invariant_of-self c =
+    let after = c.mark_walk-walk.new.used in
+    let long : length after ≡ length c.as_mut_slice.result.now =
+    walk_long (λ n. get_or c.self.inside.next n 0) c.args.start c.as_mut_slice.result.now after c.mark_walk-walk.result.count c.mark_walk-walk.result.stop c.mark_walk-walk.ensures in
+    let kept : (with_items c.self.inside.used after).items ≡ after = with_items_is c.self.inside.used after (long ∙ c.as_mut_slice.ensures.len) in
+    (c.self.invariant.0 ∙ sym (ap length kept ∙ long ∙ ap length c.as_mut_slice.ensures.value), c.self.invariant.1)
+
+pub invariant_of-self-2 : goal.invariant_of-self-2
+invariant_of-self-2 c =
+    let after = c.mark_walk-walk.new.used in
+    let before = c.as_mut_slice.result.now in
+    let count = c.mark_walk-walk.result.count in
+    let stop = c.mark_walk-walk.result.stop in
+    let long = walk_long (λ n. get_or c.self.inside.next n 0) c.args.start before after count stop c.mark_walk-walk.ensures in
+    let kept : (with_items c.self.inside.used after).items ≡ after = with_items_is c.self.inside.used after (long ∙ c.as_mut_slice.ensures.len) in
+    let walk : IsWalk (λ n. get_or c.self.inside.next n 0) c.args.start before c.as_mut_slice-2.result.now count stop =
+    subst (λ now. IsWalk (λ n. get_or c.self.inside.next n 0) c.args.start before now count stop) (sym (c.as_mut_slice-2.ensures.value ∙ kept)) c.mark_walk-walk.ensures in
+    let cleared : c.clear_walk.new.used ≡ before = c.clear_walk.ensures before walk in
+    let again : (with_items (with_items c.self.inside.used after) c.clear_walk.new.used).items ≡ c.clear_walk.new.used =
+    with_items_is (with_items c.self.inside.used after) c.clear_walk.new.used (ap length cleared ∙ c.as_mut_slice.ensures.len) in
+    (c.self.invariant.0 ∙ sym (ap length (again ∙ cleared ∙ c.as_mut_slice.ensures.value)), c.self.invariant.1)
+
+pub clear_walk-requires-clause-each : goal.clear_walk-requires-clause-each
+clear_walk-requires-clause-each c =
+    let after = c.mark_walk-walk.new.used in
+    let long : length after ≡ length c.as_mut_slice.result.now =
+    walk_long (λ n. get_or c.self.inside.next n 0) c.args.start c.as_mut_slice.result.now after c.mark_walk-walk.result.count c.mark_walk-walk.result.stop c.mark_walk-walk.ensures in
+    let kept : (with_items c.self.inside.used after).items ≡ after = with_items_is c.self.inside.used after (long ∙ c.as_mut_slice.ensures.len) in
+    ap length (c.as_mut_slice-2.ensures.value ∙ kept) ∙ long ∙ ap length c.as_mut_slice.ensures.value ∙ sym c.self.invariant.0
+
+pub clear_walk-requires-clause-walked : goal.clear_walk-requires-clause-walked
+clear_walk-requires-clause-walked c =
+    let after = c.mark_walk-walk.new.used in
+    let before = c.as_mut_slice.result.now in
+    let count = c.mark_walk-walk.result.count in
+    let stop = c.mark_walk-walk.result.stop in
+    let long = walk_long (λ n. get_or c.self.inside.next n 0) c.args.start before after count stop c.mark_walk-walk.ensures in
+    let kept : (with_items c.self.inside.used after).items ≡ after = with_items_is c.self.inside.used after (long ∙ c.as_mut_slice.ensures.len) in (
+      before,
+      subst (λ now. IsWalk (λ n. get_or c.self.inside.next n 0) c.args.start before now count stop) (sym (c.as_mut_slice-2.ensures.value ∙ kept)) c.mark_walk-walk.ensures,
+    )

@@ -1,7 +1,11 @@
-use Rattle.std.proofs.Common.{◌≡◌, ◌*◌, ◌++◌, ◌∙◌, List, ℕ, ap, sym, subst, take}
-use Rattle.cfb_chain.specs.Fat.{FatValue, IsFound, IsMiniFound, IsMiniTable, marked, store_of}
-use Rattle.cfb_chain.proofs.Chains.{chain_once}
-use Rattle.cfb_chain.proofs.Marks.{free_rest, free_then, set_all-append}
+use Rattle.std.proofs.Common.{◌≡◌, ◌<◌, ◌*◌, ◌++◌, ◌∙◌, List, ℕ, ap, inr, length, refl, sym, subst, take}
+use Rattle.std.proofs.lemmas.List.Elements.{All-take}
+use Rattle.std.specs.List.{All}
+use Rattle.cfb_chain.specs.Fat.{AreFree, FatValue, IsFound, IsMiniFound, IsMiniTable, MayRefuse, marked, store_of}
+use Rattle.cfb_header.specs.declared.fault.ChainFault.TheVariants.{NoMemory}
+use Rattle.cfb_chain.proofs.Chains.{chain_below, chain_once}
+use Rattle.cfb_chain.proofs.Marks.{free_left, free_rest, free_then, set_all-append}
+use Rattle.cfb_chain.proofs.Results.{refused_with}
 use Rattle.cfb_chain.proofs.fat.Fat.mini.Goals as goal
 
 marked_twice : (f : FatValue) (ns ms : List ℕ) → marked (marked f ns) ms ≡ marked f (ns ++ ms)
@@ -18,6 +22,54 @@ same_table : (f g : FatValue) (ns xs ms : List ℕ) (size : ℕ) (m : FatValue) 
 same_table f g ns xs ms size m e h =
     let r : IsMiniTable (marked f ns) xs ms size m = subst (λ g. IsMiniTable g xs ms size m) e h in
     record { sectors = r.sectors; marks = r.marks }
+
+-- what is found has entries
+found_below : (f g : FatValue) (first bytes : ℕ) (ns xs : List ℕ) → g.table ≡ f.table → xs ≡ ns → IsFound f first bytes ns → All (λ n. n < length g.table) xs
+found_below f g first bytes ns xs same is h =
+    subst (λ (t : List ℕ). All (λ n. n < length t) xs) (sym same) (subst (All (λ n. n < length f.table)) (sym is) (chain_below (store_of f) first bytes ns h.chain))
+
+pub mark-requires : goal.mark-requires
+mark-requires c =
+    found_below c.args.self.now c.args.self.now c.first_mini_fat.result (512 * c.mini_fat_count.result) c.in_ok-mini_fat.mini_fat.items c.deref.result.now
+    refl c.deref.ensures.value c.in_ok-mini_fat.ensures.found
+
+pub mini_table-requires-clause-present : goal.mini_table-requires-clause-present
+mini_table-requires-clause-present c =
+    All-take (λ n. n < length c.mark.new.self.table) c.mini_fat_count-count.result c.deref-2.result.now
+    (found_below c.args.self.now c.mark.new.self c.first_mini_fat.result (512 * c.mini_fat_count.result) c.in_ok-mini_fat.mini_fat.items c.deref-2.result.now
+    (ap (λ (g : FatValue). g.table) c.mark.ensures) c.deref-2.ensures.value c.in_ok-mini_fat.ensures.found)
+
+pub clear-requires : goal.clear-requires
+clear-requires c =
+    found_below c.args.self.now c.mini_table.new.self c.first_mini_fat.result (512 * c.mini_fat_count.result) c.in_ok-mini_fat.mini_fat.items c.deref-in-Err.result.now
+    (ap (λ (g : FatValue). g.table) (c.in-Err.ensures.kept ∙ c.mark.ensures)) c.deref-in-Err.ensures.value c.in_ok-mini_fat.ensures.found
+
+pub returns-in_err-mini_fat-clause-there : goal.returns-in_err-mini_fat-clause-there
+returns-in_err-mini_fat-clause-there c = λ ns ms h.
+    let f = c.args.self.now in
+    let v = c.args.header.now in
+    let first : IsFound f v.first_mini_fat (512 * v.mini_fat_count) ns = record { chain = h.table; free = free_left f ns ms h.free } in
+    refused_with c.from_residual.result c.in_err-mini_fat.field-0.0 (λ e. e ≡ NoMemory) c.from_residual.ensures.1
+    (c.in_err-mini_fat.ensures.there ns
+    (subst (λ n. IsFound f n (512 * c.mini_fat_count.result) ns) (sym c.first_mini_fat.ensures)
+    (subst (λ n. IsFound f v.first_mini_fat (512 * n) ns) (sym c.mini_fat_count.ensures) first)))
+
+pub returns-clause-refused : goal.returns-clause-refused
+returns-clause-refused c =
+    let f = c.args.self.now in
+    let h = c.args.header.now in
+    let ns = c.in_ok-mini_fat.mini_fat.items in
+    let first : IsFound f h.first_mini_fat (512 * h.mini_fat_count) ns =
+    subst (λ n. IsFound f h.first_mini_fat (512 * n) ns) c.mini_fat_count.ensures
+    (subst (λ n. IsFound f n (512 * c.mini_fat_count.result) ns) c.first_mini_fat.ensures c.in_ok-mini_fat.ensures.found) in
+    let made : c.mark.new.self ≡ marked f ns = c.mark.ensures ∙ ap (marked f) c.deref.ensures.value in
+    inr (ns, first, subst (λ (g : FatValue). MayRefuse g c.args.start c.args.size c.in-Err.fault) made c.in-Err.ensures.refused)
+
+pub returns-clause-kept : goal.returns-clause-kept
+returns-clause-kept c =
+    let f = c.args.self.now in
+    c.clear.ensures f (c.in-Err.ensures.kept ∙ c.mark.ensures ∙ ap (marked f) (c.deref.ensures.value ∙ sym c.deref-in-Err.ensures.value))
+    (subst (AreFree f) (sym c.deref-in-Err.ensures.value) c.in_ok-mini_fat.ensures.found.free)
 
 pub returns-in-Ok-clause-found : goal.returns-in-Ok-clause-found
 returns-in-Ok-clause-found c =
