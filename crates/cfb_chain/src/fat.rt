@@ -1,13 +1,13 @@
 //! The table of sectors and its chains (MS-CFB 2.3, 2.4).
 
-ghost use Rattle.cfb_header.specs.Bytes.{block, joined, u32_at};
+ghost use Rattle.cfb_header.specs.Bytes.{block, joined, sector, u32_at};
 ghost use Rattle.cfb_chain.specs.Chain.{AreDistinct, FREE_SECTOR, IsChain};
 ghost use Rattle.cfb_header.specs.Header.{NAMED, difat_by, fat_by};
 ghost use Rattle.cfb_chain.specs.Fat.{AreFree, FatValue, IsFat, IsFound, IsFree, IsFreeChain, IsMiniFound, IsMiniTable, IsTableOf, MayRefuse, MayRefuseChain, MayRefuseFat, MayRefuseMini, followed, held, marked, sectors_in, store_of};
 ghost use Rattle.cfb_chain.specs.View.{bytes_of, image_bytes, start_of, width_of};
 ghost use Rattle.cfb_header.specs.declared.fault.ChainFault.TheVariants.{CrossLinked, Cycle, NoMemory, OutOfFile, ShortChain};
 ghost use Rattle.std.specs.List.{All, Contains};
-ghost use Rattle.std.specs.Prelude.{◌*◌, ◌+◌, ◌++◌, ◌<◌, ◌^◌, ◌≡◌, ◌≢◌, ◌≤◌, ◌↔◌, ◌⊎◌, IfErr, IfNone, IfOk, IfSome, IsTrue, List, OnErr, OnOk, false, length, slice_index, take, true, ℕ};
+ghost use Rattle.std.specs.Prelude.{◌*◌, ◌+◌, ◌++◌, ◌<◌, ◌^◌, ◌≡◌, ◌≢◌, ◌≤◌, ◌↔◌, ◌⊎◌, IfErr, IfNone, IfOk, IfSome, IsTrue, List, OnErr, OnOk, false, length, replicate, slice_index, take, true, ℕ};
 
 use crate::difat::{FatSectors, fat_sectors};
 use crate::image::{Image, join_placed};
@@ -187,15 +187,30 @@ impl<'a> Fat<'a> {
         check_apart(&sectors.difat)?;
         let own = sectors.all(alloc)?;
         check_present(&own, count)?;
-        let next = Links::load(alloc, &file, &sectors.fat, count)?;
+        let mut fat = Fat::unmarked(alloc, file, &sectors.fat, count)?;
+        fat.mark_apart(&own)?;
+        Ok(fat)
+    }
+
+    /// The table of a file that lies in these sectors, with so many entries, none of them marked.
+    fn unmarked(
+        alloc: Global,
+        file: Image<'a>,
+        fat: &[u32],
+        count: usize,
+    ) -> Result<Fat<'a>, AllocError>
+        requires few { count ≤ 0xFFFFFFF9 }
+        ensures made { IfOk result (λ f. f ≡ record { bytes = image_bytes file.entry; start = 512; width = 512; table = f.table; used = replicate count false }) }
+        ensures count { IfOk result (λ f. length f.table ≡ count) }
+        ensures each { IfOk result (λ f. (k : ℕ) → k < count → slice_index f.table k ≡ u32_at (joined (sector (image_bytes file.entry)) fat.now) (4 * k)) }
+    {
+        let next = Links::load(alloc, &file, fat, count)?;
         let used = vec![in alloc; false; count]?;
-        let mut fat = Fat {
+        Ok(Fat {
             pieces: Pieces::Sectors(file),
             next,
             used,
-        };
-        fat.mark_apart(&own)?;
-        Ok(fat)
+        })
     }
 
     /// The chain from a sector on, whose sectors it marks. A refusal marks none.

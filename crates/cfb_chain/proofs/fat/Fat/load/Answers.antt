@@ -1,8 +1,8 @@
-use Rattle.std.proofs.Common.{◌<◌, ◌≤◌, ◌≡◌, ◌++◌, ◌*◌, ℕ, List, arith, length, refl, ap, ◌∙◌, sym, subst, min}
+use Rattle.std.proofs.Common.{◌<◌, ◌≤◌, ◌≡◌, ◌++◌, ◌*◌, ℕ, List, arith, false, length, refl, replicate, ap, ◌∙◌, sym, subst, min}
 use Rattle.cfb_header.specs.Bytes.{joined, sector}
 use Rattle.cfb_chain.specs.Chain.{AreDistinct}
 use Rattle.std.specs.List.{All, Contains}
-use Rattle.cfb_chain.specs.Fat.{MayRefuseFat, sectors_in}
+use Rattle.cfb_chain.specs.Fat.{AreFree, FatValue, MayRefuseFat, marked, sectors_in}
 use Rattle.cfb_header.specs.Header.{HeaderValue, difat_by, fat_by}
 use Rattle.cfb_header.specs.declared.fault.ChainFault.TheVariants.{Cycle, NoMemory}
 use Rattle.cfb_chain.specs.View.{image_bytes}
@@ -113,8 +113,9 @@ returns-in_err-mark_apart-clause-refused c =
     refused_with c.from_residual-in_err-mark_apart.result c.in_err-mark_apart.field-0.0 (MayRefuseFat file h) c.from_residual-in_err-mark_apart.ensures.1
     (subst (MayRefuseFat file h) (sym r.0)
     (crossed file h c.deref-4.result.now (c.deref-4.ensures.value ∙ own_is) whole c.count_entries-count.result counted
-    c.in_ok-next.next c.in_ok-used.used.items c.in_ok-next.ensures.count (c.in_ok-used.ensures.items_if_clones_equal (λ y e. e))
-    (subst (λ xs. All (λ n. n < c.count_entries-count.result) xs) (c.deref-2.ensures.value ∙ sym c.deref-4.ensures.value) c.in_ok-check_present-2.ensures.present) r.1))
+    c.in_ok-fat.fat.table (replicate c.count_entries-count.result false) c.in_ok-fat.ensures.count refl
+    (subst (λ xs. All (λ n. n < c.count_entries-count.result) xs) (c.deref-2.ensures.value ∙ sym c.deref-4.ensures.value) c.in_ok-check_present-2.ensures.present)
+    (subst (λ (f : FatValue). AreFree f c.deref-4.result.now → ⊥) c.in_ok-fat.ensures.made r.1)))
 
 pub returns-in_err-mark_apart-clause-there : goal.returns-in_err-mark_apart-clause-there
 returns-in_err-mark_apart-clause-there c = λ g.
@@ -131,8 +132,9 @@ returns-in_err-mark_apart-clause-there c = λ g.
     (refused_not_fat file h c.in_err-mark_apart.field-0.0 g
     (subst (MayRefuseFat file h) (sym r.0)
     (crossed file h c.deref-4.result.now (c.deref-4.ensures.value ∙ own_is) whole c.count_entries-count.result counted
-    c.in_ok-next.next c.in_ok-used.used.items c.in_ok-next.ensures.count (c.in_ok-used.ensures.items_if_clones_equal (λ y e. e))
-    (subst (λ xs. All (λ n. n < c.count_entries-count.result) xs) (c.deref-2.ensures.value ∙ sym c.deref-4.ensures.value) c.in_ok-check_present-2.ensures.present) r.1)))
+    c.in_ok-fat.fat.table (replicate c.count_entries-count.result false) c.in_ok-fat.ensures.count refl
+    (subst (λ xs. All (λ n. n < c.count_entries-count.result) xs) (c.deref-2.ensures.value ∙ sym c.deref-4.ensures.value) c.in_ok-check_present-2.ensures.present)
+    (subst (λ (f : FatValue). AreFree f c.deref-4.result.now → ⊥) c.in_ok-fat.ensures.made r.1))))
 
 pub returns-in_err-sectors-clause-refused : goal.returns-in_err-sectors-clause-refused
 returns-in_err-sectors-clause-refused c =
@@ -162,29 +164,15 @@ returns-in_err-own-clause-refused c =
           (subst (λ xs. All (λ n. n < c.count_entries-count.result) xs) c.fat.ensures c.in_ok-check_present.ensures.present),
     )
 
-pub returns-in_err-next-clause-refused : goal.returns-in_err-next-clause-refused
-returns-in_err-next-clause-refused c =
+pub returns-in_err-fat-clause-refused : goal.returns-in_err-fat-clause-refused
+returns-in_err-fat-clause-refused c =
     let file : List ℕ = image_bytes c.args.file in
     let h : HeaderValue = c.args.header.now in
     let whole : length (fat_by file h) ≡ h.fat_count = all_listed file h c.in_ok-check_room.ensures.enough in
     let counted : c.count_entries-count.result ≡ min (128 * h.fat_count) (sectors_in file) =
     c.count_entries-count.ensures ∙ ap (λ n. min (128 * n) (sectors_in file)) c.fat_count.ensures.count in
     let few : h.fat_count ≤ 1125 = omega (arith, c.fat_count.ensures.few, c.fat_count.ensures.count) in
-    refused_with c.from_residual-in_err-next.result NoMemory (MayRefuseFat file h) c.from_residual-in_err-next.ensures.1 (
-      whole,
-      all_present file h (fat_by file h ++ difat_by file h) refl whole c.count_entries-count.result counted h.fat few
-          (subst (λ xs. All (λ n. n < c.count_entries-count.result) xs) c.fat.ensures c.in_ok-check_present.ensures.present),
-    )
-
-pub returns-in_err-used-clause-refused : goal.returns-in_err-used-clause-refused
-returns-in_err-used-clause-refused c =
-    let file : List ℕ = image_bytes c.args.file in
-    let h : HeaderValue = c.args.header.now in
-    let whole : length (fat_by file h) ≡ h.fat_count = all_listed file h c.in_ok-check_room.ensures.enough in
-    let counted : c.count_entries-count.result ≡ min (128 * h.fat_count) (sectors_in file) =
-    c.count_entries-count.ensures ∙ ap (λ n. min (128 * n) (sectors_in file)) c.fat_count.ensures.count in
-    let few : h.fat_count ≤ 1125 = omega (arith, c.fat_count.ensures.few, c.fat_count.ensures.count) in
-    refused_with c.from_residual-in_err-used.result NoMemory (MayRefuseFat file h) c.from_residual-in_err-used.ensures.1 (
+    refused_with c.from_residual-in_err-fat.result NoMemory (MayRefuseFat file h) c.from_residual-in_err-fat.ensures.1 (
       whole,
       all_present file h (fat_by file h ++ difat_by file h) refl whole c.count_entries-count.result counted h.fat few
           (subst (λ xs. All (λ n. n < c.count_entries-count.result) xs) c.fat.ensures c.in_ok-check_present.ensures.present),
@@ -201,8 +189,9 @@ returns-clause-table c =
     let own_is : c.in_ok-own.own.items ≡ fat_by file h ++ difat_by file h =
     c.in_ok-own.ensures ∙ (λ i. c.in_ok-sectors.ensures.fat i ++ c.in_ok-sectors.ensures.difat i) in
     loaded file h c.deref-4.result.now (c.deref-4.ensures.value ∙ own_is) whole c.count_entries-count.result counted
-    c.in_ok-next.next c.in_ok-used.used.items (joined (sector file) c.deref-3.result.now) c.mark_apart.new.self few
+    c.in_ok-fat.fat.table (replicate c.count_entries-count.result false) (joined (sector file) c.deref-3.result.now) c.mark_apart.new.self few
     (subst (λ xs. All (λ n. n < c.count_entries-count.result) xs) (c.deref-2.ensures.value ∙ sym c.deref-4.ensures.value) c.in_ok-check_present-2.ensures.present)
-    (ap (joined (sector file)) (c.deref-3.ensures.value ∙ c.in_ok-sectors.ensures.fat)) c.in_ok-next.ensures.count c.in_ok-next.ensures.each
-    (c.in_ok-used.ensures.items_if_clones_equal (λ y e. e))
-    c.in_ok-mark_apart.ensures.free c.in_ok-mark_apart.ensures.marks
+    (ap (joined (sector file)) (c.deref-3.ensures.value ∙ c.in_ok-sectors.ensures.fat)) c.in_ok-fat.ensures.count c.in_ok-fat.ensures.each
+    refl
+    (subst (λ (f : FatValue). AreFree f c.deref-4.result.now) c.in_ok-fat.ensures.made c.in_ok-mark_apart.ensures.free)
+    (c.in_ok-mark_apart.ensures.marks ∙ ap (λ f. marked f c.deref-4.result.now) c.in_ok-fat.ensures.made)
