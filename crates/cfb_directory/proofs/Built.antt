@@ -1,9 +1,9 @@
 -- Building a tree of siblings from their names.
-use Rattle.std.proofs.Common.{◌≡◌, ◌≢◌, ◌<◌, ◌≤◌, ◌+◌, ◌-◌, ◌/◌, ℕ, zero, suc, false, inl, inr, List, [], ◌∷◌, ◌++◌, length, get_or, set, eqb, nat_cmp, refl, sym, ◌∙◌, ap, subst, arith, get_or-set_other, get_or-set_same}
+use Rattle.std.proofs.Common.{◌≡◌, ◌≢◌, ◌<◌, ◌≤◌, ◌+◌, ◌-◌, ◌/◌, ℕ, zero, suc, false, inl, inr, List, [], ◌∷◌, ◌++◌, length, take, drop, get_or, set, eqb, nat_cmp, refl, sym, ◌∙◌, ap, subst, arith, get_or-set_other, get_or-set_same}
 use Rattle.std.proofs.lemmas.Bool.{cases_lt}
 use Rattle.std.proofs.lemmas.Bool.Decides.{Decides-eqb, eqb_tells}
 use Rattle.std.proofs.lemmas.List.{get_or_default, get_or-map, length-map}
-use Rattle.std.proofs.lemmas.List.Elements.{Contains-append_left, Contains-append_right}
+use Rattle.std.proofs.lemmas.List.Elements.{All-drop, All-take, Contains-append_left, Contains-append_right}
 use Rattle.std.proofs.lemmas.List.FromFn.{get_or-range_with_len, length-range_with_len}
 use Rattle.std.proofs.lemmas.List.Sorted.{All-permutation, IsPermutation-map}
 use Rattle.std.proofs.lemmas.Map.Keys.{IsDistinct-IsPermutation}
@@ -184,3 +184,11 @@ tree_around xs ys xs' ys' before after k l r once kx ky m a kept_x kept_y b =
     (λ z c. other xs' l z (not_after z c)) (λ z c. other ys' r z (not_after z c)) in
     somebody k before after m (subst (λ (x : ℕ). IsTree (set xs' k l) (set ys' k r) x before) (sym (get_or-set_same xs' k l 0 kx)) A)
     (subst (λ (x : ℕ). IsTree (set xs' k l) (set ys' k r) x after) (sym (get_or-set_same ys' k r 0 ky)) B)
+
+-- what both halves keep, and the link of the one between them
+pub kept_around : (order old half whole : List ℕ) (m n l : ℕ) → m < length order → KeepsOthers (take m order) old half
+    → KeepsOthers (take n (drop (m + 1) order)) half whole → KeepsOthers order old (set whole (get_or order m 0) l)
+kept_around order old half whole m n l lt before after z apart =
+    get_or-set_other whole (get_or order m 0) z l 0 (λ e. apart m 0 lt (sym e))
+    ∙ after z (All-take (λ k. k ≢ z) n (drop (m + 1) order) (All-drop (λ k. k ≢ z) (m + 1) order apart))
+    ∙ before z (All-take (λ k. k ≢ z) m order apart)

@@ -3,7 +3,7 @@ use Rattle.std.proofs.lemmas.Bool.{eq-eqb, eqb-true}
 use Rattle.std.proofs.lemmas.List.{length-take-le, nil_from_length, take-append-drop, take_all}
 use Rattle.cfb_bytes.specs.Marks.{AreDistinct}
 use Rattle.cfb_directory.specs.SearchTree.{IsTree, nobody}
-use Rattle.cfb_directory.proofs.Built.{tree_around}
+use Rattle.cfb_directory.proofs.Built.{kept_around, tree_around}
 use Rattle.cfb_directory.proofs.links.+join.Goals as goal
 
 pub returns-then-is_empty-clause-tree : goal.returns-then-is_empty-clause-tree
@@ -30,3 +30,21 @@ returns-clause-tree t c =
     subst (IsTree (set c.join-after.new.left k c.join-before.result) (set c.join-after.new.right k c.join-after.result) k) (sym split)
     (tree_around c.join-before.new.left c.join-before.new.right c.join-after.new.left c.join-after.new.right before after k c.join-before.result c.join-after.result
     (subst AreDistinct split c.requires.once) in_left in_right half c.join-before.ensures.tree c.join-after.ensures.kept_left c.join-after.ensures.kept_right c.join-after.ensures.tree)
+
+pub returns-clause-kept_left : goal.returns-clause-kept_left
+returns-clause-kept_left t c =
+    let order : List ℕ = c.args.order.now in
+    let m : ℕ = length order / 2 in
+    let none : eqb (length order) 0 ≡ false = sym c.is_empty.ensures ∙ c.if-is_empty.false in
+    let ne : length order ≢ 0 = λ e. let t : eqb (length order) 0 ≡ true = eq-eqb (length order) 0 e in absurd (cc (t, none)) in
+    kept_around order c.args.left.now c.join-before.new.left c.join-after.new.left m (length order - (m + 1)) c.join-before.result (omega arith)
+    c.join-before.ensures.kept_left c.join-after.ensures.kept_left
+
+pub returns-clause-kept_right : goal.returns-clause-kept_right
+returns-clause-kept_right t c =
+    let order : List ℕ = c.args.order.now in
+    let m : ℕ = length order / 2 in
+    let none : eqb (length order) 0 ≡ false = sym c.is_empty.ensures ∙ c.if-is_empty.false in
+    let ne : length order ≢ 0 = λ e. let t : eqb (length order) 0 ≡ true = eq-eqb (length order) 0 e in absurd (cc (t, none)) in
+    kept_around order c.args.right.now c.join-before.new.right c.join-after.new.right m (length order - (m + 1)) c.join-after.result (omega arith)
+    c.join-before.ensures.kept_right c.join-after.ensures.kept_right
