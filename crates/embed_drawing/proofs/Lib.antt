@@ -1,4 +1,5 @@
 pub mod Behind
+pub mod Boxed
 pub mod Over
 pub mod Listed
 pub mod Moved

@@ -1,6 +1,6 @@
 //! The shapes of a drawing.
 
-ghost use Rattle.embed_core.specs.Content.{is_shape, shape_line};
+ghost use Rattle.embed_core.specs.Content.{across, box, down, is_shape, line, shape_line};
 ghost use Rattle.embed_core.specs.Reading.{box_of, line_of, direction_of, pair_of, shape_in, shape_of};
 ghost use Rattle.text_words.specs.Words.{number_read, words};
 ghost use Rattle.embed_drawing.specs.Drawn.{direction_told, shape_told};
@@ -144,19 +144,43 @@ pub fn push_line(text: &mut String, figure: &Figure) -> Result<(), AllocError>
             y,
             width,
             height,
-        } => writeln!(text, "b {x} {y} {width} {height}")?,
+        } => push_rectangle(text, x, y, width, height),
         Figure::Line {
             x,
             y,
             heading: Heading::Across,
             length,
-        } => writeln!(text, "l {x} {y} h {length}")?,
+        } => push_across(text, x, y, length),
         Figure::Line {
             x,
             y,
             heading: Heading::Down,
             length,
-        } => writeln!(text, "l {x} {y} v {length}")?,
+        } => push_down(text, x, y, length),
     }
-    Ok(())
+}
+
+// The proof of a function spells out what it writes at each of its steps, so each of the three lines has a function of its own.
+fn push_rectangle(
+    text: &mut String,
+    x: u32,
+    y: u32,
+    width: u32,
+    height: u32,
+) -> Result<(), AllocError>
+    ensures { OnOk result (string_bytes text.new ≡ string_bytes text.old ++ shape_line (box x y width height)) }
+{
+    writeln!(text, "b {x} {y} {width} {height}")
+}
+
+fn push_across(text: &mut String, x: u32, y: u32, length: u32) -> Result<(), AllocError>
+    ensures { OnOk result (string_bytes text.new ≡ string_bytes text.old ++ shape_line (line x y across length)) }
+{
+    writeln!(text, "l {x} {y} h {length}")
+}
+
+fn push_down(text: &mut String, x: u32, y: u32, length: u32) -> Result<(), AllocError>
+    ensures { OnOk result (string_bytes text.new ≡ string_bytes text.old ++ shape_line (line x y down length)) }
+{
+    writeln!(text, "l {x} {y} v {length}")
 }
