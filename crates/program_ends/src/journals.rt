@@ -3,10 +3,10 @@
 
 use crate::ends::refuse;
 use fault_lines::report::Report;
+use std::fs;
 use std::io::Read;
 use std::process::ExitCode;
 use std::rt::{Files, Runtime};
-use std::{fs, io};
 
 /// How many bytes an open journal has at least, of which the first is its gate.
 const HEADER: usize = 9;
@@ -14,20 +14,29 @@ const HEADER: usize = 9;
 /// The gate of a journal that is open.
 const OPEN: u8 = 1;
 
-/// Whether the journal beside a file is open.
-fn reads_as_open<R: Files + AllocGlobal>(rt: &R, path: &str) -> io::Result<bool> {
-    let name = format!(in rt.alloc(); "{path}.journal")?;
-    if !fs::metadata(rt, name.as_str())?.is_file() {
-        return Ok(false);
+/// Whether a path leads to a regular file.
+fn is_file<R: Files>(rt: &R, path: &str) -> bool {
+    match fs::metadata(rt, path) {
+        Ok(found) => found.is_file(),
+        Err(_) => false,
     }
+}
+
+/// Whether the gate of a journal is open.
+fn has_open_gate<R: Files>(rt: &R, journal: &str) -> bool {
     let mut head = [0; HEADER];
-    fs::open(rt, name.as_str())?.read_exact(&mut head)?;
-    Ok(head[0] == OPEN)
+    match fs::open(rt, journal) {
+        Ok(mut file) => file.read_exact(&mut head).is_ok() && head[0] == OPEN,
+        Err(_) => false,
+    }
 }
 
 /// Whether a save of a file was cut off. A journal that isn't there, or can't be read, counts as closed.
 fn is_unfinished<R: Files + AllocGlobal>(rt: &R, path: &str) -> bool {
-    matches!(reads_as_open(rt, path), Ok(true))
+    match format!(in rt.alloc(); "{path}.journal") {
+        Ok(journal) => is_file(rt, journal.as_str()) && has_open_gate(rt, journal.as_str()),
+        Err(_) => false,
+    }
 }
 
 /// Refuses to replace a file of which a save was cut off, and gives the status to end with.
