@@ -2,7 +2,7 @@
 
 use crate::finding::Stream;
 use crate::runs::{Run, sectors_of};
-use crate::sectors::{piece, put_filled};
+use crate::sectors::{number_bytes, piece, put_filled};
 use crate::tables::{free_table, link_all};
 use std::alloc::{AllocError, Global};
 
@@ -36,11 +36,11 @@ impl Minis {
         self.count.saturating_mul(64)
     }
 
-    /// The mini FAT.
-    pub(crate) fn table(&self, alloc: Global) -> Result<Vec<u32>, AllocError> {
+    /// The bytes of the mini FAT.
+    pub(crate) fn fat_bytes(&self, alloc: Global) -> Result<Vec<u8>, AllocError> {
         let mut table = free_table(alloc, 128 * self.fat_sectors() as usize)?;
         link_all(&mut table, &self.runs);
-        Ok(table)
+        number_bytes(alloc, &table)
     }
 }
 

@@ -3,15 +3,14 @@
 ghost use Rattle.file_placing.specs.declared.free.TheConstants.{MOST};
 ghost use Rattle.std.specs.Prelude.{◌≤◌, ◌*◌, IfOk, IfSome};
 
-use crate::entries::{StreamRuns, count_below, directory_of};
+use crate::entries::count_below;
 use crate::finding::{Stream, push_streams};
 use crate::freed::Freed;
 use crate::minis::{Minis, minis_in};
 use crate::parts::{Parts, chain_of, parts_of};
-use crate::runs::{MINI_STREAM, Run, STREAMS, fill_runs, sectors_of};
-use crate::sectors::{SECTOR, joined, number_bytes};
-use crate::tables::first_of;
-use crate::writing::{Laid, difat_numbers, fat_of, header_of};
+use crate::runs::{Run, fill_runs};
+use crate::sectors::{SECTOR, joined};
+use crate::writing::{Laid, header_of, system_bytes};
 use cfb_header::header::Header;
 use file_model::limit::{MANY, MOST_FAT_SECTORS};
 use file_model::need::{difat_sectors, fat_sectors};
@@ -65,6 +64,34 @@ struct Counts {
     mini_stream: usize,
 }
 
+/// Adds the run of one of the system's parts, which keeps the front of its sectors.
+fn push_front(
+    alloc: Global,
+    runs: &mut Vec<Run>,
+    was: &[u32],
+    count: usize,
+) -> Result<(), AllocError> {
+    runs.push(Run::front(alloc, was, count)?)?;
+    Ok(())
+}
+
+/// Adds those of all of them.
+fn push_parts(
+    alloc: Global,
+    runs: &mut Vec<Run>,
+    was: &Parts,
+    counts: Counts,
+) -> Result<(), AllocError>
+    requires { counts.fat ≤ MOST_FAT_SECTORS }
+{
+    let difat = difat_sectors(counts.fat) as usize;
+    push_front(alloc, runs, &was.own.fat, counts.fat as usize)?;
+    push_front(alloc, runs, &was.own.difat, difat)?;
+    push_front(alloc, runs, &was.chains.directory, counts.directory)?;
+    push_front(alloc, runs, &was.chains.mini_fat, counts.mini_fat)?;
+    push_front(alloc, runs, &was.chains.mini_stream, counts.mini_stream)
+}
+
 /// The runs of all parts, with what each keeps: the system's parts the front of theirs, the streams all or nothing.
 fn kept_runs(
     alloc: Global,
@@ -75,12 +102,7 @@ fn kept_runs(
     requires { counts.fat ≤ MOST_FAT_SECTORS }
 {
     let mut runs = Vec::new(alloc);
-    let difat = difat_sectors(counts.fat) as usize;
-    runs.push(Run::front(alloc, &was.fat, counts.fat as usize)?)?;
-    runs.push(Run::front(alloc, &was.difat, difat)?)?;
-    runs.push(Run::front(alloc, &was.directory, counts.directory)?)?;
-    runs.push(Run::front(alloc, &was.mini_fat, counts.mini_fat)?)?;
-    runs.push(Run::front(alloc, &was.mini_stream, counts.mini_stream)?)?;
+    push_parts(alloc, &mut runs, was, counts)?;
     push_runs(alloc, &mut runs, streams, false, &was.next)?;
     Ok(runs)
 }
@@ -191,24 +213,57 @@ fn laid<'a>(
     let Some(header) = header_of(&runs, minis.fat_sectors()) else {
         return Ok(None);
     };
-    let stream_runs = StreamRuns {
-        minis: &minis.runs,
-        sectors: &runs[STREAMS.min(runs.len())..],
-    };
-    let mini_stream = first_of(sectors_of(&runs, MINI_STREAM));
-    let directory = directory_of(alloc, root, stream_runs, mini_stream, minis.bytes())?;
+    let system = system_bytes(alloc, root, &runs, &minis)?;
+    let streams = long_streams(alloc, streams)?;
+    let filler = freed.filler(alloc)?;
     Ok(Some(Laid {
         count,
-        header,
-        fat: number_bytes(alloc, &fat_of(alloc, &runs)?)?,
-        difat: number_bytes(alloc, &difat_numbers(alloc, &runs)?)?,
-        directory,
-        mini_fat: number_bytes(alloc, &minis.table(alloc)?)?,
-        mini_stream: minis.stream,
-        streams: long_streams(alloc, streams)?,
-        filler: freed.filler(alloc)?,
         runs,
+        header,
+        system,
+        mini_stream: minis.stream,
+        streams,
+        filler,
     }))
+}
+
+/// The mini sectors that the short ones of these streams have, with what the older mini stream keeps. None where they don't
+/// stay within the limit.
+fn minis_over(
+    alloc: Global,
+    old: &[u8],
+    was: &Parts,
+    streams: &[Stream<'_>],
+    freed: Freed,
+) -> Result<Option<Minis>, AllocError> {
+    let mut runs = Vec::new(alloc);
+    push_runs(alloc, &mut runs, streams, true, &was.next_mini)?;
+    let Some(count) = fill_runs(alloc, &mut runs)? else {
+        return Ok(None);
+    };
+    let kept = minis_kept(alloc, old, &was.chains.mini_stream, freed)?;
+    let minis = minis_in(alloc, kept, streams, runs, count)?;
+    Ok(Some(minis))
+}
+
+/// The file of a tree with this root and these streams in the sectors of an older one, whose parts lay here.
+fn place_streams<'a>(
+    alloc: Global,
+    old: &[u8],
+    was: &Parts,
+    root: &Storage,
+    streams: &[Stream<'a>],
+    freed: Freed,
+) -> Result<Option<Laid<'a>>, AllocError> {
+    let Some(minis) = minis_over(alloc, old, was, streams, freed)? else {
+        return Ok(None);
+    };
+    let entries = count_below(root) as usize + 1;
+    let least = least_of(streams, &minis, entries.div_ceil(4));
+    let Some(placed) = place_within(alloc, was, streams, least)? else {
+        return Ok(None);
+    };
+    laid(alloc, freed, root, streams, minis, placed)
 }
 
 /// The file of a tree with this root in the sectors of an older one, which has this outline. A stream whose number of
@@ -230,17 +285,5 @@ pub fn place_over<'a>(
     let was = parts_of(alloc, &header, old)?;
     let mut streams = Vec::new(alloc);
     push_streams(&mut streams, root, Some(outline))?;
-    let mut mini_runs = Vec::new(alloc);
-    push_runs(alloc, &mut mini_runs, &streams, true, &was.next_mini)?;
-    let Some(count) = fill_runs(alloc, &mut mini_runs)? else {
-        return Ok(None);
-    };
-    let old_minis = minis_kept(alloc, old, &was.mini_stream, freed)?;
-    let minis = minis_in(alloc, old_minis, &streams, mini_runs, count)?;
-    let entries = count_below(root) as usize + 1;
-    let least = least_of(&streams, &minis, entries.div_ceil(4));
-    let Some(placed) = place_within(alloc, &was, &streams, least)? else {
-        return Ok(None);
-    };
-    laid(alloc, freed, root, &streams, minis, placed)
+    place_streams(alloc, old, &was, root, &streams, freed)
 }

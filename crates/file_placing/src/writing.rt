@@ -3,13 +3,16 @@
 ghost use Rattle.file_model.specs.declared.limit.TheConstants.{MOST_FAT_SECTORS};
 ghost use Rattle.std.specs.Prelude.{◌≤◌, ◌<◌, ◌^◌, ◌+◌, ◌*◌, IfOk, length};
 
+use crate::entries::{StreamRuns, directory_of};
+use crate::minis::Minis;
 use crate::runs::{DIFAT, DIRECTORY, FAT, MINI_FAT, MINI_STREAM, Run, STREAMS, sectors_of};
-use crate::sectors::{SECTOR, piece};
+use crate::sectors::{SECTOR, number_bytes, piece};
 use crate::tables::{entry_at, first_of, free_table, link_all, set_all};
 use cfb_chain::fat::FREE_SECTOR;
 use cfb_header::header::{END_OF_CHAIN, Header, LISTED, MOST_DIFAT_SECTORS, NAMED};
 use file_model::limit::MOST_FAT_SECTORS;
 use std::alloc::{AllocError, Global};
+use storage_tree::storage::Storage;
 
 /// The value of a sector that holds a part of the FAT.
 const FAT_SECTOR: u32 = 0xffff_fffd;
@@ -17,14 +20,14 @@ const FAT_SECTOR: u32 = 0xffff_fffd;
 /// The value of a sector that holds a part of the DIFAT.
 const DIFAT_SECTOR: u32 = 0xffff_fffc;
 
-/// The FAT of a file whose parts lie in these runs.
-pub(crate) fn fat_of(alloc: Global, runs: &[Run]) -> Result<Vec<u32>, AllocError> {
+/// The bytes of the FAT of a file whose parts lie in these runs.
+fn fat_bytes(alloc: Global, runs: &[Run]) -> Result<Vec<u8>, AllocError> {
     let fat = sectors_of(runs, FAT);
     let mut table = free_table(alloc, fat.len().saturating_mul(128))?;
     link_all(&mut table, runs);
     set_all(&mut table, fat, FAT_SECTOR);
     set_all(&mut table, sectors_of(runs, DIFAT), DIFAT_SECTOR);
-    Ok(table)
+    number_bytes(alloc, &table)
 }
 
 /// Adds the FAT's sectors from one on, as many as a DIFAT sector names.
@@ -37,9 +40,9 @@ fn push_named(numbers: &mut Vec<u32>, fat: &[u32], from: usize) -> Result<(), Al
     Ok(())
 }
 
-/// The numbers of the DIFAT of a file whose parts lie in these runs: the FAT's sectors that the header has no room for, in
+/// The bytes of the DIFAT of a file whose parts lie in these runs: the FAT's sectors that the header has no room for, in
 /// each sector as many as it names, and the DIFAT sector that is next.
-pub(crate) fn difat_numbers(alloc: Global, runs: &[Run]) -> Result<Vec<u32>, AllocError> {
+fn difat_bytes(alloc: Global, runs: &[Run]) -> Result<Vec<u8>, AllocError> {
     let fat = sectors_of(runs, FAT);
     let difat = sectors_of(runs, DIFAT);
     let mut numbers = Vec::new(alloc);
@@ -47,7 +50,7 @@ pub(crate) fn difat_numbers(alloc: Global, runs: &[Run]) -> Result<Vec<u32>, All
         push_named(&mut numbers, fat, LISTED + NAMED * k)?;
         numbers.push(entry_at(difat, k + 1, END_OF_CHAIN))?;
     }
-    Ok(numbers)
+    number_bytes(alloc, &numbers)
 }
 
 /// The header of a file whose parts lie in these runs; none for more sectors of the FAT or of the DIFAT than a file has.
@@ -64,16 +67,56 @@ pub(crate) fn header_of(runs: &[Run], mini_fat_count: u32) -> Option<[u8; 512]> 
     }
 }
 
+/// What stands in the system's parts of a file, but for the mini stream.
+#[derive(Drop)]
+pub(crate) struct SystemBytes {
+    fat: Vec<u8>,
+    difat: Vec<u8>,
+    directory: Vec<u8>,
+    mini_fat: Vec<u8>,
+}
+
+/// The directory of a file whose parts lie in these runs, and whose tree has this root.
+fn directory_bytes(
+    alloc: Global,
+    root: &Storage,
+    runs: &[Run],
+    minis: &Minis,
+) -> Result<Vec<u8>, AllocError> {
+    let streams = StreamRuns {
+        minis: &minis.runs,
+        sectors: &runs[STREAMS.min(runs.len())..],
+    };
+    let mini_stream = first_of(sectors_of(runs, MINI_STREAM));
+    directory_of(alloc, root, streams, mini_stream, minis.bytes())
+}
+
+/// What stands in the system's parts of a file whose parts lie in these runs, and whose tree has this root.
+pub(crate) fn system_bytes(
+    alloc: Global,
+    root: &Storage,
+    runs: &[Run],
+    minis: &Minis,
+) -> Result<SystemBytes, AllocError> {
+    let fat = fat_bytes(alloc, runs)?;
+    let difat = difat_bytes(alloc, runs)?;
+    let directory = directory_bytes(alloc, root, runs, minis)?;
+    let mini_fat = minis.fat_bytes(alloc)?;
+    Ok(SystemBytes {
+        fat,
+        difat,
+        directory,
+        mini_fat,
+    })
+}
+
 /// A file of so many sectors whose parts lie in these runs, and what stands in them.
 #[derive(Drop)]
 pub struct Laid<'a> {
     pub(crate) count: u32,
     pub(crate) runs: Vec<Run>,
     pub(crate) header: [u8; 512],
-    pub(crate) fat: Vec<u8>,
-    pub(crate) difat: Vec<u8>,
-    pub(crate) directory: Vec<u8>,
-    pub(crate) mini_fat: Vec<u8>,
+    pub(crate) system: SystemBytes,
     pub(crate) mini_stream: Vec<u8>,
     /// The streams that lie in sectors, in the order of their runs.
     pub(crate) streams: Vec<&'a [u8]>,
@@ -88,8 +131,9 @@ fn set_block<'a>(blocks: &mut [&'a [u8]], at: usize, bytes: &'a [u8]) {
     }
 }
 
-/// Lays bytes into sectors, as far as both go.
-fn lay<'a>(blocks: &mut [&'a [u8]], sectors: &[u32], bytes: &'a [u8]) {
+/// Lays bytes into the sectors of one of the runs, as far as both go.
+fn lay<'a>(blocks: &mut [&'a [u8]], runs: &[Run], at: usize, bytes: &'a [u8]) {
+    let sectors = sectors_of(runs, at);
     for k in 0..sectors.len() {
         set_block(blocks, sectors[k] as usize + 1, piece(bytes, SECTOR, k));
     }
@@ -100,13 +144,13 @@ impl Laid<'_> {
     fn fill<'b>(&'b self, blocks: &mut [&'b [u8]]) {
         let runs = &self.runs;
         set_block(blocks, 0, &self.header);
-        lay(blocks, sectors_of(runs, FAT), &self.fat);
-        lay(blocks, sectors_of(runs, DIFAT), &self.difat);
-        lay(blocks, sectors_of(runs, DIRECTORY), &self.directory);
-        lay(blocks, sectors_of(runs, MINI_FAT), &self.mini_fat);
-        lay(blocks, sectors_of(runs, MINI_STREAM), &self.mini_stream);
+        lay(blocks, runs, FAT, &self.system.fat);
+        lay(blocks, runs, DIFAT, &self.system.difat);
+        lay(blocks, runs, DIRECTORY, &self.system.directory);
+        lay(blocks, runs, MINI_FAT, &self.system.mini_fat);
+        lay(blocks, runs, MINI_STREAM, &self.mini_stream);
         for k in 0..self.streams.len() {
-            lay(blocks, sectors_of(runs, STREAMS + k), self.streams[k]);
+            lay(blocks, runs, STREAMS + k, self.streams[k]);
         }
     }
 
