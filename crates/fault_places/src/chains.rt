@@ -72,8 +72,7 @@ fn sectors_of(alloc: Global, parts: &Parts, stream: &Stream) -> Result<Option<Ve
     ensures { IfOk result (λ v. IfSome v (λ ns. (b : Base) → IsBaseOf parts.now b → IsChain (store_in b stream.now.size) stream.now.first stream.now.size ns.items)) }
 {
     let chain = chain_of(stream);
-    let found = chain_at(alloc, table_for(parts, stream.size), chain)?;
-    Ok(found)
+    chain_at(alloc, table_for(parts, stream.size), chain)
 }
 
 /// Whether the chain of a stream is whole and has a sector.
@@ -117,8 +116,7 @@ fn is_crossed(
         × ((b : Base) → IsBaseOf parts.now b → (ns : List ℕ) × IsChainOf (store_in b stream.now.size) stream.now.first stream.now.size ns × Contains ns n)) }
 {
     if is_other(stream, id, size) {
-        let found = has_sector(alloc, parts, stream, n)?;
-        return Ok(found);
+        return has_sector(alloc, parts, stream, n);
     }
     Ok(false)
 }
@@ -288,8 +286,32 @@ fn find_in_stream(
         return Ok(None);
     };
     let owner = owner_if(alloc, parts, streams, stream, fault, link.to)?;
-    let place = place_of(alloc, stream, fault, link, owner)?;
-    Ok(place)
+    place_of(alloc, stream, fault, link, owner)
+}
+
+/// Marks the chain of a stream in the table of what it lies in.
+fn mark(fat: &mut Fat<'_>, minis: &mut Fat<'_>, stream: &Stream) -> Result<(), ChainFault> {
+    if lies_in_minis(stream.size) {
+        minis.mark_chain(stream.first, stream.size)
+    } else {
+        fat.mark_chain(stream.first, stream.size)
+    }
+}
+
+/// Which of some streams is refused for a fault, where the chain of each is marked in turn.
+fn refused_by(
+    fat: &mut Fat<'_>,
+    minis: &mut Fat<'_>,
+    streams: &[Stream],
+    fault: ChainFault,
+) -> Option<usize> {
+    for at in 0..streams.len() {
+        match mark(fat, minis, &streams[at]) {
+            Err(found) if found == fault => return Some(at),
+            _ => {}
+        }
+    }
+    None
 }
 
 /// Which stream the reader refuses for a fault: it marks the sectors of the system's parts, and then those of each stream.
@@ -312,19 +334,7 @@ fn refused_stream(
     let Ok(mut minis) = fat.mini(alloc, header, first, size) else {
         return None;
     };
-    for at in 0..streams.len() {
-        let stream = &streams[at];
-        let marked = if lies_in_minis(stream.size) {
-            minis.mark_chain(stream.first, stream.size)
-        } else {
-            fat.mark_chain(stream.first, stream.size)
-        };
-        match marked {
-            Err(found) if found == fault => return Some(at),
-            _ => {}
-        }
-    }
-    None
+    refused_by(&mut fat, &mut minis, streams, fault)
 }
 
 /// The place at which a stream of a file with this header and these parts has a fault of its chain.
@@ -345,8 +355,7 @@ fn find_in_streams(
     if at >= streams.len() {
         return Ok(None);
     }
-    let place = find_in_stream(alloc, parts, &streams, at, fault)?;
-    Ok(place)
+    find_in_stream(alloc, parts, &streams, at, fault)
 }
 
 /// The parts of a file with this header. None where it has none, or one of them is at fault.
@@ -358,8 +367,7 @@ fn parts_in(alloc: Global, header: &Header, file: &[u8]) -> Result<Option<Parts>
         return Ok(None);
     };
     let tables = tables_of(alloc, header, file, fat)?;
-    let parts = parts_of(alloc, header, file, &tables)?;
-    Ok(parts)
+    parts_of(alloc, header, file, &tables)
 }
 
 /// The place at which the chain of a stream has a fault, as the search meets it: the stream, the link at which its chain goes
@@ -378,6 +386,5 @@ pub fn find_stream(
     let Some(parts) = found else {
         return Ok(None);
     };
-    let place = find_in_streams(alloc, &header, file, &parts, fault)?;
-    Ok(place)
+    find_in_streams(alloc, &header, file, &parts, fault)
 }

@@ -46,8 +46,7 @@ pub fn read_directory(alloc: Global, file: &[u8]) -> Option<Directory>
     let Ok(header) = Header::read(file) else {
         return None;
     };
-    let directory = directory_of(alloc, &header, file)?;
-    Some(directory)
+    directory_of(alloc, &header, file)
 }
 
 /// The place at which the directory of a file has a fault. None where the fault isn't found there, or for want of memory.
@@ -58,12 +57,8 @@ pub fn find_entry(
 ) -> Result<Option<EntryPlace>, AllocError>
     ensures { IfOk result (λ p. IfSome p (IsFaultOfEntry file.now fault)) }
 {
-    let Ok(header) = Header::read(file) else {
+    let Some(directory) = read_directory(alloc, file) else {
         return Ok(None);
     };
-    let Some(directory) = directory_of(alloc, &header, file) else {
-        return Ok(None);
-    };
-    let found = find_in_entries(alloc, &directory.bytes, fault)?;
-    Ok(found)
+    find_in_entries(alloc, &directory.bytes, fault)
 }

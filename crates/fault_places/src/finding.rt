@@ -9,12 +9,12 @@ ghost use Rattle.fault_places.specs.Places.{IsFaultAt};
 ghost use Rattle.fault_places.specs.Tables.{AreTablesOf};
 ghost use Rattle.std.specs.Prelude.{◌*◌, ◌++◌, ◌≡◌, ◌≢◌, Err, IfOk, IfSome, Some, true};
 
+use crate::parts::root_of;
 use crate::place::FaultPlace;
 use crate::tables::{Tables, tables_of};
 use crate::walking::{Chain, Examined, examine};
 use cfb_chain::fat::Fat;
 use cfb_chain::image::Image;
-use cfb_directory::entries::Entries;
 use cfb_header::fault::ChainFault;
 use cfb_header::header::Header;
 use std::alloc::{AllocError, Global};
@@ -58,8 +58,7 @@ pub fn find_place(
         Ok(header) => header,
         Err(other) => return Ok(place_if(is_same(other, fault), FaultPlace::Header)),
     };
-    let place = find_in_fat(alloc, &header, file, fault)?;
-    Ok(place)
+    find_in_fat(alloc, &header, file, fault)
 }
 
 /// The same in a file with this header.
@@ -107,11 +106,25 @@ fn find_in_directory(
 }
 
 /// Some sectors, and then others.
-pub(crate) fn both(alloc: Global, some: &[u32], others: &[u32]) -> Result<Vec<u32>, AllocError>
+fn both(alloc: Global, some: &[u32], others: &[u32]) -> Result<Vec<u32>, AllocError>
     ensures { IfOk result (λ v. v.items ≡ some.now ++ others.now) }
 {
     let mut all = Vec::from_slice(alloc, some)?;
     all.extend_from_slice(others)?;
+    Ok(all)
+}
+
+/// The same of three lists.
+pub(crate) fn all_of(
+    alloc: Global,
+    some: &[u32],
+    others: &[u32],
+    more: &[u32],
+) -> Result<Vec<u32>, AllocError>
+    ensures { IfOk result (λ v. v.items ≡ some.now ++ others.now ++ more.now) }
+{
+    let mut all = both(alloc, some, others)?;
+    all.extend_from_slice(more)?;
     Ok(all)
 }
 
@@ -153,16 +166,11 @@ fn find_in_mini_fat(
 fn mini_stream_of(alloc: Global, directory: &[u8]) -> Option<Chain>
     ensures { IfSome result (λ c. (c.first ≡ first_of (entry_at directory.now 0)) × (c.size ≡ size_of (entry_at directory.now 0)) × (c.width ≡ 512)) }
 {
-    let Ok(entries) = Entries::load(alloc, directory) else {
-        return None;
-    };
-    let Ok(root) = entries.entry(0) else {
-        return None;
-    };
+    let (first, size) = root_of(alloc, directory)?;
     Some(Chain {
-        first: root.first,
+        first,
         width: SECTOR,
-        size: root.size as u64,
+        size: size as u64,
     })
 }
 
@@ -187,12 +195,10 @@ fn find_in_mini_stream(
     if chain.size == 0 {
         return Ok(None);
     }
-    let before = both(alloc, &tables.lists, directory)?;
-    let taken = both(alloc, &before, mini_fat)?;
+    let taken = all_of(alloc, &tables.lists, directory, mini_fat)?;
     let found = examine(alloc, &tables.entries, &taken, chain, fault)?;
     match found {
         Examined::AtFault(link) => Ok(Some(FaultPlace::MiniStream(link))),
-        Examined::Whole(_) => Ok(None),
-        Examined::Other => Ok(None),
+        _ => Ok(None),
     }
 }

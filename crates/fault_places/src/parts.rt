@@ -9,7 +9,7 @@ ghost use Rattle.fault_places.specs.Streams.{ArePartsOf};
 ghost use Rattle.fault_places.specs.Tables.{AreTablesOf, IsTabled};
 ghost use Rattle.std.specs.Prelude.{◌*◌, ◌<◌, ◌≡◌, ◌≤◌, IfOk, IfSome, List, length, slice_index, take, ℕ};
 
-use crate::finding::{SECTOR, both};
+use crate::finding::{SECTOR, all_of};
 use crate::tables::Tables;
 use crate::walking::{Chain, chain_at};
 use cfb_bytes::numbers::read_u32;
@@ -51,8 +51,7 @@ fn chain_or_none(alloc: Global, table: &[u32], chain: Chain) -> Result<Option<Ve
     if chain.size == 0 {
         return Ok(Some(Vec::new(alloc)));
     }
-    let found = chain_at(alloc, table, chain)?;
-    Ok(found)
+    chain_at(alloc, table, chain)
 }
 
 /// The entries of the mini FAT that lies in these sectors, of which so many count, for a mini stream of so many bytes.
@@ -167,9 +166,8 @@ fn with_mini_stream(
     let found = chain_or_none(alloc, &tables.entries, chain)?;
     match found {
         Some(mini_stream) => {
-            let before = both(alloc, &tables.lists, directory)?;
-            let then = both(alloc, &before, mini_fat)?;
-            let own = both(alloc, &then, &mini_stream)?;
+            let mut own = all_of(alloc, &tables.lists, directory, mini_fat)?;
+            own.extend_from_slice(&mini_stream)?;
             let table = Vec::from_slice(alloc, &tables.entries)?;
             Ok(Some(Parts {
                 table,

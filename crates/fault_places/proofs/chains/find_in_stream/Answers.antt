@@ -1,4 +1,5 @@
 use Rattle.std.proofs.Common.{◌≡◌, ◌<◌, arith, get_or, rules, subst}
+use Rattle.std.proofs.lemmas.Result.{IfOk-weaker}
 use Rattle.std.specs.List.{Contains}
 use Rattle.file_faults.specs.Faults.{Base, store_in}
 use Rattle.fault_places.specs.Places.{IsLinkAtFault}
@@ -14,6 +15,6 @@ returns c =
     let here : get_or c.args.streams.now c.args.at s ≡ s = search (rules, c.index-streams-at.is) in
     let is : IsStream c.args.parts.now.directory.items s = subst (IsStream c.args.parts.now.directory.items) here (c.requires.streams c.args.at s c.requires.inside) in
     let some : 0 < s.size = omega (arith, c.if-stream-eq0.false) in
-    placed_some c.args.parts.now s c.args.fault c.deref.result.now c.in-Some.link c.in_ok-owner.owner c.in_ok-place.place is some
+    IfOk-weaker c.place_of.result _ _ (λ v e. placed_some c.args.parts.now s c.args.fault c.deref.result.now c.in-Some.link c.in_ok-owner.owner v is some
     (some_gives (λ (l : Link). (b : Base) → IsBaseOf c.args.parts.now b → IsLinkAtFault (store_in b s.size) (Contains c.deref.result.now) s.first s.size c.args.fault l)
-    c.in_ok-found.found c.in-Some.link c.in-Some.is c.in_ok-found.ensures) c.in_ok-owner.ensures c.in_ok-place.ensures
+    c.in_ok-found.found c.in-Some.link c.in-Some.is c.in_ok-found.ensures) c.in_ok-owner.ensures e) c.place_of.ensures

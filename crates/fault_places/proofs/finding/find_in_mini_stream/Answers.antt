@@ -24,15 +24,13 @@ returns-in-AtFault c =
     let dir : List ℕ = c.deref.result.now in
     let e : dir ≡ joined (sector file) ns =
     c.deref.ensures.value ∙ bytes_joined file f lists table c.requires.tables c.in_ok-bytes.bytes.items ns (first_directory file) c.requires.directory c.in_ok-bytes.ensures in
-    let seen : List ℕ = c.deref-5.result.now in
-    let before : c.in_ok-before.before.items ≡ listed file ++ difat file ++ ns =
-    c.in_ok-before.ensures ∙ ap (λ (xs : List ℕ). xs ++ ns) (c.deref-2.ensures.value ∙ c.requires.tables.lists_are) in
+    let seen : List ℕ = c.deref-4.result.now in
     let taken : seen ≡ listed file ++ difat file ++ ns ++ mini =
-    c.deref-5.ensures.value ∙ c.in_ok-taken.ensures ∙ ap (λ (xs : List ℕ). xs ++ mini) (c.deref-3.ensures.value ∙ before) in
-    let there : IsExamined c.deref-4.result.now seen c.in-Some.chain c.args.fault (examined.AtFault c.in-AtFault.link) =
-    subst (IsExamined c.deref-4.result.now seen c.in-Some.chain c.args.fault) c.in-AtFault.is c.in_ok-found.ensures in
+    c.deref-4.ensures.value ∙ c.in_ok-taken.ensures ∙ ap (λ (xs : List ℕ). xs ++ ns ++ mini) (c.deref-2.ensures.value ∙ c.requires.tables.lists_are) in
+    let there : IsExamined c.deref-3.result.now seen c.in-Some.chain c.args.fault (examined.AtFault c.in-AtFault.link) =
+    subst (IsExamined c.deref-3.result.now seen c.in-Some.chain c.args.fault) c.in-AtFault.is c.in_ok-found.ensures in
     let found : IsExamined table seen c.in-Some.chain c.args.fault (examined.AtFault c.in-AtFault.link) =
-    subst (λ (xs : List ℕ). IsExamined xs seen c.in-Some.chain c.args.fault (examined.AtFault c.in-AtFault.link)) c.deref-4.ensures.value there in
+    subst (λ (xs : List ℕ). IsExamined xs seen c.in-Some.chain c.args.fault (examined.AtFault c.in-AtFault.link)) c.deref-3.ensures.value there in
     let some : 0 < c.in-Some.chain.size = omega (arith, c.if-chain-eq0.false) in (
       dir,
       directory_at file f lists table c.requires.tables dir ns c.requires.directory e,

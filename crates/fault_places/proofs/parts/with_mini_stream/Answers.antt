@@ -25,14 +25,13 @@ returns-in_ok-table-in-Some-found c =
     let seen : c.deref.result.now ≡ c.in_ok-bytes.bytes.items = c.deref.ensures.value in
     let dir_is : c.deref.result.now ≡ joined (sector file) ns =
     seen ∙ bytes_joined file f lists table c.requires.tables c.in_ok-bytes.bytes.items ns (first_directory file) c.requires.directory c.in_ok-bytes.ensures in
-    let before : c.in_ok-before-in-Some-found.before.items ≡ lists ++ ns = c.in_ok-before-in-Some-found.ensures ∙ ap (λ (xs : List ℕ). xs ++ ns) c.deref-in-Some-found.ensures.value in
-    let then : c.in_ok-then-in-Some-found.then.items ≡ lists ++ ns ++ mini_fat = c.in_ok-then-in-Some-found.ensures ∙ ap (λ (xs : List ℕ). xs ++ mini_fat) (c.deref-in-Some-found-2.ensures.value ∙ before) in
-    let own : c.in_ok-own-in-Some-found.own.items ≡ lists ++ ns ++ mini_fat ++ c.in-Some-found.mini_stream.items =
-    c.in_ok-own-in-Some-found.ensures ∙ (λ i. (c.deref-in-Some-found-3.ensures.value ∙ then) i ++ c.deref-in-Some-found-4.ensures.value i) in
+    let own : c.extend_from_slice.new.self.items ≡ lists ++ ns ++ mini_fat ++ c.in-Some-found.mini_stream.items =
+    c.in_ok-extend_from_slice-in-Some-found.ensures.items
+    ∙ (λ i. (c.in_ok-own-in-Some-found.ensures ∙ ap (λ (xs : List ℕ). xs ++ ns ++ mini_fat) c.deref-in-Some-found.ensures.value) i ++ c.deref-in-Some-found-2.ensures.value i) in
     parts_are file f lists table c.requires.tables ns mini_fat c.in-Some-found.mini_stream.items c.deref.result.now c.in-Some.first c.in-Some.size c.args.count
-    (record { table = c.in_ok-table-in-Some-found.table; minis = c.in_ok-minis.minis; own = c.in_ok-own-in-Some-found.own; directory = c.in_ok-bytes.bytes })
+    (record { table = c.in_ok-table-in-Some-found.table; minis = c.in_ok-minis.minis; own = c.extend_from_slice.new.self; directory = c.in_ok-bytes.bytes })
     c.requires.directory c.requires.counted c.requires.mini_fat dir_is c.in-Some.ensures.0 c.in-Some.ensures.1
     (chain_in file f lists table c.requires.tables c.deref-2.result.now (record { first = c.in-Some.first; width = 512; size = c.in-Some.size }) c.in-Some.first c.in-Some.size
     c.in-Some-found.mini_stream.items c.in-Some-found.mini_stream.items (some_gives (λ (xs : Vec ℕ Global). (s : Store) → IsTabled c.deref-2.result.now s → s.width ≡ 512 → IsChainOf s c.in-Some.first c.in-Some.size xs.items)
     c.in_ok-found.found c.in-Some-found.mini_stream c.in-Some-found.is c.in_ok-found.ensures) c.deref-2.ensures.value refl refl refl refl)
-    (sym seen) (c.in_ok-table-in-Some-found.ensures.items ∙ c.deref-in-Some-found-5.ensures.value) own c.in_ok-minis.ensures.tabled c.in_ok-minis.ensures.few
+    (sym seen) (c.in_ok-table-in-Some-found.ensures.items ∙ c.deref-in-Some-found-3.ensures.value) own c.in_ok-minis.ensures.tabled c.in_ok-minis.ensures.few
