@@ -2,4 +2,5 @@ pub mod Answering
 pub mod AskingAll
 pub mod AskingEach
 pub mod MessageReplies
+pub mod Relieved
 pub mod Handings

@@ -64,7 +64,6 @@ pub struct Stepped {
     pub action: Option<Action>,
 }
 
-#[tactic(auto, using(crate::proofs::AskingEach::waits_link, crate::proofs::AskingEach::waits_sent, crate::proofs::AskingEach::begins_link, crate::proofs::AskingEach::begins_sent))]
 /// Takes the memory to ask an activation for the operations of these steps, one after the other: the first at once where
 /// none is pending, the others behind those that wait. A step that takes the frame's menus takes them under this grant.
 ///

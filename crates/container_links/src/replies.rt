@@ -5,7 +5,7 @@ ghost use Rattle.object_state.specs.Both as both;
 ghost use Rattle.container_model.specs.Record.{Refuses, sends};
 ghost use Rattle.container_links.specs.Answered.{answered, is_pending};
 ghost use Rattle.container_links.specs.Relieving.{gives_up};
-ghost use Rattle.container_model.specs.Messages.{closed_with, done_link, granted_link, is_fit, lost, next_at, noted, reply_link, saved_link};
+ghost use Rattle.container_model.specs.Messages.{closed_with, done_link, granted_link, is_fit, lost, next_at, noted, replied, reply_link, saved_link};
 ghost use Rattle.container_model.specs.Replies.{first_call, resumed};
 ghost use Rattle.container_model.specs.Room.{IfLinked, IsRoomy};
 ghost use Rattle.wire_msgs.specs.declared.operation.Operation.TheVariants.{UiDeactivate};
@@ -437,8 +437,19 @@ pub fn gives_up(link: &Option<Link>, n: u32, answer: &Answer) -> Option<u32>
     if n != link.last {
         return None;
     }
-    match (operation, answer) {
-        (Operation::UiDeactivate, Answer::Done) => match link.states.step(Op::UiDeactivate) {
+    match answer {
+        Answer::Done => given_up(link, operation),
+        _ => None,
+    }
+}
+
+// The same where this operation was pending and is done.
+fn given_up(link: &Link, operation: &Operation) -> Option<u32>
+    ensures told { result ≡ gives_up (replied link.now operation.now Answer.Done) }
+    ensures asked { IfSome result (λ act. operation.now ≡ UiDeactivate) }
+{
+    match operation {
+        Operation::UiDeactivate => match link.states.step(Op::UiDeactivate) {
             Ok(_) => Some(link.act),
             Err(_) => None,
         },
