@@ -1,19 +1,17 @@
 -- What is asked of objects whose frame hands off, and which answers are contents that were awaited.
-use Rattle.std.proofs.Common.{◌≡◌, ◌++◌, ◌==◌, ◌+◌, ◌<◌, ◌&&◌, ℕ, zero, suc, Bool, true, false, List, [], ◌∷◌, length, map, drop, get_or, Option, Some, None, is_some, IfOk, Result, Ok, Err, refl, ap, subst, sym, ◌∙◌, arith, if◌then◌else◌}
-use Rattle.std.proofs.lemmas.List.{append_assoc}
+use Rattle.std.proofs.Common.{◌≡◌, ◌==◌, ◌&&◌, ℕ, Bool, true, false, List, [], ◌∷◌, map, Option, Some, None, is_some, IfOk, Result, Ok, Err, refl, ap, subst, sym, ◌∙◌, if◌then◌else◌}
 use Rattle.std.specs.Prelude.{is_ok}
 use Rattle.wire_msgs.specs.Operations.{op_of}
 use Rattle.wire_msgs.specs.declared.answer.Answer.{Answer}
 use Rattle.wire_msgs.specs.declared.answer.Answer.TheVariants as told
 use Rattle.wire_msgs.specs.declared.refusal.Refusal.{Refusal}
 use Rattle.wire_msgs.specs.declared.operation.Operation.{Operation}
-use Rattle.wire_msgs.specs.declared.operation.Operation.TheVariants.{InitNew, Load, InPlace, UiActivate, UiDeactivate, InPlaceDeactivate, OpenWindow, Edit, Save, HandsOff, SaveCompleted, SaveDropped, Close}
+use Rattle.wire_msgs.specs.declared.operation.Operation.TheVariants.{HandsOff}
 use Rattle.object_state.specs.Both as both
 use Rattle.object_state.specs.declared.both_states.States.{States}
 use Rattle.object_state.specs.declared.faults.StateFault.{StateFault}
 use Rattle.object_state.specs.declared.menu_texts.Menus.{Menus}
 use Rattle.object_state.specs.declared.operations.Op.{Op}
-use Rattle.object_state.specs.declared.operations.CloseOption.TheVariants.{SaveIfDirty, NoSave}
 use Rattle.object_parts.specs.Limits.{is_within}
 use Rattle.storage_tree.specs.declared.stored.Stored.{Stored}
 use Rattle.container_model.specs.declared.fault.ContainerFault.{ContainerFault}
@@ -23,7 +21,7 @@ use Rattle.container_model.specs.declared.grants.Tells.TheVariants as tells
 use Rattle.container_model.specs.declared.record.Link.{Link}
 use Rattle.container_model.specs.declared.record.Object.{Object}
 use Rattle.container_model.specs.HandOffs.{has_saved, is_answered}
-use Rattle.container_model.specs.Messages.{Replied, next_at, next_link, closed_with, done_link, granted_link, is_fit, lost, noted, replied, replied_fitting, reply_link, reply_pending, saved_link}
+use Rattle.container_model.specs.Messages.{Replied, next_at, next_link, closed_with, done_link, granted_link, replied, replied_fitting, reply_link, reply_pending, saved_link}
 use Rattle.container_model.specs.Saves.{is_awaited_link}
 use Rattle.container_model.specs.Record.{ask_at, asked_all, asked_sent, sends}
 use Rattle.container_links.specs.Asking.{prepared, prepared_at, prepared_link}
@@ -36,9 +34,6 @@ use Rattle.container_links.specs.declared.turns.WhenRefused.TheVariants.{Lost, N
 use Rattle.container_links.specs.declared.turns.WhenContent.{WhenContent}
 use Rattle.container_links.specs.declared.turns.WhenContent.TheVariants.{Saved, Closed, Unasked}
 use Rattle.container_links.proofs.Answering.{by_content, by_done, by_refusal, by_tools, content_is, done_is, refused_is, tools_is}
-use Rattle.container_links.specs.declared.asking.Prepared.{Prepared}
-use Rattle.container_links.specs.declared.asking.Prepared.TheVariants.{Nothing}
-use Rattle.container_model.specs.declared.answer.Action.{Action}
 use Rattle.container_model.specs.declared.answer.Action.TheVariants.{Send}
 use Rattle.std.proofs.lemmas.List.{map-append}
 

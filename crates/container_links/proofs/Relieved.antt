@@ -1,5 +1,5 @@
 -- Which replies tell that an activation gives its frame up.
-use Rattle.std.proofs.Common.{◌≡◌, ◌∙◌, ◌+◌, ◌==◌, ℕ, List, Bool, true, false, Option, Some, None, Result, Ok, Err, IfSome, refl, ap, eq-eqb, ne_eqb, if◌then◌else◌}
+use Rattle.std.proofs.Common.{◌≡◌, ◌∙◌, ◌+◌, ℕ, List, Bool, true, false, Option, Some, None, Result, Ok, Err, IfSome, refl, ap, eq-eqb, ne_eqb, if◌then◌else◌}
 use Rattle.wire_msgs.specs.Operations.{op_of}
 use Rattle.wire_msgs.specs.declared.answer.Answer.{Answer}
 use Rattle.wire_msgs.specs.declared.answer.Answer.TheVariants as told

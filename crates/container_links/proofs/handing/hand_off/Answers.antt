@@ -1,4 +1,4 @@
-use Rattle.std.proofs.Common.{◌≡◌, ◌++◌, ◌∙◌, List, ap, map}
+use Rattle.std.proofs.Common.{◌++◌, ◌∙◌, List, ap, map}
 use Rattle.wire_msgs.specs.declared.operation.Operation.TheVariants.{HandsOff}
 use Rattle.container_links.specs.Asking.{prepared}
 use Rattle.container_links.specs.Handing.{calls_by}
