@@ -1,7 +1,8 @@
 -- Writes and cuts behind a closed gate leave it closed.
-use Rattle.std.proofs.Common.{◌≡◌, ◌<◌, ◌≤◌, ℕ, List, length, get_or, min, sym, ◌∙◌, ap, arith}
+use Rattle.std.proofs.Common.{◌≡◌, ◌<◌, ◌≤◌, ℕ, List, [], ◌∷◌, length, get_or, min, sym, ◌∙◌, ap, arith}
 use Rattle.std.proofs.lemmas.List.{get_or-take}
 use Rattle.store_model.specs.Crash.{Torn, CutShort}
+use Rattle.store_model.specs.Image.{put}
 use Rattle.store_model.specs.Store.{IsClosed}
 
 pub torn_keeps_closed : (at n : ℕ) (old new : List ℕ) → 1 ≤ at → IsClosed old → Torn at n old new → IsClosed new
@@ -21,3 +22,7 @@ cut_keeps_closed size old new behind closed cut =
     let here : 0 < length new = omega (arith, there, longer, behind) in
     let front : get_or new 0 0 ≡ get_or old 0 0 = ap (λ (l : List ℕ). get_or l 0 0) cut.front ∙ get_or-take (length new) old 0 0 here in
     record { there = here; shut = λ is. closed.shut (sym front ∙ is) }
+
+-- a gate of 0 is closed
+pub gate_shut : (journal : List ℕ) → IsClosed (put journal 0 (0 ∷ []))
+gate_shut journal = record { there = omega arith; shut = λ is. absurd (omega (arith, is)) }

@@ -1,6 +1,6 @@
 -- The journal of a commit, as it is written.
-use Rattle.std.proofs.Common.{◌≡◌, ◌≤◌, ◌+◌, ◌-◌, ◌*◌, min, ℕ, List, ◌++◌, length, drop, take, sym, ◌∙◌, ap, arith, length-append, length-drop, length-take}
-use Rattle.std.specs.Int.{w32, to_le_bytes}
+use Rattle.std.proofs.Common.{◌≡◌, ◌≤◌, ◌+◌, ◌-◌, ◌*◌, min, ℕ, List, [], ◌∷◌, ◌++◌, length, drop, get_or, take, refl, sym, ◌∙◌, ap, arith, length-append, length-drop, length-take}
+use Rattle.std.specs.Int.{w32, w64, to_le_bytes}
 use Rattle.std.proofs.lemmas.List.{append_assoc, take-append-drop, take_at, take_min}
 use Rattle.store_model.specs.Changes.{block_count, changes, changes_from, head_of, spelled}
 use Rattle.store_model.specs.Image.{put}
@@ -40,6 +40,12 @@ module _ (first last count more : ℕ) (old new journal : List ℕ) (le : first 
       let bs = changes_from first (last - first) old new in
       let long : length (spelled bs) ≡ 516 * length bs = length_spelled bs (changes_whole first (last - first) old new) in
       omega (arith, long, is_more, length_put journal (spelled bs) (13 + 516 * count) reached)
+
+-- the head of a journal is written, a piece after another, behind its gate
+pub begun : (journal : List ℕ) (size : ℕ) → 1 ≤ length journal → (8 ≤ length (put journal 1 (to_le_bytes w64 size))) × (9 ≤ length (put (put journal 1 (to_le_bytes w64 size)) 8 (1 ∷ [])))
+    × (take 13 (put (put (put journal 1 (to_le_bytes w64 size)) 8 (1 ∷ [])) 9 (0 ∷ 0 ∷ 0 ∷ 0 ∷ [])) ≡ head_of (get_or journal 0 0) size 0)
+begun [] size there = absurd (omega (arith, there))
+begun (x ∷ rest) size there = (omega arith, omega arith, refl)
 
 -- the number of blocks is written
 pub headed : (gate size n : ℕ) (tail journal : List ℕ) → length tail ≡ 516 * n → take (13 + 516 * n) journal ≡ head_of gate size 0 ++ tail

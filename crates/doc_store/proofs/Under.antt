@@ -9,6 +9,7 @@ use Rattle.doc_store.specs.Steps.{CanInstall, CanStage, HoldsChange, IsInstallin
 use Rattle.doc_store.specs.declared.found.Change.{Change}
 use Rattle.doc_store.specs.declared.found.Change.TheVariants.{Blocks, Whole}
 use Rattle.doc_store.proofs.Closed.{cut_keeps_closed, torn_keeps_closed}
+use Rattle.doc_store.proofs.Moments.{then_leaves}
 
 pub torn_installs : (old from image : Image) (at n : ℕ) → is_open old.journal ≡ true → is_whole old ≡ true → IsTold old.journal at n → IsInstalling old from
     → (Torn at n from.document image.document × (image.journal ≡ from.journal)) → IsInstalling old image
@@ -59,6 +60,11 @@ module _ {D : Type 0} (reads : D → Image) (may_leave : D → Image → Type 0)
 
   pub stages_again : (old new : D) → may_leave new (reads new) → StaysIn may_leave moment left_since old new (IsStaging (reads old)) → CanStage reads may_leave new
   stages_again old new here run = λ c left. stages_back (reads old) (reads new) c (run.now (reads new) here) (run.now c left)
+
+  -- one run of staging after another
+  pub stages_more : (old mid new : D) → may_leave mid (reads mid) → StaysIn may_leave moment left_since old mid (IsStaging (reads old)) → StaysIn may_leave moment left_since mid new (IsStaging (reads mid))
+      → StaysIn may_leave moment left_since old new (IsStaging (reads old))
+  stages_more old mid new here so_far run = then_leaves may_leave moment left_since old mid new (IsStaging (reads mid)) (IsStaging (reads old)) so_far run (λ c is. stages_on (reads old) (reads mid) c (so_far.now (reads mid) here) is)
 
   -- a synced disk whose journal is open
   pub installs_first : (old : D) → is_open (reads old).journal ≡ true → is_whole (reads old) ≡ true → ((c : Image) → may_leave old c → c ≡ reads old) → CanInstall reads may_leave old

@@ -28,3 +28,11 @@ loop-done-preserved g c =
           shared_more held document part done many is long (c.loop-done.invariant.told model) here;
       count = search rules;
     }
+
+pub returns-in_err-is-clause-quiet : goal.returns-in_err-is-clause-quiet
+returns-in_err-is-clause-quiet g c model =
+    then_quiet g.D.Disk.may_leave g.D.Disk.moment g.D.Disk.left_since c.args.disk.now c.loop-done.disk c.holds_piece.new.disk (g.D.Disk.may_leave c.args.disk.now) (c.loop-done.invariant.quiet model) (c.holds_piece.ensures.quiet model)
+
+pub returns-then-not-is-clause-quiet : goal.returns-then-not-is-clause-quiet
+returns-then-not-is-clause-quiet g c model =
+    then_quiet g.D.Disk.may_leave g.D.Disk.moment g.D.Disk.left_since c.args.disk.now c.loop-done.disk c.holds_piece.new.disk (g.D.Disk.may_leave c.args.disk.now) (c.loop-done.invariant.quiet model) (c.holds_piece.ensures.quiet model)

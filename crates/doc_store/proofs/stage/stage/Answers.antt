@@ -1,12 +1,36 @@
-use Rattle.std.proofs.Common.{◌≡◌, ◌+◌, ◌*◌, ◌∙◌, ◌++◌, ℕ, List, ap, get_or, length, refl, take}
+use Rattle.std.proofs.Common.{◌≡◌, ◌+◌, ◌*◌, ◌∙◌, ◌++◌, ℕ, List, ap, get_or, length, refl, subst, sym, take}
 use Rattle.store_model.specs.Changes.{changes, head_of, journal_from, spelled}
-use Rattle.store_model.specs.Image.{changed}
+use Rattle.store_model.specs.Image.{Image, changed}
 use Rattle.store_model.specs.declared.area.Area.TheVariants.{Journal}
 use Rattle.doc_store.specs.Steps.{IsStaging}
-use Rattle.doc_store.proofs.Moments.{then_leaves, then_quiet}
+use Rattle.doc_store.proofs.Moments.{then_quiet}
 use Rattle.doc_store.proofs.Staged.{changes_long, headed, tail_there}
-use Rattle.doc_store.proofs.Under.{stages_on}
+use Rattle.doc_store.proofs.Under.{stages_again, stages_more}
 use Rattle.doc_store.proofs.stage.stage.Goals as goal
+
+pub begin_journal-requires-clause-closed : goal.begin_journal-requires-clause-closed
+begin_journal-requires-clause-closed g c model =
+    let old = g.D.Disk.reads c.args.disk.now in
+    let rests = c.requires.rests model in
+    λ i left. subst (λ (b : Image). IsStaging old b) (sym (rests.durable i left)) (refl, rests.closed)
+
+pub write_changes-requires-clause-closed : goal.write_changes-requires-clause-closed
+write_changes-requires-clause-closed g c model =
+    let disk = c.begin_journal.new.disk in
+    stages_again g.D.Disk.reads g.D.Disk.may_leave g.D.Disk.moment g.D.Disk.left_since c.args.disk.now disk (g.met.D.Disk.reads_are_left disk) (c.begin_journal.ensures.stays model)
+
+pub returns-in_err-count-clause-stays : goal.returns-in_err-count-clause-stays
+returns-in_err-count-clause-stays g c model =
+    let disk = c.begin_journal.new.disk in
+    stages_more g.D.Disk.reads g.D.Disk.may_leave g.D.Disk.moment g.D.Disk.left_since c.args.disk.now disk c.write_changes.new.disk (g.met.D.Disk.reads_are_left disk) (c.begin_journal.ensures.stays model) (c.write_changes.ensures.stays model)
+
+pub end_journal-requires-clause-closed : goal.end_journal-requires-clause-closed
+end_journal-requires-clause-closed g c model =
+    let old = c.args.disk.now in
+    let begun = c.begin_journal.new.disk in
+    let written = c.write_changes.new.disk in
+    stages_again g.D.Disk.reads g.D.Disk.may_leave g.D.Disk.moment g.D.Disk.left_since old written (g.met.D.Disk.reads_are_left written)
+    (stages_more g.D.Disk.reads g.D.Disk.may_leave g.D.Disk.moment g.D.Disk.left_since old begun written (g.met.D.Disk.reads_are_left begun) (c.begin_journal.ensures.stays model) (c.write_changes.ensures.stays model))
 
 pub end_journal-requires-clause-there : goal.end_journal-requires-clause-there
 end_journal-requires-clause-there g c model =
@@ -16,9 +40,6 @@ end_journal-requires-clause-there g c model =
     let new : List ℕ = c.args.document.now in
     let gate : ℕ = get_or (reads disk).journal 0 0 in
     let begun = (c.begin_journal.ensures.stays model).now (reads c.begin_journal.new.disk) (g.met.D.Disk.reads_are_left c.begin_journal.new.disk) in
-    let written = (c.write_changes.ensures.stays model).now (reads c.write_changes.new.disk) (g.met.D.Disk.reads_are_left c.write_changes.new.disk) in
-    let run = then_leaves g.D.Disk.may_leave g.D.Disk.moment g.D.Disk.left_since disk c.begin_journal.new.disk c.write_changes.new.disk (IsStaging (reads c.begin_journal.new.disk)) (IsStaging (reads disk)) (c.begin_journal.ensures.stays model) (c.write_changes.ensures.stays model)
-    (λ i is. stages_on (reads disk) (reads c.begin_journal.new.disk) i begun is) in
     let n : ℕ = c.in_ok-count.count in
     let is_n : n ≡ length (changes old new) = c.in_ok-count.ensures.blocks model ∙ ap (λ (d : List ℕ). length (changes d new)) begun.0 in
     let front : take (13 + 516 * n) (reads c.write_changes.new.disk).journal ≡ head_of gate (length new) 0 ++ spelled (changes old new) =
@@ -28,33 +49,21 @@ end_journal-requires-clause-there g c model =
 
 pub returns-in_err-end_journal-clause-stays : goal.returns-in_err-end_journal-clause-stays
 returns-in_err-end_journal-clause-stays g c model =
-    let disk = c.args.disk.now in
-    let reads = g.D.Disk.reads in
-    let old : List ℕ = (reads disk).document in
-    let new : List ℕ = c.args.document.now in
-    let gate : ℕ = get_or (reads disk).journal 0 0 in
-    let begun = (c.begin_journal.ensures.stays model).now (reads c.begin_journal.new.disk) (g.met.D.Disk.reads_are_left c.begin_journal.new.disk) in
-    let written = (c.write_changes.ensures.stays model).now (reads c.write_changes.new.disk) (g.met.D.Disk.reads_are_left c.write_changes.new.disk) in
-    let run = then_leaves g.D.Disk.may_leave g.D.Disk.moment g.D.Disk.left_since disk c.begin_journal.new.disk c.write_changes.new.disk (IsStaging (reads c.begin_journal.new.disk)) (IsStaging (reads disk)) (c.begin_journal.ensures.stays model) (c.write_changes.ensures.stays model)
-    (λ i is. stages_on (reads disk) (reads c.begin_journal.new.disk) i begun is) in
-    let ended = then_leaves g.D.Disk.may_leave g.D.Disk.moment g.D.Disk.left_since disk c.write_changes.new.disk c.end_journal.new.disk (IsStaging (reads c.write_changes.new.disk)) (IsStaging (reads disk)) run (c.end_journal.ensures.stays model)
-    (λ i is. stages_on (reads disk) (reads c.write_changes.new.disk) i (stages_on (reads disk) (reads c.begin_journal.new.disk) (reads c.write_changes.new.disk) begun written) is) in
-    ended
+    let old = c.args.disk.now in
+    let begun = c.begin_journal.new.disk in
+    let written = c.write_changes.new.disk in
+    let run = stages_more g.D.Disk.reads g.D.Disk.may_leave g.D.Disk.moment g.D.Disk.left_since old begun written (g.met.D.Disk.reads_are_left begun) (c.begin_journal.ensures.stays model) (c.write_changes.ensures.stays model) in
+    stages_more g.D.Disk.reads g.D.Disk.may_leave g.D.Disk.moment g.D.Disk.left_since old written c.end_journal.new.disk (g.met.D.Disk.reads_are_left written) run (c.end_journal.ensures.stays model)
 
 pub returns-in_err-sync_area-clause-stays : goal.returns-in_err-sync_area-clause-stays
 returns-in_err-sync_area-clause-stays g c model =
-    let disk = c.args.disk.now in
-    let reads = g.D.Disk.reads in
-    let old : List ℕ = (reads disk).document in
-    let new : List ℕ = c.args.document.now in
-    let gate : ℕ = get_or (reads disk).journal 0 0 in
-    let begun = (c.begin_journal.ensures.stays model).now (reads c.begin_journal.new.disk) (g.met.D.Disk.reads_are_left c.begin_journal.new.disk) in
-    let written = (c.write_changes.ensures.stays model).now (reads c.write_changes.new.disk) (g.met.D.Disk.reads_are_left c.write_changes.new.disk) in
-    let run = then_leaves g.D.Disk.may_leave g.D.Disk.moment g.D.Disk.left_since disk c.begin_journal.new.disk c.write_changes.new.disk (IsStaging (reads c.begin_journal.new.disk)) (IsStaging (reads disk)) (c.begin_journal.ensures.stays model) (c.write_changes.ensures.stays model)
-    (λ i is. stages_on (reads disk) (reads c.begin_journal.new.disk) i begun is) in
-    let ended = then_leaves g.D.Disk.may_leave g.D.Disk.moment g.D.Disk.left_since disk c.write_changes.new.disk c.end_journal.new.disk (IsStaging (reads c.write_changes.new.disk)) (IsStaging (reads disk)) run (c.end_journal.ensures.stays model)
-    (λ i is. stages_on (reads disk) (reads c.write_changes.new.disk) i (stages_on (reads disk) (reads c.begin_journal.new.disk) (reads c.write_changes.new.disk) begun written) is) in
-    then_quiet g.D.Disk.may_leave g.D.Disk.moment g.D.Disk.left_since disk c.end_journal.new.disk c.sync_area.new.disk (IsStaging (reads disk)) ended (c.sync_area.ensures.quiet model)
+    let old = c.args.disk.now in
+    let begun = c.begin_journal.new.disk in
+    let written = c.write_changes.new.disk in
+    let run = stages_more g.D.Disk.reads g.D.Disk.may_leave g.D.Disk.moment g.D.Disk.left_since old begun written (g.met.D.Disk.reads_are_left begun) (c.begin_journal.ensures.stays model) (c.write_changes.ensures.stays model) in
+    then_quiet g.D.Disk.may_leave g.D.Disk.moment g.D.Disk.left_since old c.end_journal.new.disk c.sync_area.new.disk (IsStaging (g.D.Disk.reads old))
+    (stages_more g.D.Disk.reads g.D.Disk.may_leave g.D.Disk.moment g.D.Disk.left_since old written c.end_journal.new.disk (g.met.D.Disk.reads_are_left written) run (c.end_journal.ensures.stays model))
+    (c.sync_area.ensures.quiet model)
 
 pub returns-clause-staged : goal.returns-clause-staged
 returns-clause-staged g c model =
@@ -65,8 +74,6 @@ returns-clause-staged g c model =
     let gate : ℕ = get_or (reads disk).journal 0 0 in
     let begun = (c.begin_journal.ensures.stays model).now (reads c.begin_journal.new.disk) (g.met.D.Disk.reads_are_left c.begin_journal.new.disk) in
     let written = (c.write_changes.ensures.stays model).now (reads c.write_changes.new.disk) (g.met.D.Disk.reads_are_left c.write_changes.new.disk) in
-    let run = then_leaves g.D.Disk.may_leave g.D.Disk.moment g.D.Disk.left_since disk c.begin_journal.new.disk c.write_changes.new.disk (IsStaging (reads c.begin_journal.new.disk)) (IsStaging (reads disk)) (c.begin_journal.ensures.stays model) (c.write_changes.ensures.stays model)
-    (λ i is. stages_on (reads disk) (reads c.begin_journal.new.disk) i begun is) in
     let n : ℕ = c.in_ok-count.count in
     let is_n : n ≡ length (changes old new) = c.in_ok-count.ensures.blocks model ∙ ap (λ (d : List ℕ). length (changes d new)) begun.0 in
     let front : take (13 + 516 * n) (reads c.write_changes.new.disk).journal ≡ head_of gate (length new) 0 ++ spelled (changes old new) =
@@ -79,15 +86,10 @@ returns-clause-staged g c model =
 
 pub returns-clause-stays : goal.returns-clause-stays
 returns-clause-stays g c model =
-    let disk = c.args.disk.now in
-    let reads = g.D.Disk.reads in
-    let old : List ℕ = (reads disk).document in
-    let new : List ℕ = c.args.document.now in
-    let gate : ℕ = get_or (reads disk).journal 0 0 in
-    let begun = (c.begin_journal.ensures.stays model).now (reads c.begin_journal.new.disk) (g.met.D.Disk.reads_are_left c.begin_journal.new.disk) in
-    let written = (c.write_changes.ensures.stays model).now (reads c.write_changes.new.disk) (g.met.D.Disk.reads_are_left c.write_changes.new.disk) in
-    let run = then_leaves g.D.Disk.may_leave g.D.Disk.moment g.D.Disk.left_since disk c.begin_journal.new.disk c.write_changes.new.disk (IsStaging (reads c.begin_journal.new.disk)) (IsStaging (reads disk)) (c.begin_journal.ensures.stays model) (c.write_changes.ensures.stays model)
-    (λ i is. stages_on (reads disk) (reads c.begin_journal.new.disk) i begun is) in
-    let ended = then_leaves g.D.Disk.may_leave g.D.Disk.moment g.D.Disk.left_since disk c.write_changes.new.disk c.end_journal.new.disk (IsStaging (reads c.write_changes.new.disk)) (IsStaging (reads disk)) run (c.end_journal.ensures.stays model)
-    (λ i is. stages_on (reads disk) (reads c.write_changes.new.disk) i (stages_on (reads disk) (reads c.begin_journal.new.disk) (reads c.write_changes.new.disk) begun written) is) in
-    then_quiet g.D.Disk.may_leave g.D.Disk.moment g.D.Disk.left_since disk c.end_journal.new.disk c.sync_area.new.disk (IsStaging (reads disk)) ended (c.sync_area.ensures.quiet model)
+    let old = c.args.disk.now in
+    let begun = c.begin_journal.new.disk in
+    let written = c.write_changes.new.disk in
+    let run = stages_more g.D.Disk.reads g.D.Disk.may_leave g.D.Disk.moment g.D.Disk.left_since old begun written (g.met.D.Disk.reads_are_left begun) (c.begin_journal.ensures.stays model) (c.write_changes.ensures.stays model) in
+    then_quiet g.D.Disk.may_leave g.D.Disk.moment g.D.Disk.left_since old c.end_journal.new.disk c.sync_area.new.disk (IsStaging (g.D.Disk.reads old))
+    (stages_more g.D.Disk.reads g.D.Disk.may_leave g.D.Disk.moment g.D.Disk.left_since old written c.end_journal.new.disk (g.met.D.Disk.reads_are_left written) run (c.end_journal.ensures.stays model))
+    (c.sync_area.ensures.quiet model)

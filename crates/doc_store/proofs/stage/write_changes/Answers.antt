@@ -1,11 +1,19 @@
 use Rattle.std.proofs.Common.{◌≡◌, ◌≤◌, ◌+◌, ◌-◌, ◌*◌, ◌∙◌, ℕ, List, ap, drop, length, length-append, length-drop, length-take, subst, sym, take, arith, rules}
 use Rattle.store_model.specs.Changes.{changes_from, spelled}
 use Rattle.store_model.specs.Image.{Image, put}
-use Rattle.doc_store.specs.Steps.{IsStaging}
-use Rattle.doc_store.proofs.Moments.{then_leaves}
 use Rattle.doc_store.proofs.Staged.{counted_more, in_window, staged_long, staged_more}
-use Rattle.doc_store.proofs.Under.{stages_on}
+use Rattle.doc_store.proofs.Under.{stages_again, stages_more}
 use Rattle.doc_store.proofs.stage.write_changes.Goals as goal
+
+pub write_window-requires-clause-closed : goal.write_window-requires-clause-closed
+write_window-requires-clause-closed g c model =
+    let disk = c.loop-first.disk in
+    stages_again g.D.Disk.reads g.D.Disk.may_leave g.D.Disk.moment g.D.Disk.left_since c.args.disk.now disk (g.met.D.Disk.reads_are_left disk) (c.loop-first.invariant.stays model)
+
+pub returns-in_err-more-clause-stays : goal.returns-in_err-more-clause-stays
+returns-in_err-more-clause-stays g c model =
+    let disk = c.loop-first.disk in
+    stages_more g.D.Disk.reads g.D.Disk.may_leave g.D.Disk.moment g.D.Disk.left_since c.args.disk.now disk c.write_window.new.disk (g.met.D.Disk.reads_are_left disk) (c.loop-first.invariant.stays model) (c.write_window.ensures.stays model)
 
 pub write_window-requires-clause-held : goal.write_window-requires-clause-held
 write_window-requires-clause-held g c model =
@@ -41,9 +49,7 @@ loop-first-preserved g c =
       within = omega (arith, least);
       few = omega (arith, few, grows, le);
       stays = λ model.
-          let stays = so_far.stays model in
-          then_leaves g.D.Disk.may_leave g.D.Disk.moment g.D.Disk.left_since c.args.disk.now c.loop-first.disk c.write_window.new.disk (IsStaging (reads c.loop-first.disk)) (IsStaging (reads c.args.disk.now)) stays (c.write_window.ensures.stays model)
-          (λ i is. stages_on (reads c.args.disk.now) (reads c.loop-first.disk) i (stays.now (reads c.loop-first.disk) (g.met.D.Disk.reads_are_left c.loop-first.disk)) is);
+          stages_more g.D.Disk.reads g.D.Disk.may_leave g.D.Disk.moment g.D.Disk.left_since c.args.disk.now c.loop-first.disk c.write_window.new.disk (g.met.D.Disk.reads_are_left c.loop-first.disk) (so_far.stays model) (c.write_window.ensures.stays model);
       document = λ model. ap (λ (i : Image). i.document) (clauses.written model) ∙ document model;
       reached = λ model. subst (λ (l : List ℕ). 13 + 516 * (c.loop-first.count + c.in_ok-more.more) ≤ length l) (sym (journal model))
           (staged_long first last c.loop-first.count c.in_ok-more.more (reads c.args.disk.now).document new (reads c.loop-first.disk).journal le (so_far.reached model) (more model));
