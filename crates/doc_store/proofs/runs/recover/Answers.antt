@@ -1,10 +1,10 @@
-use Rattle.std.proofs.Common.{◌≡◌, ◌<◌, ◌∙◌, ap, length, refl, subst}
+use Rattle.std.proofs.Common.{◌≡◌, ◌<◌, ◌∙◌, Some, ap, length, refl, subst, sym}
 use Rattle.store_model.specs.Image.{Image, changed}
 use Rattle.store_model.specs.Journal.{changed_document, restored}
-use Rattle.store_model.specs.Store.{StandsAsOneOf}
+use Rattle.store_model.specs.Store.{IsClosed, StandsAsOneOf}
 use Rattle.store_model.specs.declared.area.Area.TheVariants.{Document}
 use Rattle.doc_store.specs.Steps.{Finds, IsGating, IsInstalling, IsOpenWith}
-use Rattle.doc_store.proofs.Gating.{gate_closes, gate_short}
+use Rattle.doc_store.proofs.Gating.{closed_stands, gate_closes, gate_short}
 use Rattle.doc_store.proofs.Moments.{quietly, then_leaves, then_quiet}
 use Rattle.doc_store.proofs.runs.recover.Goals as goal
 
@@ -86,3 +86,46 @@ returns-in_ok-set_gate-in-Open-clause-stays g c model =
     let stands : restored (reads c.carry_out.new.disk) ≡ restored (reads old) = ((c.carry_out.ensures.stays model).now (reads c.carry_out.new.disk) (g.met.D.Disk.reads_are_left c.carry_out.new.disk)).1 ∙ ap restored at_old in
     then_leaves g.D.Disk.may_leave g.D.Disk.moment g.D.Disk.left_since old c.carry_out.new.disk c.set_gate-in-Open.new.disk (IsGating (reads c.carry_out.new.disk)) P carried (c.set_gate-in-Open.ensures.stays model)
     (λ i gating. here i (gate_closes (reads old) (reads c.carry_out.new.disk) i open_with.gate open_with.whole written stands gating))
+
+pub returns-in_err-settle-clause-stays : goal.returns-in_err-settle-clause-stays
+returns-in_err-settle-clause-stays g c model =
+    quietly g.D.Disk.may_leave g.D.Disk.moment g.D.Disk.left_since c.args.disk.now c.settle.new.disk (StandsAsOneOf (g.D.Disk.may_leave c.args.disk.now)) (λ i left. (i, left, refl)) (c.settle.ensures.quiet model)
+
+pub returns-in_err-found-clause-stays : goal.returns-in_err-found-clause-stays
+returns-in_err-found-clause-stays g c model =
+    let old = c.args.disk.now in
+    let P : Image → Type 0 = StandsAsOneOf (g.D.Disk.may_leave old) in
+    then_quiet g.D.Disk.may_leave g.D.Disk.moment g.D.Disk.left_since old c.settle.new.disk c.find.new.disk P
+    (quietly g.D.Disk.may_leave g.D.Disk.moment g.D.Disk.left_since old c.settle.new.disk P (λ i left. (i, left, refl)) (c.settle.ensures.quiet model))
+    (c.find.ensures.quiet model)
+
+pub set_gate-requires : goal.set_gate-requires
+set_gate-requires g c = record {
+  durable = λ model i left. c.in_ok-settle.ensures.durable model i ((c.find.ensures.quiet model).now i left) ∙ sym (c.in_ok-found.ensures.same model ∙ c.in_ok-settle.ensures.same model);
+}
+
+pub carry_out-requires-clause-durable : goal.carry_out-requires-clause-durable
+carry_out-requires-clause-durable g c model =
+    λ i left. c.in_ok-settle.ensures.durable model i ((c.find.ensures.quiet model).now i left) ∙ sym (c.in_ok-found.ensures.same model ∙ c.in_ok-settle.ensures.same model)
+
+pub returns-in-Closed-clause-document : goal.returns-in-Closed-clause-document
+returns-in-Closed-clause-document g c model =
+    let reads = g.D.Disk.reads in
+    let settled : Image = reads c.settle.new.disk in
+    ap restored (sym (c.in_ok-settle.ensures.same model)) ∙ closed_stands settled (subst (Finds settled) c.in-Closed.is (c.in_ok-found.ensures.found model)) ∙ ap (λ (i : Image). Some i.document) (sym (c.in_ok-found.ensures.same model))
+
+pub returns-in-Closed-clause-rests : goal.returns-in-Closed-clause-rests
+returns-in-Closed-clause-rests g c model =
+    let settled : Image = g.D.Disk.reads c.settle.new.disk in
+    record {
+      durable = λ i left. c.in_ok-settle.ensures.durable model i ((c.find.ensures.quiet model).now i left) ∙ sym (c.in_ok-found.ensures.same model ∙ c.in_ok-settle.ensures.same model);
+      closed = subst (λ (i : Image). IsClosed i.journal) (sym (c.in_ok-found.ensures.same model)) (subst (Finds settled) c.in-Closed.is (c.in_ok-found.ensures.found model));
+    }
+
+pub returns-in-Closed-clause-stays : goal.returns-in-Closed-clause-stays
+returns-in-Closed-clause-stays g c model =
+    let old = c.args.disk.now in
+    let P : Image → Type 0 = StandsAsOneOf (g.D.Disk.may_leave old) in
+    then_quiet g.D.Disk.may_leave g.D.Disk.moment g.D.Disk.left_since old c.settle.new.disk c.find.new.disk P
+    (quietly g.D.Disk.may_leave g.D.Disk.moment g.D.Disk.left_since old c.settle.new.disk P (λ i left. (i, left, refl)) (c.settle.ensures.quiet model))
+    (c.find.ensures.quiet model)
