@@ -1,4 +1,4 @@
-use Rattle.std.proofs.Common.{◌∙◌, inl, ℕ, List, Some, ap, subst, sym}
+use Rattle.std.proofs.Common.{inl, subst, sym}
 use Rattle.store_model.specs.Store.{IsBeforeOrAfter, StandsFor}
 use Rattle.doc_store.proofs.Gating.{closed_stands}
 use Rattle.doc_store.proofs.Crashing.{starts}
@@ -36,12 +36,6 @@ returns-in-Err-clause-crashes g c model ready =
 pub returns-then-bytes-gt-MAX_DOCUMENT-clause-after_device : goal.returns-then-bytes-gt-MAX_DOCUMENT-clause-after_device
 returns-then-bytes-gt-MAX_DOCUMENT-clause-after_device g c model ready =
     inl (closed_stands (g.D.Disk.reads (disk_of c.args.self.now)) (c.args.self.now.rests ready model).closed)
-
-pub returns-in-Ok-clause-durable : goal.returns-in-Ok-clause-durable
-returns-in-Ok-clause-durable g c model =
-    let now = g.D.Disk.reads c.replace.new.disk in
-    let rests = c.in-Ok.ensures.rests model in
-    λ i left. subst (λ b. StandsFor c.args.bytes.now b) (sym (rests.durable i left)) (closed_stands now rests.closed ∙ ap (λ (d : List ℕ). Some d) (c.in-Ok.ensures.document model))
 
 pub returns-in-Ok-clause-any_moment : goal.returns-in-Ok-clause-any_moment
 returns-in-Ok-clause-any_moment g c model ready = c.replace.ensures.stays model
