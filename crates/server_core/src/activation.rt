@@ -43,11 +43,11 @@ impl Facts {
         seat: &mut Option<Seat>,
         n: u32,
         states: States,
-        edit: Bytes,
+        edit: &Bytes,
     ) -> Result<Answered, ServerFault>
         requires { n ≡ self.old.last + 1 }
-        ensures acted { IfOk result (λ t. Acts (does_now (whole act self.old (option_map (λ s. content s.boxed) seat.old)) states (op.Edit edit)) (whole act self.new (option_map (λ s. content s.boxed) seat.new)) t.answer t.counted) }
-        ensures refused { IfErr result (Refuses (does_now (whole act self.old (option_map (λ s. content s.boxed) seat.old)) states (op.Edit edit))) }
+        ensures acted { IfOk result (λ t. Acts (does_now (whole act self.old (option_map (λ s. content s.boxed) seat.old)) states (op.Edit edit.now)) (whole act self.new (option_map (λ s. content s.boxed) seat.new)) t.answer t.counted) }
+        ensures refused { IfErr result (Refuses (does_now (whole act self.old (option_map (λ s. content s.boxed) seat.old)) states (op.Edit edit.now))) }
         ensures kept { OnErr result (whole act self.new (option_map (λ s. content s.boxed) seat.new) ≡ whole act self.old (option_map (λ s. content s.boxed) seat.old)) }
     {
         let Some(mut taken) = seat.take() else {
@@ -171,26 +171,26 @@ impl Facts {
         seat: &mut Option<Seat>,
         n: u32,
         states: States,
-        operation: Operation,
+        operation: &Operation,
     ) -> Result<Answered, ServerFault>
         requires { n ≡ self.old.last + 1 }
-        ensures acted { IfOk result (λ t. Acts (does_now (whole act self.old (option_map (λ s. content s.boxed) seat.old)) states operation) (whole act self.new (option_map (λ s. content s.boxed) seat.new)) t.answer t.counted) }
-        ensures refused { IfErr result (Refuses (does_now (whole act self.old (option_map (λ s. content s.boxed) seat.old)) states operation)) }
+        ensures acted { IfOk result (λ t. Acts (does_now (whole act self.old (option_map (λ s. content s.boxed) seat.old)) states operation.now) (whole act self.new (option_map (λ s. content s.boxed) seat.new)) t.answer t.counted) }
+        ensures refused { IfErr result (Refuses (does_now (whole act self.old (option_map (λ s. content s.boxed) seat.old)) states operation.now)) }
         ensures kept { OnErr result (whole act self.new (option_map (λ s. content s.boxed) seat.new) ≡ whole act self.old (option_map (λ s. content s.boxed) seat.old)) }
     {
         if seat.is_none() {
             return Err(ServerFault::Ignored);
         }
         match operation {
-            Operation::UiActivate(grant) => self.ui_activate(act, seat, n, states, grant),
+            Operation::UiActivate(grant) => self.ui_activate(act, seat, n, states, *grant),
             Operation::UiDeactivate => Ok(self.ui_inactive(n, states)),
             Operation::Edit(edit) => self.edit(alloc, act, seat, n, states, edit),
-            Operation::Save(k) => self.save(alloc, act, seat, n, states, k),
+            Operation::Save(k) => self.save(alloc, act, seat, n, states, *k),
             Operation::SaveCompleted { save, storage } => self.completed(
-                alloc, act, seat, n, states, save, storage,
+                alloc, act, seat, n, states, *save, *storage,
             ),
             Operation::SaveDropped(_) => Ok(self.dropped(n, states)),
-            Operation::Close(option) => self.close(alloc, act, seat, n, states, option),
+            Operation::Close(option) => self.close(alloc, act, seat, n, states, *option),
             Operation::InitNew(_)
             | Operation::Load(_, _)
             | Operation::InPlace
@@ -225,11 +225,11 @@ impl Facts {
         act: u32,
         seat: &mut Option<Seat>,
         n: u32,
-        operation: Operation,
+        operation: &Operation,
     ) -> Result<Answered, ServerFault>
         requires { n ≡ self.old.last + 1 }
-        ensures acted { IfOk result (λ t. Acts (next_call (whole act self.old (option_map (λ s. content s.boxed) seat.old)) operation (whole act self.old (option_map (λ s. content s.boxed) seat.old)).content) (whole act self.new (option_map (λ s. content s.boxed) seat.new)) t.answer t.counted) }
-        ensures refused { IfErr result (Refuses (next_call (whole act self.old (option_map (λ s. content s.boxed) seat.old)) operation (whole act self.old (option_map (λ s. content s.boxed) seat.old)).content)) }
+        ensures acted { IfOk result (λ t. Acts (next_call (whole act self.old (option_map (λ s. content s.boxed) seat.old)) operation.now (whole act self.old (option_map (λ s. content s.boxed) seat.old)).content) (whole act self.new (option_map (λ s. content s.boxed) seat.new)) t.answer t.counted) }
+        ensures refused { IfErr result (Refuses (next_call (whole act self.old (option_map (λ s. content s.boxed) seat.old)) operation.now (whole act self.old (option_map (λ s. content s.boxed) seat.old)).content)) }
         ensures kept { OnErr result (whole act self.new (option_map (λ s. content s.boxed) seat.new) ≡ whole act self.old (option_map (λ s. content s.boxed) seat.old)) }
     {
         if seat.is_none() {
@@ -237,7 +237,7 @@ impl Facts {
         }
         match self.step(operation.op()) {
             Ok(states) => self.act(alloc, act, seat, n, states, operation),
-            Err(fault) => Ok(self.refuse(act, seat, n, &operation, Refusal::of_state(fault))),
+            Err(fault) => Ok(self.refuse(act, seat, n, operation, Refusal::of_state(fault))),
         }
     }
 
@@ -248,10 +248,10 @@ impl Facts {
         act: u32,
         seat: &mut Option<Seat>,
         n: u32,
-        operation: Operation,
+        operation: &Operation,
     ) -> Result<Answered, ServerFault>
-        ensures acted { IfOk result (λ t. Acts (known_call (whole act self.old (option_map (λ s. content s.boxed) seat.old)) n operation) (whole act self.new (option_map (λ s. content s.boxed) seat.new)) t.answer t.counted) }
-        ensures refused { IfErr result (Refuses (known_call (whole act self.old (option_map (λ s. content s.boxed) seat.old)) n operation)) }
+        ensures acted { IfOk result (λ t. Acts (known_call (whole act self.old (option_map (λ s. content s.boxed) seat.old)) n operation.now) (whole act self.new (option_map (λ s. content s.boxed) seat.new)) t.answer t.counted) }
+        ensures refused { IfErr result (Refuses (known_call (whole act self.old (option_map (λ s. content s.boxed) seat.old)) n operation.now)) }
         ensures kept { OnErr result (whole act self.new (option_map (λ s. content s.boxed) seat.new) ≡ whole act self.old (option_map (λ s. content s.boxed) seat.old)) }
         ensures closed { seat.old ≡ None → seat.new ≡ None }
     {
@@ -277,10 +277,10 @@ impl Activation {
         act: u32,
         seats: &mut Seats,
         n: u32,
-        operation: Operation,
+        operation: &Operation,
     ) -> Result<Answered, ServerFault>
-        ensures acted { IfOk result (λ t. Acts (known_call (seen_activation (λ s. content s.boxed) seats.old.slab.slots (act, self.old)) n operation) (seen_activation (λ s. content s.boxed) seats.new.slab.slots (act, self.new)) t.answer t.counted) }
-        ensures refused { IfErr result (Refuses (known_call (seen_activation (λ s. content s.boxed) seats.old.slab.slots (act, self.old)) n operation)) }
+        ensures acted { IfOk result (λ t. Acts (known_call (seen_activation (λ s. content s.boxed) seats.old.slab.slots (act, self.old)) n operation.now) (seen_activation (λ s. content s.boxed) seats.new.slab.slots (act, self.new)) t.answer t.counted) }
+        ensures refused { IfErr result (Refuses (known_call (seen_activation (λ s. content s.boxed) seats.old.slab.slots (act, self.old)) n operation.now)) }
         ensures kept { OnErr result (seen_activation (λ s. content s.boxed) seats.new.slab.slots (act, self.new) ≡ seen_activation (λ s. content s.boxed) seats.old.slab.slots (act, self.old)) }
         ensures others { KeepsOthers act seats.old.slab.slots seats.new.slab.slots }
     {

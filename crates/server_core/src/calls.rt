@@ -55,11 +55,11 @@ impl ServerCore {
         i: usize,
         act: u32,
         n: u32,
-        operation: Operation,
+        operation: &Operation,
     ) -> Result<Answered, ServerFault>
         requires { IsAt self.old.acts.entries act i }
-        ensures acted { IfOk result (λ t. TakesKnown (seen (λ s. content s.boxed) self.old) act n operation (find (is_act act) (seen (λ s. content s.boxed) self.old).acts) (seen (λ s. content s.boxed) self.new) t.answer t.counted) }
-        ensures refused { IfErr result (λ e. (box : Option Kind) → Refuses (called (seen (λ s. content s.boxed) self.old) act n operation box (find (is_act act) (seen (λ s. content s.boxed) self.old).acts)) e) }
+        ensures acted { IfOk result (λ t. TakesKnown (seen (λ s. content s.boxed) self.old) act n operation.now (find (is_act act) (seen (λ s. content s.boxed) self.old).acts) (seen (λ s. content s.boxed) self.new) t.answer t.counted) }
+        ensures refused { IfErr result (λ e. (box : Option Kind) → Refuses (called (seen (λ s. content s.boxed) self.old) act n operation.now box (find (is_act act) (seen (λ s. content s.boxed) self.old).acts)) e) }
         ensures kept { OnErr result (seen (λ s. content s.boxed) self.new ≡ seen (λ s. content s.boxed) self.old) }
     {
         self.acts[i].on_call(alloc, act, &mut self.seats, n, operation)
@@ -150,7 +150,9 @@ impl ServerCore {
         ensures kept { OnErr result (seen (λ s. content s.boxed) self.new ≡ seen (λ s. content s.boxed) self.old) }
     {
         let inc = self.inc;
-        match self.known(alloc, i, act, n, operation) {
+        let told = self.known(alloc, i, act, n, &operation);
+        drop(operation);
+        match told {
             Ok(answered) => Ok(Reaction {
                 reply: Message::Reply {
                     inc,
@@ -228,10 +230,15 @@ impl ServerCore {
     {
         let class = match self.first_class(n, &operation) {
             Ok(class) => class,
-            Err(fault) => return Err(Refusal { fault, back: boxed }),
+            Err(fault) => {
+                drop(operation);
+                return Err(Refusal { fault, back: boxed });
+            }
         };
         let inc = self.inc;
-        match self.offered(alloc, act, class, &operation, boxed) {
+        let offered = self.offered(alloc, act, class, &operation, boxed);
+        drop(operation);
+        match offered {
             Ok(answer) => Ok(Reaction {
                 reply: Message::Reply {
                     inc,
@@ -306,6 +313,7 @@ impl ServerCore {
             });
         };
         if inc != self.inc {
+            drop(operation);
             return Err(Refusal {
                 fault: ServerFault::WrongIncarnation,
                 back: boxed,
