@@ -71,6 +71,11 @@ pair_read _ = None
 abbrev pub two_numbers : (ℕ → ℕ → Event) → List (List ℕ) → Option Event
 two_numbers f words = option_map (λ (p : ℕ × ℕ). f p.0 p.1) (pair_read words)
 
+-- a number and a word behind it, alone
+abbrev pub numbered_word : List (List ℕ) → Option (ℕ × List ℕ)
+numbered_word (n ∷ word ∷ []) = option_map (λ k. (k, word)) (number_read n)
+numbered_word _ = None
+
 -- the number of a verb: a number, which may stand behind a minus sign
 abbrev pub opposite : ℕ → ℤ
 opposite zero = pos zero

@@ -1,8 +1,9 @@
 //! What is printed of the answers of events.
 
-ghost use Rattle.event_texts.specs.Answers.{answer_line, answer_text, asked_text, commit_text, made_text, object_text, outcome_text, sent_text, stop_line, told_text};
+ghost use Rattle.event_texts.specs.Answers.{answer_line, answer_text, asked_text, made_text, outcome_text, stop_line, told_text};
 ghost use Rattle.std.specs.List.{flat_map};
 ghost use Rattle.std.specs.Prelude.{◌≡◌, ◌++◌, OnOk};
+ghost use Rattle.texts.specs.Written.{numbered};
 
 use std::alloc::{AllocError, Global};
 use texts::writing::{push_numbered, push_word};
@@ -20,8 +21,7 @@ pub fn push_answer(
 {
     push_numbered(alloc, text, "", event)?;
     push_text(alloc, text, answer)?;
-    text.push(b'\n')?;
-    Ok(())
+    text.extend_from_slice(b"\n")
 }
 
 /// Writes the line of a stop before an event.
@@ -35,8 +35,7 @@ pub fn push_stop(
 {
     push_numbered(alloc, text, "stop ", event)?;
     push_word(text, stop.name().as_bytes())?;
-    text.push(b'\n')?;
-    Ok(())
+    text.extend_from_slice(b"\n")
 }
 
 /// Writes an answer.
@@ -59,9 +58,10 @@ fn push_outcome(alloc: Global, text: &mut Vec<u8>, outcome: &Outcome) -> Result<
     push_told(alloc, text, outcome)?;
     push_asked(alloc, text, outcome)?;
     if text.len() == before {
-        text.extend_from_slice(b" ok".as_slice())?;
+        text.extend_from_slice(b" ok")
+    } else {
+        Ok(())
     }
-    Ok(())
 }
 
 /// Writes what an event made.
@@ -71,11 +71,11 @@ fn push_made(alloc: Global, text: &mut Vec<u8>, outcome: &Outcome) -> Result<(),
     if let Some(frame) = outcome.frame {
         push_numbered(alloc, text, " frame ", frame as usize)?;
     }
-    push_objects(alloc, text, outcome.objects.as_slice())?;
-    if let Some(server) = outcome.server {
-        push_numbered(alloc, text, " server ", server as usize)?;
+    push_each(alloc, text, " object ", outcome.objects.as_slice())?;
+    match outcome.server {
+        Some(server) => push_numbered(alloc, text, " server ", server as usize),
+        None => Ok(()),
     }
-    Ok(())
 }
 
 /// Writes what became of a call.
@@ -83,52 +83,37 @@ fn push_told(alloc: Global, text: &mut Vec<u8>, outcome: &Outcome) -> Result<(),
     ensures { OnOk result (text.new.items ≡ text.old.items ++ told_text outcome.now) }
 {
     if outcome.taken {
-        text.extend_from_slice(b" taken".as_slice())?;
+        text.extend_from_slice(b" taken")?;
     }
     if let Some(refusal) = outcome.refused {
         push_numbered(alloc, text, " refused ", usize::from(refusal.code()))?;
     }
     if outcome.no_tools {
-        text.extend_from_slice(b" notools".as_slice())?;
+        text.extend_from_slice(b" notools")
+    } else {
+        Ok(())
     }
-    Ok(())
 }
 
 /// Writes what is asked of the world.
 fn push_asked(alloc: Global, text: &mut Vec<u8>, outcome: &Outcome) -> Result<(), AllocError>
     ensures { OnOk result (text.new.items ≡ text.old.items ++ asked_text outcome.now) }
 {
-    push_sent(alloc, text, outcome.sent.as_slice())?;
-    push_commits(alloc, text, outcome.commits.as_slice())?;
-    Ok(())
+    push_each(alloc, text, " sent ", outcome.sent.as_slice())?;
+    push_each(alloc, text, " commit ", outcome.commits.as_slice())
 }
 
-/// Writes the objects that were made.
-fn push_objects(alloc: Global, text: &mut Vec<u8>, objects: &[u32]) -> Result<(), AllocError>
-    ensures { OnOk result (text.new.items ≡ text.old.items ++ flat_map object_text objects.now) }
+/// Writes numbers, each of them behind a text.
+fn push_each(
+    alloc: Global,
+    text: &mut Vec<u8>,
+    before: &str,
+    numbers: &[u32],
+) -> Result<(), AllocError>
+    ensures { OnOk result (text.new.items ≡ text.old.items ++ flat_map (numbered before.now) numbers.now) }
 {
-    for object in objects {
-        push_numbered(alloc, text, " object ", *object as usize)?;
-    }
-    Ok(())
-}
-
-/// Writes the places of the messages that were sent.
-fn push_sent(alloc: Global, text: &mut Vec<u8>, places: &[u32]) -> Result<(), AllocError>
-    ensures { OnOk result (text.new.items ≡ text.old.items ++ flat_map sent_text places.now) }
-{
-    for place in places {
-        push_numbered(alloc, text, " sent ", *place as usize)?;
-    }
-    Ok(())
-}
-
-/// Writes the frames whose commit is asked.
-fn push_commits(alloc: Global, text: &mut Vec<u8>, frames: &[u32]) -> Result<(), AllocError>
-    ensures { OnOk result (text.new.items ≡ text.old.items ++ flat_map commit_text frames.now) }
-{
-    for frame in frames {
-        push_numbered(alloc, text, " commit ", *frame as usize)?;
+    for number in numbers {
+        push_numbered(alloc, text, before, *number as usize)?;
     }
     Ok(())
 }

@@ -1,8 +1,10 @@
 //! Lines of events.
 
-ghost use Rattle.event_texts.specs.Events.{area_of, close_read, commit_named, edit_read, end_named, event_named, event_read, insert_read, is_file_name, kind_read, new_read, numbers_named, object_named, open_in, open_named, open_read, option_read, outcome_read, pair_read, resolve_read, save_as_read, short_read, signed_read, sized_read, sole_number, takes_memory, verb_read};
+ghost use Rattle.event_texts.specs.Events.{area_of, close_read, commit_named, edit_read, end_named, event_named, event_read, insert_read, is_file_name, kind_read, new_read, numbered_word, numbers_named, object_named, open_in, open_named, open_read, option_read, outcome_read, pair_read, resolve_read, save_as_read, short_read, signed_read, sized_read, sole_number, takes_memory, verb_read};
 ghost use Rattle.text_words.specs.Words.{words};
 ghost use Rattle.std.specs.List.{list_all};
+ghost use Rattle.std.specs.Option.{option_map};
+ghost use Rattle.std.specs.Str.{bytes_eq};
 ghost use Rattle.std.specs.Prelude.{◌≡◌, [], IfErr, IfOk, IsSome, IsTrue};
 ghost use Rattle.texts.specs.Words.{is_visible};
 
@@ -17,6 +19,13 @@ use world_model::event::Event;
 
 /// The most characters that the name of a file has.
 const NAME_SIZE: usize = 64;
+
+/// Whether a word is this one.
+pub(crate) fn is_word(word: &[u8], other: &[u8]) -> bool
+    ensures { result ≡ bytes_eq word.now other.now }
+{
+    word == other
+}
 
 /// The file to be opened that a line spells. Memory is taken for a line that spells one.
 #[tactic(auto, using(crate::proofs::Behind::open_alone))]
@@ -35,7 +44,7 @@ fn parse_open_with(alloc: Global, name: &[u8], rest: &[u8]) -> Result<Option<Eve
     ensures read { IfOk result (λ event. event ≡ open_named name.now (words rest.now)) }
     ensures within { IfErr result (λ _. IsSome (open_named name.now (words rest.now))) }
 {
-    if name == b"open".as_slice() {
+    if is_word(name, b"open") {
         opened_frame(alloc, rest)
     } else {
         Ok(None)
@@ -59,7 +68,7 @@ pub fn parse(alloc: Global, line: &[u8]) -> Result<Option<Event>, AllocError>
 fn parse_alone(name: &[u8]) -> Option<Event>
     ensures { result ≡ event_named name.now [] }
 {
-    if name == b"start".as_slice() {
+    if is_word(name, b"start") {
         Some(Event::Command(Command::Start))
     } else {
         None
@@ -72,13 +81,13 @@ fn parse_with(alloc: Global, name: &[u8], rest: &[u8]) -> Result<Option<Event>, 
     ensures read { IfOk result (λ event. event ≡ event_named name.now (words rest.now)) }
     ensures within { IfErr result (λ _. IsTrue (takes_memory (event_named name.now (words rest.now)))) }
 {
-    if name == b"start".as_slice() {
+    if is_word(name, b"start") {
         Ok(None)
-    } else if name == b"new".as_slice() {
+    } else if is_word(name, b"new") {
         new_frame(alloc, rest)
-    } else if name == b"saveas".as_slice() {
+    } else if is_word(name, b"saveas") {
         save_as(alloc, rest)
-    } else if name == b"edit".as_slice() {
+    } else if is_word(name, b"edit") {
         edit(alloc, rest)
     } else {
         Ok(parse_numbers(name, rest))
@@ -89,14 +98,14 @@ fn parse_with(alloc: Global, name: &[u8], rest: &[u8]) -> Result<Option<Event>, 
 fn parse_numbers(name: &[u8], rest: &[u8]) -> Option<Event>
     ensures { result ≡ numbers_named name.now (words rest.now) }
 {
-    if name == b"insert".as_slice() {
+    if is_word(name, b"insert") {
         insert(rest)
-    } else if name == b"run".as_slice() {
+    } else if is_word(name, b"run") {
         let (object, inc) = two_numbers(rest)?;
         Some(Event::Command(Command::Run(object, inc)))
-    } else if name == b"save".as_slice() {
+    } else if is_word(name, b"save") {
         Some(Event::Command(Command::Save(sole_number(rest)?)))
-    } else if name == b"deliver".as_slice() {
+    } else if is_word(name, b"deliver") {
         Some(Event::Deliver(sole_number(rest)?))
     } else {
         parse_object(name, rest)
@@ -107,16 +116,16 @@ fn parse_numbers(name: &[u8], rest: &[u8]) -> Option<Event>
 fn parse_object(name: &[u8], rest: &[u8]) -> Option<Event>
     ensures { result ≡ object_named name.now (words rest.now) }
 {
-    if name == b"delete".as_slice() {
+    if is_word(name, b"delete") {
         Some(Event::Command(Command::Delete(sole_number(rest)?)))
-    } else if name == b"close".as_slice() {
+    } else if is_word(name, b"close") {
         close(rest)
-    } else if name == b"verb".as_slice() {
+    } else if is_word(name, b"verb") {
         verb(rest)
-    } else if name == b"scribble".as_slice() {
+    } else if is_word(name, b"scribble") {
         let (inc, act) = two_numbers(rest)?;
         Some(Event::Scribble(inc, act))
-    } else if name == b"ask".as_slice() {
+    } else if is_word(name, b"ask") {
         let (inc, act) = two_numbers(rest)?;
         Some(Event::Ask(inc, act))
     } else {
@@ -128,11 +137,11 @@ fn parse_object(name: &[u8], rest: &[u8]) -> Option<Event>
 fn parse_end(name: &[u8], rest: &[u8]) -> Option<Event>
     ensures { result ≡ end_named name.now (words rest.now) }
 {
-    if name == b"crash".as_slice() {
+    if is_word(name, b"crash") {
         Some(Event::Crash(sole_number(rest)?))
-    } else if name == b"reap".as_slice() {
+    } else if is_word(name, b"reap") {
         Some(Event::Reap(sole_number(rest)?))
-    } else if name == b"kill".as_slice() {
+    } else if is_word(name, b"kill") {
         Some(Event::Command(Command::Kill(sole_number(rest)?)))
     } else {
         parse_commit(name, rest)
@@ -143,11 +152,11 @@ fn parse_end(name: &[u8], rest: &[u8]) -> Option<Event>
 fn parse_commit(name: &[u8], rest: &[u8]) -> Option<Event>
     ensures { result ≡ commit_named name.now (words rest.now) }
 {
-    if name == b"done".as_slice() {
+    if is_word(name, b"done") {
         Some(Event::Done(sole_number(rest)?))
-    } else if name == b"fail".as_slice() {
+    } else if is_word(name, b"fail") {
         Some(Event::Fail(sole_number(rest)?))
-    } else if name == b"resolve".as_slice() {
+    } else if is_word(name, b"resolve") {
         resolve(rest)
     } else {
         None
@@ -178,6 +187,21 @@ fn two_numbers(rest: &[u8]) -> Option<(u32, u32)>
         return None;
     };
     Some((number(first)?, number(second)?))
+}
+
+/// A number and the word behind it, which stand alone.
+pub(crate) fn number_and_word(rest: &[u8]) -> Option<(u32, &[u8])>
+    ensures { option_map (λ found. (found.0, found.1.now)) result ≡ numbered_word (words rest.now) }
+{
+    let mut words = Pieces::new(rest, b' ');
+    let (Some(first), Some(word), None) = (
+        words.next_piece(),
+        words.next_piece(),
+        words.next_piece(),
+    ) else {
+        return None;
+    };
+    Some((number(first)?, word))
 }
 
 /// A number that may stand behind a minus sign.
@@ -261,21 +285,17 @@ fn opened_frame(alloc: Global, rest: &[u8]) -> Result<Option<Event>, AllocError>
 }
 
 /// The save under another name that what stands behind `saveas` spells.
+#[tactic(auto, using(crate::proofs::Behind::behind_number))]
 fn save_as(alloc: Global, rest: &[u8]) -> Result<Option<Event>, AllocError>
     ensures read { IfOk result (λ event. event ≡ save_as_read (words rest.now)) }
     ensures within { IfErr result (λ _. IsTrue (takes_memory (save_as_read (words rest.now)))) }
 {
-    let mut words = Pieces::new(rest, b' ');
-    let (Some(frame), Some(name), None) = (
-        words.next_piece(),
-        words.next_piece(),
-        words.next_piece(),
-    ) else {
+    let Some((frame, name)) = number_and_word(rest) else {
         return Ok(None);
     };
-    let (Some(frame), true) = (number(frame), is_file_name(name)) else {
+    if !is_file_name(name) {
         return Ok(None);
-    };
+    }
     let name = Bytes::from_slice(alloc, name)?;
     Ok(Some(Event::Command(Command::SaveAs(frame, name))))
 }
@@ -284,11 +304,11 @@ fn save_as(alloc: Global, rest: &[u8]) -> Result<Option<Event>, AllocError>
 fn kind(word: &[u8]) -> Option<ObjectKind>
     ensures { result ≡ kind_read word.now }
 {
-    if word == b"note".as_slice() {
+    if is_word(word, b"note") {
         Some(ObjectKind::Note)
-    } else if word == b"table".as_slice() {
+    } else if is_word(word, b"table") {
         Some(ObjectKind::Table)
-    } else if word == b"drawing".as_slice() {
+    } else if is_word(word, b"drawing") {
         Some(ObjectKind::Drawing)
     } else {
         None
@@ -333,9 +353,9 @@ fn insert(rest: &[u8]) -> Option<Event>
 fn option(word: &[u8]) -> Option<CloseOption>
     ensures { result ≡ option_read word.now }
 {
-    if word == b"save".as_slice() {
+    if is_word(word, b"save") {
         Some(CloseOption::SaveIfDirty)
-    } else if word == b"nosave".as_slice() {
+    } else if is_word(word, b"nosave") {
         Some(CloseOption::NoSave)
     } else {
         None
@@ -343,30 +363,21 @@ fn option(word: &[u8]) -> Option<CloseOption>
 }
 
 /// The close that what stands behind `close` spells.
+#[tactic(auto, using(crate::proofs::Behind::behind_number))]
 fn close(rest: &[u8]) -> Option<Event>
     ensures { result ≡ close_read (words rest.now) }
 {
-    let mut words = Pieces::new(rest, b' ');
-    let (Some(object), Some(chosen), None) = (
-        words.next_piece(),
-        words.next_piece(),
-        words.next_piece(),
-    ) else {
-        return None;
-    };
-    match (number(object), option(chosen)) {
-        (Some(object), Some(option)) => Some(Event::Command(Command::Close(object, option))),
-        _ => None,
-    }
+    let (object, chosen) = number_and_word(rest)?;
+    Some(Event::Command(Command::Close(object, option(chosen)?)))
 }
 
 /// Whether a commit in doubt was kept.
 fn outcome(word: &[u8]) -> Option<bool>
     ensures { result ≡ outcome_read word.now }
 {
-    if word == b"kept".as_slice() {
+    if is_word(word, b"kept") {
         Some(true)
-    } else if word == b"lost".as_slice() {
+    } else if is_word(word, b"lost") {
         Some(false)
     } else {
         None
@@ -374,39 +385,21 @@ fn outcome(word: &[u8]) -> Option<bool>
 }
 
 /// What is known of a commit in doubt, as what stands behind `resolve` spells it.
+#[tactic(auto, using(crate::proofs::Behind::behind_number))]
 fn resolve(rest: &[u8]) -> Option<Event>
     ensures { result ≡ resolve_read (words rest.now) }
 {
-    let mut words = Pieces::new(rest, b' ');
-    let (Some(frame), Some(word), None) = (
-        words.next_piece(),
-        words.next_piece(),
-        words.next_piece(),
-    ) else {
-        return None;
-    };
-    match (number(frame), outcome(word)) {
-        (Some(frame), Some(is_kept)) => Some(Event::Resolve(frame, is_kept)),
-        _ => None,
-    }
+    let (frame, word) = number_and_word(rest)?;
+    Some(Event::Resolve(frame, outcome(word)?))
 }
 
 /// The verb that what stands behind `verb` spells.
+#[tactic(auto, using(crate::proofs::Behind::behind_number))]
 fn verb(rest: &[u8]) -> Option<Event>
     ensures { result ≡ verb_read (words rest.now) }
 {
-    let mut words = Pieces::new(rest, b' ');
-    let (Some(object), Some(word), None) = (
-        words.next_piece(),
-        words.next_piece(),
-        words.next_piece(),
-    ) else {
-        return None;
-    };
-    match (number(object), signed(word)) {
-        (Some(object), Some(number)) => Some(Event::Command(Command::Verb(object, number))),
-        _ => None,
-    }
+    let (object, word) = number_and_word(rest)?;
+    Some(Event::Command(Command::Verb(object, signed(word)?)))
 }
 
 /// The edit that what stands behind `edit` spells.

@@ -8,11 +8,12 @@ ghost use Rattle.message_model.specs.Spelling.{head};
 ghost use Rattle.std.specs.Prelude.{◌≡◌, ◌≤◌, drop, length, IfErr, IfOk, IfSome, IsSome, IsTrue};
 ghost use Rattle.texts.specs.Words.{content_read};
 
+use crate::events::{is_word, number_and_word};
 use message_bodies::body::{BodyFault, read_body};
 use message_model::codes::{Kind, kind_of};
 use message_model::frame::Frame;
 use std::alloc::{AllocError, Global};
-use text_words::words::{Pieces, cut, number};
+use text_words::words::cut;
 use texts::words::content;
 use wire_msgs::message::Message;
 use world_model::event::Event;
@@ -83,19 +84,12 @@ fn message_told(alloc: Global, word: &[u8]) -> Result<Option<Message>, AllocErro
 }
 
 /// The forged message that what stands behind `forge` spells.
+#[tactic(auto, using(crate::proofs::Behind::behind_number))]
 fn forged(alloc: Global, rest: &[u8]) -> Result<Option<Event>, AllocError>
     ensures read { IfOk result (λ event. event ≡ forge_read (words rest.now)) }
     ensures within { IfErr result (λ _. IsTrue (forge_spelled (words rest.now))) }
 {
-    let mut words = Pieces::new(rest, b' ');
-    let (Some(inc), Some(bytes), None) = (
-        words.next_piece(),
-        words.next_piece(),
-        words.next_piece(),
-    ) else {
-        return Ok(None);
-    };
-    let Some(inc) = number(inc) else {
+    let Some((inc, bytes)) = number_and_word(rest) else {
         return Ok(None);
     };
     match message_told(alloc, bytes)? {
@@ -109,7 +103,7 @@ fn parse_forge_with(alloc: Global, name: &[u8], rest: &[u8]) -> Result<Option<Ev
     ensures read { IfOk result (λ event. event ≡ forge_named name.now (words rest.now)) }
     ensures within { IfErr result (λ _. IsTrue (forge_tells name.now (words rest.now))) }
 {
-    if name == b"forge".as_slice() {
+    if is_word(name, b"forge") {
         forged(alloc, rest)
     } else {
         Ok(None)
