@@ -1,5 +1,5 @@
 -- A line that takes memory spells an event, or forges bytes.
-use Rattle.std.proofs.Common.{◌||◌, Bool, Option, Some, None, IsTrue, IsSome, is_some, option_map, refl}
+use Rattle.std.proofs.Common.{◌||◌, Bool, Option, Some, None, Result, Ok, Err, IfErr, IsTrue, IsSome, is_some, option_map, refl}
 use Rattle.world_model.specs.declared.event.Event.{Event}
 use Rattle.event_texts.specs.Events.{Sized, new_of, open_of, or_else, takes_memory}
 
@@ -29,4 +29,7 @@ event_wants None (Some x) e b t = refl
 event_wants None None (Some x) b t = refl
 event_wants None None None b t = absurd (cc)
 
-pub ruleset wanting = (open_wants, forge_wants, event_wants)
+-- what holds of any want of memory
+pub lacking : {X E P : Type 0} (r : Result X E) → P → IfErr r (λ e. P)
+lacking (Ok x) p = tt
+lacking (Err e) p = p

@@ -25,7 +25,6 @@ fn is_skipped(line: &[u8]) -> bool
 ///
 /// Refused for want of memory alone: of a line that spells an event, or of forged bytes, before it is known whether they are a
 /// message.
-#[tactic(auto, using(crate::proofs::Memory::wanting))]
 pub fn parse_line(alloc: Global, line: &[u8]) -> Result<Option<Event>, AllocError>
     ensures read { IfOk result (λ event. event ≡ event_of line.now) }
     ensures within { IfErr result (λ _. IsTrue (may_want line.now)) }
