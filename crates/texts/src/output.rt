@@ -11,6 +11,5 @@ pub fn write_all<W: Write>(writer: &mut W, bytes: &[u8]) -> io::Result<()>
     ensures { OnOk result (Appends (W.contents writer.old) (W.contents writer.new) bytes.now) }
 {
     writer.write_all(bytes)?;
-    writer.flush()?;
-    Ok(())
+    writer.flush()
 }

@@ -25,8 +25,7 @@ fn push_byte_hex(text: &mut Vec<u8>, byte: u8) -> Result<(), AllocError>
     ensures { OnOk result (text.new.items ≡ text.old.items ++ byte_hex byte) }
 {
     let digits = [digit_text(byte / 16), digit_text(byte % 16)];
-    text.extend_from_slice(&digits)?;
-    Ok(())
+    text.extend_from_slice(&digits)
 }
 
 /// Writes bytes, each in two lower-case hexadecimal digits.
@@ -45,11 +44,11 @@ fn push_byte(text: &mut Vec<u8>, byte: u8) -> Result<(), AllocError>
 {
     if is_hidden(byte) {
         text.push(b'\\')?;
-        push_byte_hex(text, byte)?;
+        push_byte_hex(text, byte)
     } else {
         text.push(byte)?;
+        Ok(())
     }
-    Ok(())
 }
 
 /// Writes a name as paths spell it: a byte up to 32, or 127, as a backslash and two hexadecimal digits.
@@ -83,8 +82,8 @@ pub fn push_numbered(
     ensures { OnOk result (text.new.items ≡ text.old.items ++ numbered before.now number) }
 {
     text.extend_from_slice(before.as_bytes())?;
-    text.extend_from_slice(number.to_string(alloc)?.as_bytes())?;
-    Ok(())
+    let digits = number.to_string(alloc)?;
+    text.extend_from_slice(digits.as_bytes())
 }
 
 /// Writes a word behind a space.
@@ -92,6 +91,5 @@ pub fn push_word(text: &mut Vec<u8>, word: &[u8]) -> Result<(), AllocError>
     ensures { OnOk result (text.new.items ≡ text.old.items ++ 32 ∷ word.now) }
 {
     text.push(b' ')?;
-    text.extend_from_slice(word)?;
-    Ok(())
+    text.extend_from_slice(word)
 }
