@@ -1,24 +1,40 @@
--- Where an object stands, found by its number among the numbers; objects that keep their numbers; numbers that are new.
-use Rattle.std.proofs.Common.{◌≡◌, ℕ, ◌+◌, ◌<◌, ◌≤◌, zero, suc, Bool, true, false, not, cond, nat_eq, nat_lt, List, [], ◌∷◌, ◌++◌, map, length, get_or, position, remove, slice_set, refl, ap, sym, subst, ◌∙◌, Option, Some, None, MatchOption, IfSome, arith}
-use Rattle.std.proofs.lemmas.Bool.{eqb-true, ltb-false, ltb-true}
-use Rattle.std.proofs.lemmas.List.{length-map}
-use Rattle.std.specs.Cmp.{nat_eq_equiv}
-use Rattle.std.specs.List.{AllByRecursion, list_any, position_or_len, range_with_len}
+-- Where an object stands, found by its number among objects whose numbers rise; objects that keep their numbers; numbers past
+-- all that there are.
+use Rattle.std.proofs.Common.{◌≡◌, ℕ, ◌+◌, ◌<◌, ◌≤◌, zero, suc, true, false, nat_lt, List, [], ◌∷◌, ◌++◌, map, length, get_or, remove, slice_set, refl, ap, sym, subst, ◌∙◌, Option, Some, None, Result, Ok, Err, MatchOption, IfSome, Ordering, Less, Equal, Greater, nat_cmp, arith}
+use Rattle.std.proofs.lemmas.Bool.{eqb-true, eq-eqb, ltb-false, ltb-true}
+use Rattle.std.proofs.lemmas.Bool.Decides.{nat_tests}
+use Rattle.std.proofs.lemmas.Cmp.{ranked}
+use Rattle.std.specs.List.{AllByRecursion, range_with_len}
+use Rattle.std.specs.List.Sorted.{IsBinarySearchResult, IsNonDecreasingBy, IsPartitionPoint, IsSearchInRange, IsStrictlySortedBy}
+use Rattle.std.specs.Ordering.{ordering_index}
+use Rattle.std.specs.Result.{result_ok}
 use Rattle.wire_msgs.specs.Found.{find, IsPlace}
 use Rattle.container_model.specs.declared.record.Object.{Object}
 use Rattle.container_model.specs.Numbered.{IsObjectAt}
 use Rattle.container_model.specs.Record.{is_object, without_first}
-use Rattle.container_checks.specs.Fresh.{AreFresh}
 use Rattle.container_checks.proofs.LookupPlaces.{own_place}
 
 abbrev pub numbers : List Object → List ℕ
 numbers os = map (λ (o : Object). o.number) os
 
-module _ (n : ℕ) where
-  -- where the first stands that has the number, or how many they are
-  abbrev first : List Object → ℕ
-  first os = position_or_len (nat_eq n) (numbers os)
+abbrev pub AreRising : List ℕ → Type 0
+AreRising ns = IsStrictlySortedBy nat_cmp ns
 
+-- ---- objects whose numbers rise
+behind : (m : ℕ) (os : List Object) (i : ℕ) (d : Object) → AllByRecursion (λ k. nat_cmp m k ≡ Less) (numbers os) → i < length os → m < (get_or os i d).number
+behind m [] i d h lt = absurd (omega (arith, lt))
+behind m (o ∷ os) zero d h lt = ranked m o.number Less (sym h.0)
+behind m (o ∷ os) (suc i) d h lt = behind m os i d h.1 (omega (arith, lt))
+
+in_order : (os : List Object) (i j : ℕ) (d : Object) → AreRising (numbers os) → i ≤ j → j < length os → (get_or os i d).number ≤ (get_or os j d).number
+unfolding IsStrictlySortedBy
+in_order [] i j d up le lt = absurd (omega (arith, lt))
+in_order (o ∷ os) zero zero d up le lt = omega arith
+in_order (o ∷ os) zero (suc j) d up le lt = (let past = behind o.number os j d up.0 (omega (arith, lt)) in omega (arith, past))
+in_order (o ∷ os) (suc i) zero d up le lt = absurd (omega (arith, le))
+in_order (o ∷ os) (suc i) (suc j) d up le lt = in_order os i j d up.1 (omega (arith, le)) (omega (arith, lt))
+
+module _ (n : ℕ) where
   record Stands (os : List Object) (i : ℕ) : Type 0 where
     place : IsPlace (is_object n) os i
     without : without_first (is_object n) os ≡ remove os i
@@ -32,47 +48,51 @@ module _ (n : ℕ) where
     without = rw t (ap (λ ys. o ∷ ys) s.without);
   }
 
-  stands : (os : List Object) → first os < length os → Stands os (first os)
-  stands [] h = absurd (omega (arith, h))
-  stands (o ∷ os) h =
-      elim (nat_eq n o.number) as (λ b. nat_eq n o.number ≡ b → cond (not b) (1 + first os) 0 < suc (length os) → Stands (o ∷ os) (cond (not b) (1 + first os) 0)) [
-        | true ↦ λ t k. here o os (nat_eq_equiv.symm o.number n ∙ t)
-        | false ↦ λ t k. (let next : suc (first os) ≡ 1 + first os = omega arith in subst (Stands (o ∷ os)) next (later o os (first os) (nat_eq_equiv.symm o.number n ∙ t) (stands os (omega (arith, k)))))
-      ] refl h
+  other : (o : Object) → (o.number ≡ n → ⊥) → is_object n o ≡ false
+  other o differs =
+      elim (is_object n o) as (λ b. is_object n o ≡ b → b ≡ false) [
+        | true ↦ λ t. absurd (differs (eqb-true o.number n t))
+        | false ↦ λ t. refl
+      ] refl
 
-  absent : (os : List Object) → length os ≤ first os → find (is_object n) os ≡ None
-  absent [] h = refl
-  absent (o ∷ os) h =
-      elim (nat_eq n o.number) as (λ b. nat_eq n o.number ≡ b → suc (length os) ≤ cond (not b) (1 + first os) 0 → find (is_object n) (o ∷ os) ≡ None) [
-        | true ↦ λ t k. absurd (omega (arith, k))
-        | false ↦ λ t k. (let past : is_object n o ≡ false = nat_eq_equiv.symm o.number n ∙ t in rw past (absent os (omega (arith, k))))
-      ] refl h
+  stands : (os : List Object) (i : ℕ) (d : Object) → AreRising (numbers os) → i < length os → (get_or os i d).number ≡ n → Stands os i
+  unfolding IsStrictlySortedBy
+  stands [] i d up lt same = absurd (omega (arith, lt))
+  stands (o ∷ os) zero d up lt same = here o os (eq-eqb o.number n same)
+  stands (o ∷ os) (suc i) d up lt same =
+      later o os i (other o (λ e. let past = behind o.number os i d up.0 (omega (arith, lt)) in omega (arith, past, same, e))) (stands os i d up.1 (omega (arith, lt)) same)
 
-  module _ (os : List Object) where
-    many : length (numbers os) ≡ length os
-    many = length-map os (λ (o : Object). o.number)
+  absent : (os : List Object) (d : Object) → ((i : ℕ) → i < length os → (get_or os i d).number ≡ n → ⊥) → find (is_object n) os ≡ None
+  absent [] d differs = refl
+  absent (o ∷ os) d differs = rw (other o (differs 0 (omega arith))) (absent os d (λ i lt. differs (suc i) (omega (arith, lt))))
 
-    within : nat_lt (first os) (length (numbers os)) ≡ true → Stands os (first os)
-    within t = (let lt = ltb-true (first os) (length (numbers os)) t in stands os (omega (arith, lt, many)))
+  -- how an object's number compares with the one that is looked for
+  abbrev compared : Object → Ordering
+  compared o = nat_cmp o.number n
 
-    found_if : (b : Bool) → nat_lt (first os) (length (numbers os)) ≡ b → MatchOption (cond b (Some (first os)) None) (find (is_object n) os ≡ None) (IsPlace (is_object n) os)
-    found_if true t = (within t).place
-    found_if false t = (let le = ltb-false (first os) (length (numbers os)) t in absent os (omega (arith, le, many)))
+  rise : (os : List Object) → AreRising (numbers os) → IsNonDecreasingBy (λ o. ordering_index (compared o)) os
+  rise os up i j d le lt = (let ordered = in_order os i j d up le lt in grind (arith, nat_tests, ordered))
 
-    own_if : (b : Bool) → nat_lt (first os) (length (numbers os)) ≡ b → IfSome (cond b (Some (first os)) None) (IsObjectAt os)
-    own_if true t = (let s = within t in own_place n os (first os) s.place s.without)
-    own_if false t = tt
+  not_there : (os : List Object) (place : ℕ) → IsPartitionPoint (λ o. compared o ≡ Less) (λ o. compared o ≡ Greater) os place → (d : Object) (i : ℕ) → i < length os → (get_or os i d).number ≡ n → ⊥
+  not_there os place parted d i lt same =
+      elim (nat_lt i place) as (λ b. nat_lt i place ≡ b → ⊥) [
+        | true ↦ λ t. (let below = ranked (get_or os i d).number n Less (sym (parted.0 i d (omega arith) (ltb-true i place t))) in omega (arith, below, same))
+        | false ↦ λ t. (let above = ranked (get_or os i d).number n Greater (sym (parted.1 i d (ltb-false i place t) lt)) in omega (arith, above, same))
+      ] refl
 
-  module _ (ks : List ℕ) (os : List Object) (h : ks ≡ numbers os) (r : Option ℕ) (e : r ≡ position (nat_eq n) ks) where
-    place_is : position (nat_eq n) (numbers os) ≡ r
-    place_is = ap (position (nat_eq n)) (sym h) ∙ sym e
+  stood : (os : List Object) → AreRising (numbers os) → (i : ℕ) → i < length os → ((d : Object) → compared (get_or os i d) ≡ Equal) → Stands os i
+  stood [] up i lt at = absurd (omega (arith, lt))
+  stood (o ∷ os) up i lt at = stands (o ∷ os) i o up lt (ranked _ n Equal (sym (at o)))
 
-    -- what the place of a number among the numbers says of the objects
-    pub found_by : MatchOption r (find (is_object n) os ≡ None) (IsPlace (is_object n) os)
-    found_by = subst (λ (q : Option ℕ). MatchOption q (find (is_object n) os ≡ None) (IsPlace (is_object n) os)) place_is (found_if os (nat_lt (first os) (length (numbers os))) refl)
+  -- what a search by halves says of the objects
+  pub found_by : (os : List Object) → AreRising (numbers os) → (r : Result ℕ ℕ) → IsSearchInRange r (length os) → IsBinarySearchResult compared os r → MatchOption (result_ok r) (find (is_object n) os ≡ None) (IsPlace (is_object n) os)
+  found_by os up (Ok i) within at = (stood os up i within at).place
+  found_by [] up (Err i) within parted = refl
+  found_by (o ∷ os) up (Err i) within parted = absent (o ∷ os) o (not_there (o ∷ os) i (parted (rise (o ∷ os) up)) o)
 
-    pub own_by : IfSome r (IsObjectAt os)
-    own_by = subst (λ (q : Option ℕ). IfSome q (IsObjectAt os)) place_is (own_if os (nat_lt (first os) (length (numbers os))) refl)
+  pub own_by : (os : List Object) → AreRising (numbers os) → (r : Result ℕ ℕ) → IsSearchInRange r (length os) → IsBinarySearchResult compared os r → IfSome (result_ok r) (IsObjectAt os)
+  own_by os up (Ok i) within at = (let s = stood os up i within at in own_place n os i s.place s.without)
+  own_by os up (Err i) within parted = tt
 
 -- ---- objects that keep their numbers
 pub set_kept : (os : List Object) (i : ℕ) (o x : Object) → x ≡ get_or os i x → o.number ≡ x.number → numbers (slice_set os i o) ≡ numbers os
@@ -80,40 +100,71 @@ set_kept [] i o x at same = refl
 set_kept (y ∷ ys) zero o x at same = ap (λ n. n ∷ numbers ys) (same ∙ ap (λ (z : Object). z.number) at)
 set_kept (y ∷ ys) (suc i) o x at same = ap (λ ns. y.number ∷ ns) (set_kept ys i o x at same)
 
+-- where the numbers stay as they were, they still rise
+pub still : {ns ms : List ℕ} → AreRising ns → ns ≡ ms → AreRising ms
+still up same = subst AreRising same up
+
+-- there are none
+pub none_rise : AreRising []
+unfolding IsStrictlySortedBy
+none_rise = tt
+
 -- one of them changes
-pub one_kept : (ks : List ℕ) (os : List Object) (i : ℕ) (o x : Object) → ks ≡ numbers os → x ≡ get_or os i x → o.number ≡ x.number → ks ≡ numbers (slice_set os i o)
-one_kept ks os i o x h at same = h ∙ sym (set_kept os i o x at same)
+pub one_kept : (os : List Object) (i : ℕ) (o x : Object) → AreRising (numbers os) → x ≡ get_or os i x → o.number ≡ x.number → AreRising (numbers (slice_set os i o))
+one_kept os i o x up at same = still up (sym (set_kept os i o x at same))
 
 -- each of them changes
 pub each_kept : (f : Object → Object) → ((o : Object) → (f o).number ≡ o.number) → (os : List Object) → numbers (map f os) ≡ numbers os
 each_kept f same [] = refl
 each_kept f same (o ∷ os) = ap (λ n. n ∷ numbers (map f os)) (same o) ∙ ap (λ ns. o.number ∷ ns) (each_kept f same os)
 
+numbers_more : (os : List Object) (o : Object) (more : List Object) → numbers os ++ numbers (o ∷ more) ≡ numbers (os ++ o ∷ []) ++ numbers more
+numbers_more [] o more = refl
+numbers_more (x ∷ os) o more = ap (λ ns. x.number ∷ ns) (numbers_more os o more)
+
+above_front : (m : ℕ) (ns ms : List ℕ) → AllByRecursion (λ k. nat_cmp m k ≡ Less) (ns ++ ms) → AllByRecursion (λ k. nat_cmp m k ≡ Less) ns
+above_front m [] ms h = tt
+above_front m (n ∷ ns) ms h = (h.0, above_front m ns ms h.1)
+
+rising_front : (ns ms : List ℕ) → AreRising (ns ++ ms) → AreRising ns
+unfolding IsStrictlySortedBy
+rising_front [] ms up = tt
+rising_front (n ∷ ns) ms up = (above_front n ns ms up.0, rising_front ns ms up.1)
+
+-- one more of those that are to come
+pub one_more : (os : List Object) (o : Object) (more : List Object) → AreRising (numbers os ++ numbers (o ∷ more)) → AreRising (numbers (os ++ o ∷ []))
+one_more os o more up = rising_front (numbers (os ++ o ∷ [])) (numbers more) (still up (numbers_more os o more))
+
+-- one of them goes
+gone_above : (m : ℕ) (os : List Object) (i : ℕ) → AllByRecursion (λ k. nat_cmp m k ≡ Less) (numbers os) → AllByRecursion (λ k. nat_cmp m k ≡ Less) (numbers (remove os i))
+gone_above m [] zero h = h
+gone_above m [] (suc i) h = h
+gone_above m (o ∷ os) zero h = h.1
+gone_above m (o ∷ os) (suc i) h = (h.0, gone_above m os i h.1)
+
+pub one_gone : (os : List Object) (i : ℕ) → AreRising (numbers os) → AreRising (numbers (remove os i))
+unfolding IsStrictlySortedBy
+one_gone [] zero up = up
+one_gone [] (suc i) up = up
+one_gone (o ∷ os) zero up = up.1
+one_gone (o ∷ os) (suc i) up = (gone_above o.number os i up.0, one_gone os i up.1)
+
 -- ---- numbers past all that there are
-past_one : (n k : ℕ) → k < n → nat_eq n k ≡ false
-past_one n k lt =
-    elim (nat_eq n k) as (λ b. nat_eq n k ≡ b → b ≡ false) [
-      | true ↦ λ t. (let same : n ≡ k = eqb-true n k t in absurd (omega (arith, lt, same)))
-      | false ↦ λ t. refl
-    ] refl
+above_more : (m : ℕ) (ns ms : List ℕ) → AllByRecursion (λ k. nat_cmp m k ≡ Less) ns → AllByRecursion (λ k. nat_cmp m k ≡ Less) ms → AllByRecursion (λ k. nat_cmp m k ≡ Less) (ns ++ ms)
+above_more m [] ms h g = g
+above_more m (n ∷ ns) ms h g = (h.0, above_more m ns ms h.1 g)
 
-past_those : (n : ℕ) (ks : List ℕ) → AllByRecursion (λ k. k < n) ks → list_any (nat_eq n) ks ≡ false
-past_those n [] h = refl
-past_those n (k ∷ ks) h = rw (past_one n k h.0) (past_those n ks h.1)
+range_above : (m k count : ℕ) → m < k → AllByRecursion (λ n. nat_cmp m n ≡ Less) (range_with_len k count)
+range_above m k zero lt = tt
+range_above m k (suc count) lt = (grind (arith, nat_tests, lt), range_above m (k + 1) count (omega (arith, lt)))
 
-past_objects : (m : ℕ) (ks : List ℕ) → AllByRecursion (λ k. k ≤ m) ks → AllByRecursion (λ k. k < m + 1) ks
-past_objects m [] h = tt
-past_objects m (k ∷ ks) h = ((let le = h.0 in omega (arith, le)), past_objects m ks h.1)
+range_rises : (k count : ℕ) → AreRising (range_with_len k count)
+unfolding IsStrictlySortedBy
+range_rises k zero = tt
+range_rises k (suc count) = (range_above k (k + 1) count (omega arith), range_rises (k + 1) count)
 
-one_more : (m : ℕ) (ks : List ℕ) → AllByRecursion (λ k. k ≤ m) ks → AllByRecursion (λ k. k ≤ m + 1) (ks ++ (m + 1) ∷ [])
-one_more m [] h = (omega arith, tt)
-one_more m (k ∷ ks) h = ((let le = h.0 in omega (arith, le)), one_more m ks h.1)
-
--- the next number is new
-pub next_fresh : (m : ℕ) (ks : List ℕ) → AllByRecursion (λ k. k ≤ m) ks → list_any (nat_eq (m + 1)) ks ≡ false
-next_fresh m ks h = past_those (m + 1) ks (past_objects m ks h)
-
--- so are the next ones
-pub range_fresh : (m : ℕ) (ks : List ℕ) (count : ℕ) → AllByRecursion (λ k. k ≤ m) ks → AreFresh ks (range_with_len (m + 1) count)
-range_fresh m ks zero h = tt
-range_fresh m ks (suc count) h = (next_fresh m ks h, range_fresh (m + 1) (ks ++ (m + 1) ∷ []) count (one_more m ks h))
+-- numbers up to m, and then the next ones
+pub rising_next : (m : ℕ) (ns : List ℕ) (count : ℕ) → AreRising ns → AllByRecursion (λ k. k ≤ m) ns → AreRising (ns ++ range_with_len (m + 1) count)
+unfolding IsStrictlySortedBy
+rising_next m [] count up h = range_rises (m + 1) count
+rising_next m (n ∷ ns) count up h = (above_more n ns (range_with_len (m + 1) count) up.0 (range_above n (m + 1) count (let le = h.0 in omega (arith, le))), rising_next m ns count up.1 h.1)

@@ -25,12 +25,15 @@ pub fn place<T>(items: &[T], number: u32) -> Option<usize>
     }
 }
 
-/// Where the object of this number stands. It takes no walk.
+/// Where the object of this number stands, in as many steps as the list can be halved.
 pub fn place_object(objects: &Objects, number: u32) -> Option<usize>
     ensures found { MatchOption result (find (is_object number) objects.now.list.items ≡ None) (IsPlace (is_object number) objects.now.list.items) }
     ensures own { IfSome result (IsObjectAt objects.now.list.items) }
 {
-    objects.numbers.get_index_of(&number)
+    objects
+        .list
+        .binary_search_by_key(&number, |object| object.number)
+        .ok()
 }
 
 /// Where the object of this activation stands.

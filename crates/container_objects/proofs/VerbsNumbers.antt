@@ -8,7 +8,7 @@ use Rattle.container_model.specs.declared.record.Object.{Object}
 use Rattle.container_model.specs.Verbs.{stepped_link}
 use Rattle.container_objects.specs.Stepping.{both_told}
 use Rattle.container_objects.proofs.VerbsTake.{item_at}
-use Rattle.container_checks.proofs.Numbers.{numbers}
+use Rattle.container_checks.proofs.Numbers.{AreRising, numbers, still}
 
 numbers_set : (os : List Object) (i : ℕ) (o : Object) → numbers (slice_set os i o) ≡ slice_set (numbers os) i o.number
 numbers_set [] i o = refl
@@ -32,10 +32,10 @@ linked_at : (t : Option Link) → is_some t ≡ true → (l : Link) × (t ≡ So
 linked_at None e = cc
 linked_at (Some l) e = (l, refl)
 
--- what is done keeps the numbers, and a refusal keeps all
-pub same_on : {A E : Type 0} (r : Result A E) (ks : List ℕ) (os new : List Object) → ks ≡ numbers os → OnOk r (numbers new ≡ numbers os) → OnErr r (new ≡ os) → ks ≡ numbers new
-same_on (Ok a) ks os new h made kept = h ∙ sym made
-same_on (Err e) ks os new h made kept = h ∙ sym (ap numbers kept)
+-- what is done keeps the numbers, and a refusal keeps all, so they still rise
+pub same_on : {A E : Type 0} (r : Result A E) (os new : List Object) → AreRising (numbers os) → OnOk r (numbers new ≡ numbers os) → OnErr r (new ≡ os) → AreRising (numbers new)
+same_on (Ok a) os new up made kept = still up (sym made)
+same_on (Err e) os new up made kept = still up (ap numbers (sym kept))
 
 module _ (os : List Object) (i g : ℕ) (steps : List Step) (fits : i < length os) (linked : IfSome (slice_get os i) (λ (o : Object). is_some o.link ≡ true)) where
   x : (o : Object) × (slice_get os i ≡ Some o)

@@ -1,9 +1,8 @@
 use Rattle.std.proofs.Common.{◌∙◌, ◌++◌, ℕ, List, ap, length, subst, sym}
 use Rattle.container_model.specs.Record.{Record}
 use Rattle.container_model.specs.declared.record.Object.{Object}
-use Rattle.container_checks.specs.Fresh.{AreFresh}
-use Rattle.container_checks.proofs.Numbers.{numbers}
-use Rattle.container_state.proofs.Drawn.{numbers_fresh}
+use Rattle.container_checks.proofs.Numbers.{AreRising, numbers}
+use Rattle.container_state.proofs.Drawn.{numbers_past}
 use Rattle.container_core.proofs.OpensMade.{made_is, numbers_next}
 use Rattle.container_core.proofs.opens.make_opened.Goals as goal
 
@@ -15,9 +14,9 @@ returns-clause-made c =
     c.in_ok-push.ensures.items
     c.in_ok-more.ensures (c.append_reserved.ensures ∙ ap (λ (os : List Object). os ++ c.in_ok-more.more.items) c.reserve.ensures.kept) c.as_slice.ensures.value c.in_ok-answer.ensures
 
-pub append_reserved-requires-clause-fresh : goal.append_reserved-requires-clause-fresh
-append_reserved-requires-clause-fresh c =
+pub append_reserved-requires-clause-rising : goal.append_reserved-requires-clause-rising
+append_reserved-requires-clause-rising c =
     let s : Record = record { frames = c.state.inside.frames; objects = c.state.inside.objects.list.items; servers = c.state.inside.servers; last_object = c.state.inside.last_object; last_act = c.state.inside.last_act; last_g = c.state.inside.last_g; numbers = c.state.inside.numbers } in
-    subst (λ (ks : List ℕ). AreFresh ks (numbers c.in_ok-more.more.items)) (ap numbers (sym c.reserve.ensures.kept))
-    (numbers_fresh s c.args.state.now c.state.view_is c.requires.steady (numbers c.in_ok-more.more.items) (length c.args.objects.items)
+    subst (λ (ks : List ℕ). AreRising (ks ++ numbers c.in_ok-more.more.items)) (ap numbers (sym c.reserve.ensures.kept))
+    (numbers_past s c.args.state.now c.state.view_is c.requires.steady c.state.inside.objects.rising (numbers c.in_ok-more.more.items) (length c.args.objects.items)
     (ap numbers c.in_ok-more.ensures ∙ numbers_next s.last_object _ c.args.objects.items))

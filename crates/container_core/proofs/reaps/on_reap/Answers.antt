@@ -9,7 +9,7 @@ use Rattle.container_grants.specs.Granted.{actions_of, installed_each, ready}
 use Rattle.container_saves.specs.Places.{AllHavePlaces, free}
 use Rattle.container_steady.specs.Steady.{Steady}
 use Rattle.container_grants.proofs.ReapsMade.{few_at, reap_is, rooms_at}
-use Rattle.container_checks.proofs.Numbers.{numbers}
+use Rattle.container_checks.proofs.Numbers.{numbers, still}
 use Rattle.container_state.proofs.NumbersKept.{handed_kept, reaped_kept}
 use Rattle.container_core.proofs.reaps.on_reap.Goals as goal
 
@@ -112,9 +112,9 @@ returns-clause-few c =
     omega (arith, told, few, kept, all, said, those, these, c.settle_into.ensures.few, c.hand_off_all.ensures.few, c.hand_off_all.ensures.len)
 
 pub invariant_of-state-inside : goal.invariant_of-state-inside
-invariant_of-state-inside c = record { numbered = c.state.inside.objects.numbered ∙ (sym (reaped_kept c.args.inc c.state.inside.objects.list.items) ∙ ap numbers (sym c.reap_all.ensures)) }
+invariant_of-state-inside c = record { rising = still c.state.inside.objects.rising (sym (reaped_kept c.args.inc c.state.inside.objects.list.items) ∙ ap numbers (sym c.reap_all.ensures)) }
 
 pub invariant_of-state-inside-2 : goal.invariant_of-state-inside-2
 invariant_of-state-inside-2 c =
     let q : Record = record { frames = c.free_frames.new.frames; objects = c.take_grants.new.objects.list.items; servers = c.reap.new.self; last_object = c.state.inside.last_object; last_act = c.state.inside.last_act; last_g = c.state.inside.last_g; numbers = c.state.inside.numbers } in
-    (c.take_grants.new.objects.numbered ∙ (sym (handed_kept q) ∙ ap (λ (t : Record). numbers t.objects) (c.hand_off_all.ensures.handed q refl refl)), tt)
+    (still c.take_grants.new.objects.rising (sym (handed_kept q) ∙ ap (λ (t : Record). numbers t.objects) (c.hand_off_all.ensures.handed q refl refl)), tt)

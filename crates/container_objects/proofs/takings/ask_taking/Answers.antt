@@ -48,7 +48,7 @@ pub invariant_of-objects : goal.invariant_of-objects
 invariant_of-objects c =
     let os : List Object = c.args.objects.now.list.items in
     record {
-      numbered = same_on c.ask_at.result c.args.objects.now.numbers.keys os c.ask_at.new.objects.items c.args.objects.now.numbered
+      rising = same_on c.ask_at.result os c.ask_at.new.objects.items c.args.objects.now.rising
           (on_ok_weaker c.ask_at.result (alone_kept os c.args.i c.args.g c.args.steps.now c.requires.place.fits c.requires.linked c.ask_at.new.objects.items) c.ask_at.ensures.asked) c.ask_at.ensures.kept;
     }
 
@@ -56,7 +56,7 @@ pub invariant_of-objects-in_default-place_object : goal.invariant_of-objects-in_
 invariant_of-objects-in_default-place_object c =
     let os : List Object = c.args.objects.now.list.items in
     record {
-      numbered = same_on c.ask_at-in_default-place_object.result c.args.objects.now.numbers.keys os c.ask_at-in_default-place_object.new.objects.items c.args.objects.now.numbered
+      rising = same_on c.ask_at-in_default-place_object.result os c.ask_at-in_default-place_object.new.objects.items c.args.objects.now.rising
           (on_ok_weaker c.ask_at-in_default-place_object.result (alone_kept os c.args.i c.args.g c.args.steps.now c.requires.place.fits c.requires.linked c.ask_at-in_default-place_object.new.objects.items) c.ask_at-in_default-place_object.ensures.asked) c.ask_at-in_default-place_object.ensures.kept;
     }
 
@@ -65,7 +65,7 @@ invariant_of-objects-2 c =
     let os : List Object = c.args.objects.now.list.items in
     let place : IsPlace (is_object c.in-Some.holder) os c.in-Some-place_object.j = c.in-Some-place_object.ensures.found in
     record {
-      numbered = same_on c.ask_both.result c.args.objects.now.numbers.keys os c.ask_both.new.objects.items c.args.objects.now.numbered
+      rising = same_on c.ask_both.result os c.ask_both.new.objects.items c.args.objects.now.rising
           (on_ok_weaker c.ask_both.result (both_kept os c.args.i c.args.g c.args.steps.now c.requires.place.fits c.requires.linked c.in-Some-place_object.j place.fits c.ask_both.new.objects.items) c.ask_both.ensures.asked) c.ask_both.ensures.kept;
     }
 

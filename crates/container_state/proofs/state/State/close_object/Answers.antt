@@ -34,4 +34,4 @@ returns-clause-taken c =
 
 pub invariant_of-self-inside : goal.invariant_of-self-inside
 invariant_of-self-inside c =
-    (one_kept c.self.inside.objects.numbers.keys c.self.inside.objects.list.items c.args.i c.close_one.new.object c.index_mut-object.result.now c.self.inside.objects.numbered c.index_mut-object.ensures.value c.close_one.ensures.same, tt)
+    (one_kept c.self.inside.objects.list.items c.args.i c.close_one.new.object c.index_mut-object.result.now c.self.inside.objects.rising c.index_mut-object.ensures.value c.close_one.ensures.same, tt)

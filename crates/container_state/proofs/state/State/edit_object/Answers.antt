@@ -12,5 +12,5 @@ returns-clause-taken c = object_taken (λ q o. edit_linked q o c.args.bytes o.li
 
 pub invariant_of-self-inside : goal.invariant_of-self-inside
 invariant_of-self-inside c = record {
-  numbered = one_kept c.self.inside.objects.numbers.keys c.self.inside.objects.list.items c.args.i c.edit_one.new.object c.index_mut.result.now c.self.inside.objects.numbered c.index_mut.ensures.value c.edit_one.ensures.same;
+  rising = one_kept c.self.inside.objects.list.items c.args.i c.edit_one.new.object c.index_mut.result.now c.self.inside.objects.rising c.index_mut.ensures.value c.edit_one.ensures.same;
 }

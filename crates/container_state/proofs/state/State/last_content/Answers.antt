@@ -17,7 +17,7 @@ use Rattle.container_steady.specs.Steady.{Steady}
 use Rattle.container_objects.specs.Told.{ToldObject}
 use Rattle.container_state.proofs.ContentsMade.{content_linked, few_all, last_is, prepared_there}
 use Rattle.container_state.proofs.RepliesMade.{content_fine, reply_refused}
-use Rattle.container_checks.proofs.Numbers.{numbers, one_kept}
+use Rattle.container_checks.proofs.Numbers.{AreRising, numbers, one_kept, still}
 use Rattle.container_state.proofs.NumbersKept.{asked_kept}
 use Rattle.container_state.proofs.state.State.last_content.Goals as goal
 
@@ -126,7 +126,7 @@ returns-in_default-clause-refused c =
 
 pub invariant_of-self-inside : goal.invariant_of-self-inside
 invariant_of-self-inside c = record {
-  numbered = one_kept c.self.inside.objects.numbers.keys c.self.inside.objects.list.items c.args.i c.told_object.new.object c.index_mut.result.now c.self.inside.objects.numbered c.index_mut.ensures.value c.told_object.ensures.same;
+  rising = one_kept c.self.inside.objects.list.items c.args.i c.told_object.new.object c.index_mut.result.now c.self.inside.objects.rising c.index_mut.ensures.value c.told_object.ensures.same;
 }
 
 pub invariant_of-self-inside-2 : goal.invariant_of-self-inside-2
@@ -160,5 +160,5 @@ invariant_of-self-inside-2 c =
     let f : ℕ = c.index.result.now.frame in
     let fit : c.in-Ok.takes.items ≡ map (prepared f HandsOff) os = subst (λ (n : ℕ). c.in-Ok.takes.items ≡ map (prepared n HandsOff) os) (sym at)
     (ready ∙ prepared_there r c.args.inc c.args.act c.args.n c.args.answer o k.0 x k.2 found k.1 there k.3 content w c.in-Ok-told_object.ensures.taken c.args.i p.fits (p.puts w.object)) in
-    let before : c.self.inside.objects.numbers.keys ≡ numbers os = one_kept c.self.inside.objects.numbers.keys r.objects c.args.i w.object o c.self.inside.objects.numbered c.index_mut.ensures.value c.told_object.ensures.same in
-    (before ∙ (sym (asked_kept f HandsOff os) ∙ ap numbers (sym (c.hand_off.ensures.objects fit))), tt)
+    let before : AreRising (numbers os) = one_kept r.objects c.args.i w.object o c.self.inside.objects.rising c.index_mut.ensures.value c.told_object.ensures.same in
+    (still before (sym (asked_kept f HandsOff os) ∙ ap numbers (sym (c.hand_off.ensures.objects fit))), tt)

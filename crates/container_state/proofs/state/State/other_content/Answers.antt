@@ -56,5 +56,5 @@ returns-in-Err-clause-refused c =
 
 pub invariant_of-self-inside : goal.invariant_of-self-inside
 invariant_of-self-inside c = record {
-  numbered = one_kept c.self.inside.objects.numbers.keys c.self.inside.objects.list.items c.args.i c.told_object.new.object c.index_mut.result.now c.self.inside.objects.numbered c.index_mut.ensures.value c.told_object.ensures.same;
+  rising = one_kept c.self.inside.objects.list.items c.args.i c.told_object.new.object c.index_mut.result.now c.self.inside.objects.rising c.index_mut.ensures.value c.told_object.ensures.same;
 }

@@ -59,5 +59,5 @@ returns-clause-taken c =
 
 pub invariant_of-self-inside : goal.invariant_of-self-inside
 invariant_of-self-inside c = record {
-  numbered = one_kept c.self.inside.objects.numbers.keys c.self.inside.objects.list.items c.args.place c.told_object.new.object c.index_mut.result.now c.self.inside.objects.numbered c.index_mut.ensures.value c.told_object.ensures.same;
+  rising = one_kept c.self.inside.objects.list.items c.args.place c.told_object.new.object c.index_mut.result.now c.self.inside.objects.rising c.index_mut.ensures.value c.told_object.ensures.same;
 }

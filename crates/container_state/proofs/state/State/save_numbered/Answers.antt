@@ -13,7 +13,7 @@ use Rattle.container_model.specs.Record.{Record, acts, asked_object}
 use Rattle.container_model.specs.declared.record.Frame.{Frame}
 use Rattle.container_model.specs.declared.record.Object.{Object}
 use Rattle.container_steps.proofs.CommandsSave.{saved_is, saved_taken}
-use Rattle.container_checks.proofs.Numbers.{numbers}
+use Rattle.container_checks.proofs.Numbers.{numbers, still}
 use Rattle.container_state.proofs.NumbersKept.{asked_kept}
 use Rattle.container_state.proofs.state.State.save_numbered.Goals as goal
 
@@ -47,4 +47,4 @@ invariant_of-self-inside c =
     let asking : IsAsking f (Save k) r.objects c.in-Ok.asking.actions.items c.in-Ok.asking.takes.items =
     subst (λ (os : List Object). IsAsking f (Save k) os c.in-Ok.asking.actions.items c.in-Ok.asking.takes.items) c.as_slice-2.ensures.value c.in-Ok.ensures in
     let objects : c.take_up.new.objects.items ≡ map (asked_object f (Save k)) r.objects = c.take_up.ensures f (Save k) asking.takes in
-    (c.self.inside.objects.numbered ∙ (sym (asked_kept f (Save k) r.objects) ∙ ap numbers (sym objects)), tt)
+    (still c.self.inside.objects.rising (sym (asked_kept f (Save k) r.objects) ∙ ap numbers (sym objects)), tt)
