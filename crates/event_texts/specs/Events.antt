@@ -1,6 +1,7 @@
 -- The lines of a text of events and the events that they spell.
 use Rattle.std.specs.Prelude.{◌≡◌, ◌-◌, ◌&&◌, ◌||◌, ℕ, ℤ, pos, negsuc, zero, suc, Bool, true, false, not, List, [], ◌∷◌, length, nat_le, nat_eq, cond, codes, if◌then◌else◌, Option, Some, None, option_map, is_some, slice_get, take, Result, Err, IsOk, IsTrue}
 use Rattle.std.specs.List.{ends_with, join_with_byte, list_all}
+use Rattle.std.specs.Option.{option_and_then}
 use Rattle.std.specs.Str.{bytes_eq}
 use Rattle.text_words.specs.Words.{lines, words, number_read}
 use Rattle.object_parts.specs.declared.area.Area.{Area}
@@ -76,6 +77,10 @@ abbrev pub numbered_word : List (List ℕ) → Option (ℕ × List ℕ)
 numbered_word (n ∷ word ∷ []) = option_map (λ k. (k, word)) (number_read n)
 numbered_word _ = None
 
+-- and what they make, the word as it is read
+abbrev pub number_and : {A : Type 0} → (ℕ → A → Event) → (List ℕ → Option A) → List (List ℕ) → Option Event
+number_and f read words = option_and_then (λ (p : ℕ × List ℕ). option_map (f p.0) (read p.1)) (numbered_word words)
+
 -- the number of a verb: a number, which may stand behind a minus sign
 abbrev pub opposite : ℕ → ℤ
 opposite zero = pos zero
@@ -119,20 +124,14 @@ delete_of o = event.Command (command.Delete o)
 abbrev pub kill_of : ℕ → Event
 kill_of inc = event.Command (command.Kill inc)
 
-abbrev pub close_of : Option ℕ → Option CloseOption → Option Event
-close_of (Some o) (Some option) = Some (event.Command (command.Close o option))
-close_of (Some o) None = None
-close_of None option = None
+abbrev pub close_of : ℕ → CloseOption → Event
+close_of o option = event.Command (command.Close o option)
 
-abbrev pub verb_of : Option ℕ → Option ℤ → Option Event
-verb_of (Some o) (Some number) = Some (event.Command (command.Verb o number))
-verb_of (Some o) None = None
-verb_of None number = None
+abbrev pub verb_of : ℕ → ℤ → Event
+verb_of o number = event.Command (command.Verb o number)
 
-abbrev pub resolve_of : Option ℕ → Option Bool → Option Event
-resolve_of (Some f) (Some is_kept) = Some (event.Resolve f is_kept)
-resolve_of (Some f) None = None
-resolve_of None is_kept = None
+abbrev pub resolve_of : ℕ → Bool → Event
+resolve_of f is_kept = event.Resolve f is_kept
 
 abbrev pub ask_of : ℕ → ℕ → Event
 ask_of inc act = event.Ask inc act
@@ -143,10 +142,8 @@ edit_of bytes o = event.Command (command.Edit o bytes)
 abbrev pub save_of : ℕ → Event
 save_of f = event.Command (command.Save f)
 
-abbrev pub save_as_of : Option ℕ → Option (List ℕ) → Option Event
-save_as_of (Some f) (Some name) = Some (event.Command (command.SaveAs f name))
-save_as_of (Some f) None = None
-save_as_of None name = None
+abbrev pub save_as_of : ℕ → List ℕ → Event
+save_as_of f name = event.Command (command.SaveAs f name)
 
 -- what stands behind the event's name
 abbrev pub sized_read : List (List ℕ) → Option Sized
@@ -160,8 +157,7 @@ abbrev pub open_read : List (List ℕ) → Option Event
 open_read words = option_map open_of (sized_read words)
 
 abbrev pub save_as_read : List (List ℕ) → Option Event
-save_as_read (f ∷ name ∷ []) = save_as_of (number_read f) (name_read name)
-save_as_read _ = None
+save_as_read words = number_and save_as_of name_read words
 
 abbrev pub insert_read : List (List ℕ) → Option Event
 insert_read (f ∷ kind ∷ x ∷ y ∷ w ∷ h ∷ []) = insert_of (number_read f) (kind_read kind) (area_of (short_read x) (short_read y) (short_read w) (short_read h))
@@ -172,16 +168,13 @@ start_read [] = Some (event.Command command.Start)
 start_read (word ∷ others) = None
 
 abbrev pub close_read : List (List ℕ) → Option Event
-close_read (o ∷ option ∷ []) = close_of (number_read o) (option_read option)
-close_read _ = None
+close_read words = number_and close_of option_read words
 
 abbrev pub verb_read : List (List ℕ) → Option Event
-verb_read (o ∷ number ∷ []) = verb_of (number_read o) (signed_read number)
-verb_read _ = None
+verb_read words = number_and verb_of signed_read words
 
 abbrev pub resolve_read : List (List ℕ) → Option Event
-resolve_read (f ∷ outcome ∷ []) = resolve_of (number_read f) (outcome_read outcome)
-resolve_read _ = None
+resolve_read words = number_and resolve_of outcome_read words
 
 -- an edit is all that stands behind the space, spaces too
 abbrev pub edit_read : List (List ℕ) → Option Event
@@ -239,18 +232,15 @@ open_in [] = None
 open_in (name ∷ others) = open_named name others
 
 -- a message that is forged on the link of a server: the message of which the hexadecimal bytes are the byte form
-abbrev pub forge_of : Option ℕ → Option Message → Option Event
-forge_of (Some inc) (Some m) = Some (event.Forge inc m)
-forge_of (Some inc) None = None
-forge_of None m = None
+abbrev pub forge_of : ℕ → Message → Event
+forge_of inc m = event.Forge inc m
 
 abbrev pub message_told : Option (List ℕ) → Option Message
 message_told None = None
 message_told (Some bytes) = message_in bytes
 
 abbrev pub forge_read : List (List ℕ) → Option Event
-forge_read (inc ∷ bytes ∷ []) = forge_of (number_read inc) (message_told (content_read bytes))
-forge_read _ = None
+forge_read words = number_and forge_of (λ bytes. message_told (content_read bytes)) words
 
 abbrev pub forge_named : List ℕ → List (List ℕ) → Option Event
 forge_named name others = cond (bytes_eq name (codes "forge")) (forge_read others) None

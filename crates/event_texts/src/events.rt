@@ -285,7 +285,6 @@ fn opened_frame(alloc: Global, rest: &[u8]) -> Result<Option<Event>, AllocError>
 }
 
 /// The save under another name that what stands behind `saveas` spells.
-#[tactic(auto, using(crate::proofs::Behind::behind_number))]
 fn save_as(alloc: Global, rest: &[u8]) -> Result<Option<Event>, AllocError>
     ensures read { IfOk result (λ event. event ≡ save_as_read (words rest.now)) }
     ensures within { IfErr result (λ _. IsTrue (takes_memory (save_as_read (words rest.now)))) }
@@ -363,7 +362,6 @@ fn option(word: &[u8]) -> Option<CloseOption>
 }
 
 /// The close that what stands behind `close` spells.
-#[tactic(auto, using(crate::proofs::Behind::behind_number))]
 fn close(rest: &[u8]) -> Option<Event>
     ensures { result ≡ close_read (words rest.now) }
 {
@@ -385,7 +383,6 @@ fn outcome(word: &[u8]) -> Option<bool>
 }
 
 /// What is known of a commit in doubt, as what stands behind `resolve` spells it.
-#[tactic(auto, using(crate::proofs::Behind::behind_number))]
 fn resolve(rest: &[u8]) -> Option<Event>
     ensures { result ≡ resolve_read (words rest.now) }
 {
@@ -394,7 +391,6 @@ fn resolve(rest: &[u8]) -> Option<Event>
 }
 
 /// The verb that what stands behind `verb` spells.
-#[tactic(auto, using(crate::proofs::Behind::behind_number))]
 fn verb(rest: &[u8]) -> Option<Event>
     ensures { result ≡ verb_read (words rest.now) }
 {

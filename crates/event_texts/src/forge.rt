@@ -84,7 +84,6 @@ fn message_told(alloc: Global, word: &[u8]) -> Result<Option<Message>, AllocErro
 }
 
 /// The forged message that what stands behind `forge` spells.
-#[tactic(auto, using(crate::proofs::Behind::behind_number))]
 fn forged(alloc: Global, rest: &[u8]) -> Result<Option<Event>, AllocError>
     ensures read { IfOk result (λ event. event ≡ forge_read (words rest.now)) }
     ensures within { IfErr result (λ _. IsTrue (forge_spelled (words rest.now))) }
