@@ -4,7 +4,7 @@ use Rattle.std.specs.Prelude.{slice_set}
 use Rattle.std.specs.Int.{w16, w32, to_le_bytes}
 use Rattle.cfb_directory.specs.Entries.{kind_number}
 use Rattle.cfb_directory.specs.Written.{entry_bytes, name_bytes}
-use Rattle.cfb_directory.specs.declared.write.EntryFields.{EntryFields}
+use Rattle.directory_model.specs.declared.entries.EntryFields.{EntryFields}
 use Rattle.cfb_directory.proofs.Fields.{head, spread, tail}
 
 -- bytes with a part written over them

@@ -13,31 +13,12 @@ use crate::bytes::{ENTRY_LEN, entry_bytes, entry_u32, whole_entry};
 use cfb_bytes::numbers::{read_u16, read_u32};
 use cfb_names::fault::DirFault;
 use cfb_names::name::{Name, is_forbidden};
+pub use directory_model::entries::{Entry, EntryKind};
 use std::alloc::Global;
 use std::marker::Model;
 
 /// The value of a link to nobody.
 pub const NO_STREAM: u32 = 0xffff_ffff;
-
-/// What an entry is.
-#[derive(Clone, Copy, PartialEq, Eq)]
-pub enum EntryKind {
-    Storage,
-    Stream,
-    Root,
-}
-
-/// What an entry of the directory says. The size is in bytes.
-#[derive(Drop)]
-pub struct Entry {
-    pub name: Name,
-    pub kind: EntryKind,
-    pub class: [u8; 16],
-    pub state: u32,
-    pub child: u32,
-    pub first: u32,
-    pub size: u32,
-}
 
 /// The entries of a directory, of which some are marked.
 #[derive(Drop)]

@@ -11,15 +11,8 @@ use crate::entries::NO_STREAM;
 use cfb_names::fault::DirFault;
 use cfb_names::key::Key;
 use cfb_names::name::Name;
+pub use directory_model::links::Links;
 use std::alloc::{AllocError, Global};
-
-/// The links of siblings: which one is on top, and the left and the right one of each. 0xFFFFFFFF stands for nobody.
-#[derive(Drop)]
-pub struct Links {
-    pub top: u32,
-    pub left: Vec<u32>,
-    pub right: Vec<u32>,
-}
 
 /// The links of so many siblings in name order, by their places: of the siblings from `a` to `b` the one at
 /// `a + (b - a + 1) / 2`, rounded down, is on top, and so on in both halves.

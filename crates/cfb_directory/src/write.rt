@@ -7,20 +7,8 @@ ghost use Rattle.std.specs.Prelude.{◌+◌, ◌++◌, ◌≡◌, ◌≤◌, OnO
 
 use crate::bytes::ENTRY_LEN;
 use crate::entries::EntryKind;
+pub use directory_model::entries::EntryFields;
 use std::alloc::AllocError;
-
-/// What an entry says besides its name. The size is in bytes; links to nobody are 0xFFFFFFFF.
-#[derive(Clone, Copy, PartialEq, Eq)]
-pub struct EntryFields {
-    pub kind: EntryKind,
-    pub left: u32,
-    pub right: u32,
-    pub child: u32,
-    pub class: [u8; 16],
-    pub state: u32,
-    pub first: u32,
-    pub size: u32,
-}
 
 /// Writes a number into the two bytes at a place.
 fn write_u16(bytes: &mut [u8], at: usize, n: u16)
@@ -50,7 +38,7 @@ fn number_of(kind: EntryKind) -> u8
 }
 
 /// Writes a name in UTF-16 into zeros.
-#[tactic(auto, unfolding(crate::specs::Written::name_bytes))]
+#[tactic(auto, unfolding(directory_model::specs::Written::name_bytes))]
 fn write_name(bytes: &mut [u8], name: &[u8])
     requires zeros { bytes.old ≡ replicate 64 0 }
     requires short { length name.now ≤ 31 }
@@ -94,7 +82,7 @@ pub fn write_entry(out: &mut Vec<u8>, name: &[u8], fields: &EntryFields) -> Resu
 /// Adds an entry of 128 bytes that isn't used: zeros, but for three links to nobody.
 ///
 /// Where no memory is left, nothing is added.
-#[tactic(auto, unfolding(crate::specs::Written::free_entry_bytes))]
+#[tactic(auto, unfolding(directory_model::specs::Written::free_entry_bytes))]
 pub fn write_free_entry(out: &mut Vec<u8>) -> Result<(), AllocError>
     ensures { OnOk result (out.new.items ≡ out.old.items ++ free_entry_bytes) }
 {

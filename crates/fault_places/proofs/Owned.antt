@@ -5,7 +5,7 @@ use Rattle.cfb_header.specs.declared.fault.ChainFault.{ChainFault}
 use Rattle.cfb_header.specs.declared.fault.ChainFault.TheVariants as chain
 use Rattle.cfb_chain.specs.Chain.{IsChain, IsChainOf, Store}
 use Rattle.cfb_directory.specs.Entries.{IsEntry, IsKindOf, entry_at, first_of, kind, size_of}
-use Rattle.cfb_directory.specs.declared.entries.Entry.{Entry}
+use Rattle.directory_model.specs.declared.entries.Entry.{Entry}
 use Rattle.cfb_directory.specs.Entries.{kind_number}
 use Rattle.file_model.specs.Denotes.{directory_of}
 use Rattle.file_faults.specs.Faults.{Base, IsBelow, IsTakenFor, base_in, store_in}

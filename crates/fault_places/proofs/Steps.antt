@@ -6,7 +6,7 @@ use Rattle.cfb_names.specs.Names.{key}
 use Rattle.cfb_names.specs.declared.fault.DirFault.{DirFault}
 use Rattle.cfb_names.specs.declared.fault.DirFault.TheVariants as directory
 use Rattle.cfb_directory.specs.Entries.{AreLinked, IsEntry, IsNamed, MayRefuseEntry, MayRefuseLoad, child, entry_at, kind}
-use Rattle.cfb_directory.specs.declared.entries.Entry.{Entry}
+use Rattle.directory_model.specs.declared.entries.Entry.{Entry}
 use Rattle.file_model.proofs.Lists.{Contains-cons_cases}
 use Rattle.file_faults.specs.Faults.{Descends, IsBelow, IsChild, IsDirectory, IsDirectoryAtFault, IsStorage, MayRefuseBelow, key_at}
 use Rattle.file_faults.proofs.Below.{below_some, descends_more, entry_at_fault, linked_child}

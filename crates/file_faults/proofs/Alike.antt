@@ -8,7 +8,7 @@ use Rattle.chain_model.specs.Fat.{mini_sectors_of, sectors_of}
 use Rattle.cfb_header.specs.Header.{HeaderValue, difat, difat_by, fat_count, first_directory, first_mini_fat, header_of, listed, mini_fat_count}
 use Rattle.cfb_header.specs.declared.fault.ChainFault.{ChainFault}
 use Rattle.cfb_header.specs.declared.fault.ChainFault.TheVariants as chain
-use Rattle.cfb_directory.specs.Entries.{entry_at, first_of, size_of}
+use Rattle.directory_model.specs.Entries.{entry_at, first_of, size_of}
 use Rattle.cfb_names.specs.declared.fault.DirFault.TheVariants as directory
 use Rattle.file_model.specs.Alike.{AgreeOn, Alike}
 use Rattle.file_model.specs.Denotes.{IsLaidOut, Layout, directory_of, minis, root_of, sectors}

@@ -3,7 +3,7 @@ use Rattle.std.proofs.Common.{◌≡◌, ◌≢◌, ◌<◌, ◌*◌, inl, inr, 
 use Rattle.std.specs.List.{Contains}
 use Rattle.std.proofs.lemmas.List.Elements.{Contains-append_cases}
 use Rattle.chain_model.proofs.Marks.{distinct_append}
-use Rattle.cfb_directory.specs.Entries.{AreLinked, MayRefuseEntry, NO_STREAM, Reaches, around, by_left, by_right, child, entry_at, here, left, nobody, right}
+use Rattle.directory_model.specs.Entries.{AreLinked, MayRefuseEntry, NO_STREAM, Reaches, around, by_left, by_right, child, entry_at, here, left, nobody, right}
 use Rattle.cfb_names.specs.declared.fault.DirFault.{DirFault}
 use Rattle.cfb_names.specs.declared.fault.DirFault.TheVariants as directory
 use Rattle.file_model.proofs.Lists.{Contains-cons_cases}

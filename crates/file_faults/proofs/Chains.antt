@@ -7,7 +7,7 @@ use Rattle.chain_model.specs.Chain.{IsChainOf, Leads, Store}
 use Rattle.chain_model.specs.Fat.{AreFree, AreSame, FatValue, IsFound, IsFree, IsMiniFound, IsTableOf, MayRefuse, MayRefuseChain, MayRefuseFat, MayRefuseMini, marked, sectors_of, store_of}
 use Rattle.chain_model.proofs.Chains.{chain_of_same}
 use Rattle.chain_model.proofs.Marks.{Marks, marks_load, marks_more}
-use Rattle.cfb_directory.specs.Entries.{entry_at, first_of, size_of}
+use Rattle.directory_model.specs.Entries.{entry_at, first_of, size_of}
 use Rattle.cfb_header.specs.Header.{HeaderValue, difat, first_directory, first_mini_fat, header_of, listed, mini_fat_count}
 use Rattle.cfb_header.specs.declared.fault.ChainFault.{ChainFault}
 use Rattle.cfb_header.specs.declared.fault.ChainFault.TheVariants as chain

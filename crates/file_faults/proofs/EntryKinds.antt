@@ -2,9 +2,9 @@
 use Rattle.std.proofs.Common.{◌≡◌, ◌≢◌, ◌≤◌, ◌*◌, ◌-◌, ◌++◌, inl, inr, ℕ, zero, suc, List, [], length, drop, take, replicate, slice_index, refl, sym, ◌∙◌, ap, arith}
 use Rattle.std.proofs.lemmas.List.{drop_all}
 use Rattle.cfb_header.specs.Bytes.{block}
-use Rattle.cfb_directory.specs.Entries.{IsKindOf, entry_at, kind, kind_number}
-use Rattle.cfb_directory.specs.declared.entries.EntryKind.{EntryKind}
-use Rattle.cfb_directory.specs.declared.entries.EntryKind.TheVariants as kinds
+use Rattle.directory_model.specs.Entries.{IsKindOf, entry_at, kind, kind_number}
+use Rattle.directory_model.specs.declared.entries.EntryKind.{EntryKind}
+use Rattle.directory_model.specs.declared.entries.EntryKind.TheVariants as kinds
 
 -- past the directory all bytes are zero
 pub kind_outside : (dir : List ℕ) (id : ℕ) → length dir ≤ 128 * id → kind (entry_at dir id) ≡ 0

@@ -9,10 +9,10 @@ use Rattle.std.specs.Ordering.{ordering_reverse}
 use Rattle.std.specs.declared.cmp.Ordering.TheVariants.{Less}
 use Rattle.chain_model.specs.Chain.{AreDistinct}
 use Rattle.cfb_names.specs.Names.{IsName, key_cmp}
-use Rattle.cfb_directory.specs.Entries.{AreFree, EntriesValue, IsKindOf, IsNamed, MayRefuseEntry, entry_at, kind}
+use Rattle.directory_model.specs.Entries.{AreFree, EntriesValue, IsKindOf, IsNamed, MayRefuseEntry, entry_at, kind}
 use Rattle.cfb_names.specs.declared.fault.DirFault.{DirFault}
 use Rattle.file_faults.specs.Faults.{key_at}
-use Rattle.cfb_directory.proofs.Marked.{entry_kept}
+use Rattle.directory_model.proofs.Marked.{entry_kept}
 
 true_false : {P : Type 0} (b : Bool) → b ≡ true → b ≡ false → P
 true_false b h i = let e : true ≡ false = sym h ∙ i in cc

@@ -11,7 +11,7 @@ use Rattle.chain_model.proofs.Chains.{chain_below, chain_of_same, chain_same, jo
 use Rattle.cfb_header.proofs.Headers.{read_whole}
 use Rattle.chain_model.proofs.Marks.{Marks, marks_load, marks_more, marks_none}
 use Rattle.chain_model.proofs.Tables.{mini_same}
-use Rattle.cfb_directory.specs.Entries.{entry_at, first_of, size_of}
+use Rattle.directory_model.specs.Entries.{entry_at, first_of, size_of}
 use Rattle.file_model.specs.Denotes.{IsLaidOut, Layout, directory_of, minis, root_of, sectors}
 
 header_is : (a b : HeaderValue) → ◌≡◌ {A = Result HeaderValue ChainFault} (Ok a) (Ok b) → a ≡ b

@@ -10,11 +10,11 @@ use Rattle.cfb_header.specs.Header.{HeaderValue, difat, first_directory, first_m
 use Rattle.chain_model.proofs.Blocks.{length_block, length_joined}
 use Rattle.chain_model.proofs.Chains.{chain_below, chain_of_same, chain_same, same_back}
 use Rattle.chain_model.proofs.Marks.{distinct_left, free_when, marks_load}
-use Rattle.cfb_directory.specs.Entries.{EntriesValue, MayRefuseEntry, MayRefuseLoad, entry_at, first_of, kind, size_of}
+use Rattle.directory_model.specs.Entries.{EntriesValue, MayRefuseEntry, MayRefuseLoad, entry_at, first_of, kind, size_of}
 use Rattle.chain_model.specs.Fat.{set_all}
 use Rattle.cfb_names.specs.declared.fault.DirFault.{DirFault}
 use Rattle.cfb_names.specs.declared.fault.DirFault.TheVariants.{NameEmpty, NameTooLong, NameNotAscii, NameForbidden, DuplicateName, BadEntry, TreeCycle, TooNested, NoMemory}
-use Rattle.cfb_directory.proofs.Marks.{set_all-there}
+use Rattle.directory_model.proofs.Marks.{set_all-there}
 use Rattle.tree_model.specs.Tree.{Tree}
 use Rattle.file_model.specs.Denotes.{Denotes, directory_of, root_of}
 use Rattle.file_faults.proofs.EntryKinds.{kind_inside}

@@ -10,7 +10,7 @@ use Rattle.cfb_header.specs.declared.fault.ChainFault.TheVariants as chain
 use Rattle.cfb_names.specs.Names.{is_forbidden, key}
 use Rattle.cfb_names.specs.declared.fault.DirFault.{DirFault}
 use Rattle.cfb_names.specs.declared.fault.DirFault.TheVariants as directory
-use Rattle.cfb_directory.specs.Entries.{AreInside, IsKindOf, NO_STREAM, Reaches, child, entry_at, first_of, kind, name_length, name_of, size_of}
+use Rattle.directory_model.specs.Entries.{AreInside, IsKindOf, NO_STREAM, Reaches, child, entry_at, first_of, kind, name_length, name_of, size_of}
 use Rattle.file_model.specs.Alike.{Alike}
 use Rattle.file_model.specs.Limits.{CUTOFF}
 use Rattle.file_model.specs.Denotes.{IsLaidOut, Layout, directory_of, minis, sectors}

@@ -3,10 +3,10 @@ use Rattle.std.proofs.Common.{◌≡◌, ◌<◌, ◌+◌, ◌-◌, ◌*◌, ◌
 use Rattle.std.specs.List.{concat, range_with_len, sum}
 use Rattle.chain_model.specs.Chain.{AreDistinct}
 use Rattle.chain_model.specs.Fat.{mini_sectors_of, sectors_of}
-use Rattle.cfb_directory.specs.Entries.{entry_at, root_name}
-use Rattle.cfb_directory.specs.Written.{entry_bytes, free_entry_bytes}
-use Rattle.cfb_directory.specs.declared.write.EntryFields.{EntryFields}
-use Rattle.cfb_directory.proofs.Fields.{length-entry_bytes, length-free_entry_bytes}
+use Rattle.directory_model.specs.Entries.{entry_at, root_name}
+use Rattle.directory_model.specs.Written.{entry_bytes, free_entry_bytes}
+use Rattle.directory_model.specs.declared.entries.EntryFields.{EntryFields}
+use Rattle.directory_model.proofs.Fields.{length-entry_bytes, length-free_entry_bytes}
 use Rattle.tree_model.specs.Tree.{Tree}
 use Rattle.file_model.specs.Need.{pieces, entries, mini_sectors, long_sectors, directory_sectors, mini_fat_sectors, mini_stream_sectors, data_sectors}
 use Rattle.file_layout.specs.Image.{Parts, behind_fat, counts, image, runs, pieces_of, whole_pieces}

@@ -3,8 +3,8 @@ use Rattle.std.proofs.Common.{◌≡◌, ◌<◌, ◌≤◌, ◌+◌, ◌-◌, i
 use Rattle.std.proofs.Math.ListN.{get_or-append}
 use Rattle.std.proofs.lemmas.List.{get_or-append-add}
 use Rattle.std.proofs.lemmas.Bool.{cases_lt, cases_order, lt-ltb, le-ltb}
-use Rattle.cfb_directory.specs.Entries.{NO_STREAM}
-use Rattle.cfb_directory.specs.SearchTree.{IsSearchTree, empty, node, middle}
+use Rattle.directory_model.specs.Entries.{NO_STREAM}
+use Rattle.directory_model.specs.SearchTree.{IsSearchTree, empty, node, middle}
 use Rattle.file_layout.specs.Directory.{AreBalanced, top_between, lefts, rights, balanced}
 
 lefts-some : (depth lo hi : ℕ) → lo < hi → lefts (suc depth) lo hi ≡ lefts depth lo (middle lo hi) ++ top_between lo (middle lo hi) ∷ lefts depth (middle lo hi + 1) hi

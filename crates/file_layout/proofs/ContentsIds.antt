@@ -5,9 +5,9 @@ use Rattle.std.proofs.lemmas.Bool.{cases_order}
 use Rattle.std.proofs.lemmas.Bool.Decides.{eqb_tells}
 use Rattle.std.proofs.lemmas.Grind.{get_or_default_zero}
 use Rattle.std.specs.List.{Contains}
-use Rattle.cfb_directory.specs.Entries.{NO_STREAM}
-use Rattle.cfb_directory.specs.SearchTree.{IsSearchTree, empty, node, middle}
-use Rattle.cfb_directory.proofs.Trees.{Reached}
+use Rattle.directory_model.specs.Entries.{NO_STREAM}
+use Rattle.directory_model.specs.SearchTree.{IsSearchTree, empty, node, middle}
+use Rattle.directory_model.proofs.Trees.{Reached}
 use Rattle.tree_model.specs.Tree.{Children, none, stream, storage}
 use Rattle.file_model.specs.Need.{entries, entries_of}
 use Rattle.file_layout.specs.Directory.{IsLink}

@@ -3,10 +3,10 @@ use Rattle.std.proofs.Common.{◌≡◌, ◌<◌, ◌≤◌, ◌+◌, ◌*◌, �
 use Rattle.std.proofs.lemmas.List.{drop_at, take_at}
 use Rattle.std.specs.Prelude.{if◌then◌else◌}
 use Rattle.cfb_header.specs.Bytes.{block}
-use Rattle.cfb_directory.specs.Entries.{entry_at, kind, kind_number, left, right, child, class_of, state_of, first_of, size_of, IsNamed}
-use Rattle.cfb_directory.specs.Written.{entry_bytes}
-use Rattle.cfb_directory.specs.declared.write.EntryFields.{EntryFields}
-use Rattle.cfb_directory.proofs.Fields.{length-entry_bytes, kind-entry_bytes, left-entry_bytes, right-entry_bytes, child-entry_bytes, class_of-entry_bytes, state_of-entry_bytes, first_of-entry_bytes, size_of-entry_bytes, is_named-entry_bytes}
+use Rattle.directory_model.specs.Entries.{entry_at, kind, kind_number, left, right, child, class_of, state_of, first_of, size_of, IsNamed}
+use Rattle.directory_model.specs.Written.{entry_bytes}
+use Rattle.directory_model.specs.declared.entries.EntryFields.{EntryFields}
+use Rattle.directory_model.proofs.Fields.{length-entry_bytes, kind-entry_bytes, left-entry_bytes, right-entry_bytes, child-entry_bytes, class_of-entry_bytes, state_of-entry_bytes, first_of-entry_bytes, size_of-entry_bytes, is_named-entry_bytes}
 use Rattle.tree_model.specs.Tree.{Tree, Children, tree, none, stream, storage}
 use Rattle.tree_model.specs.Whole.{AreTrees, IsTree}
 use Rattle.file_model.specs.Need.{pieces, entries, entries_of, over_streams_of, mini_sectors, long_sectors, short_pieces, long_pieces}

@@ -7,8 +7,8 @@ use Rattle.std.specs.List.Sorted.{IsStrictlySortedBy}
 use Rattle.cfb_header.specs.Bytes.{joined}
 use Rattle.chain_model.specs.Chain.{Store, IsChainOf}
 use Rattle.cfb_names.specs.Names.{key, key_cmp}
-use Rattle.cfb_directory.specs.Entries.{entry_at, left, right, child, class_of, state_of, first_of, size_of, name_of, AreLinked, NO_STREAM}
-use Rattle.cfb_directory.proofs.Trees.{Reached, tree_reaches}
+use Rattle.directory_model.specs.Entries.{entry_at, left, right, child, class_of, state_of, first_of, size_of, name_of, AreLinked, NO_STREAM}
+use Rattle.directory_model.proofs.Trees.{Reached, tree_reaches}
 use Rattle.tree_model.specs.Tree.{Tree, Children, tree, none, stream, storage, keys}
 use Rattle.tree_model.specs.Whole.{AreTrees, IsTree}
 use Rattle.file_model.specs.Need.{pieces, entries, entries_of, over_streams_of, mini_sectors, long_sectors, short_pieces, long_pieces}

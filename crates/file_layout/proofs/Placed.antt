@@ -10,7 +10,7 @@ use Rattle.chain_model.specs.Chain.{Store, IsPresent, IsChain, IsChainOf, AreDis
 use Rattle.cfb_header.specs.Header.{HeaderValue, FitsHeader, IsHeader, named_in, difat, difat_by, fat_by, listed, header_of, header_bytes, first_directory, first_mini_fat, mini_fat_count}
 use Rattle.chain_model.specs.Fat.{IsFat, sectors_of, mini_sectors_of}
 use Rattle.cfb_header.proofs.Written.{written_is_header, written_header, length_written}
-use Rattle.cfb_directory.specs.Entries.{entry_at, first_of, size_of}
+use Rattle.directory_model.specs.Entries.{entry_at, first_of, size_of}
 use Rattle.file_model.specs.Need.{difat_sectors, pieces}
 use Rattle.file_model.specs.Denotes.{Layout, IsLaidOut, directory_of, root_of, sectors, minis}
 use Rattle.file_model.specs.Limits.{MOST_FAT_SECTORS}

@@ -1,11 +1,11 @@
 -- How the directory of a tree is written: entries stand depth first, siblings in name order (MS-CFB 2.6).
 use Rattle.std.specs.Prelude.{◌≡◌, ◌⊎◌, ◌<◌, ◌≤◌, ◌+◌, ◌-◌, ◌*◌, ◌^◌, ℕ, List, [], ◌∷◌, ◌++◌, length, replicate, slice_index, if◌then◌else◌, cond, nat_lt, zero, suc}
 use Rattle.std.specs.List.{concat}
-use Rattle.cfb_directory.specs.Entries.{NO_STREAM, root_name}
-use Rattle.cfb_directory.specs.SearchTree.{link_to, middle, IsSearchTree}
-use Rattle.cfb_directory.specs.Written.{entry_bytes, free_entry_bytes}
-use Rattle.cfb_directory.specs.declared.write.EntryFields.{EntryFields}
-use Rattle.cfb_directory.specs.declared.entries.EntryKind.TheVariants as kinds
+use Rattle.directory_model.specs.Entries.{NO_STREAM, root_name}
+use Rattle.directory_model.specs.SearchTree.{link_to, middle, IsSearchTree}
+use Rattle.directory_model.specs.Written.{entry_bytes, free_entry_bytes}
+use Rattle.directory_model.specs.declared.entries.EntryFields.{EntryFields}
+use Rattle.directory_model.specs.declared.entries.EntryKind.TheVariants as kinds
 use Rattle.tree_model.specs.Tree.{Tree, Children, tree, none, stream, storage}
 use Rattle.tree_model.specs.Seen.{Seen, bytes, inner}
 use Rattle.tree_model.specs.Whole.{IsTree}

@@ -4,7 +4,7 @@ use Rattle.std.specs.List.{range_with_len, sum}
 use Rattle.cfb_header.specs.Bytes.{block}
 use Rattle.chain_model.specs.Chain.{AreDistinct}
 use Rattle.cfb_header.specs.Header.{IsHeader}
-use Rattle.cfb_directory.specs.Entries.{entry_at, first_of, size_of}
+use Rattle.directory_model.specs.Entries.{entry_at, first_of, size_of}
 use Rattle.file_model.specs.Limits.{MOST_FAT_SECTORS}
 use Rattle.file_model.specs.Need.{difat_sectors, pieces}
 use Rattle.file_model.specs.Denotes.{Layout, IsLaidOut, directory_of, sectors, minis}

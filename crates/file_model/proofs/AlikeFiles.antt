@@ -6,7 +6,7 @@ use Rattle.std.specs.List.{All}
 use Rattle.chain_model.specs.Chain.{AreDistinct, IsChain, IsChainOf, IsPresent, Store}
 use Rattle.chain_model.specs.Fat.{IsFat, mini_sectors_of, sectors_of}
 use Rattle.cfb_header.specs.Header.{HeaderValue, IsHeader, difat, difat_by, fat_by, first_directory, first_mini_fat, header_of, listed, mini_fat_count}
-use Rattle.cfb_directory.specs.Entries.{entry_at, first_of, kind, size_of}
+use Rattle.directory_model.specs.Entries.{entry_at, first_of, kind, size_of}
 use Rattle.tree_model.specs.Tree.{Tree}
 use Rattle.file_model.specs.Alike.{AgreeOn, Alike}
 use Rattle.file_model.specs.Denotes.{Denotes, IsLaidOut, Layout, directory_of, minis, root_of, sectors, store_for}

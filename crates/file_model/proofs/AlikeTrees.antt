@@ -8,7 +8,7 @@ use Rattle.chain_model.specs.Fat.{mini_sectors_of, sectors_of}
 use Rattle.chain_model.proofs.Blocks.{length_block, length_joined}
 use Rattle.chain_model.proofs.Chains.{chain_room}
 use Rattle.cfb_names.specs.Names.{key, key_cmp}
-use Rattle.cfb_directory.specs.Entries.{AreLinked, IsNamed, child, class_of, entry_at, first_of, kind, name_of, size_of, state_of}
+use Rattle.directory_model.specs.Entries.{AreLinked, IsNamed, child, class_of, entry_at, first_of, kind, name_of, size_of, state_of}
 use Rattle.tree_model.specs.Tree.{Tree, Children, tree, none, stream, storage}
 use Rattle.tree_model.specs.Whole.{AreAbove, AreTrees, IsTree}
 use Rattle.file_model.specs.Limits.{CUTOFF}

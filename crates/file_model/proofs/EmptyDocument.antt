@@ -4,7 +4,7 @@ use Rattle.std.specs.List.Sorted.{IsStrictlySortedBy}
 use Rattle.cfb_header.specs.Bytes.{u16_at, u32_at, block}
 use Rattle.cfb_header.specs.Header.{IsHeader}
 use Rattle.chain_model.specs.Fat.{sectors_of}
-use Rattle.cfb_directory.specs.Entries.{nobody}
+use Rattle.directory_model.specs.Entries.{nobody}
 use Rattle.file_model.specs.Denotes.{Denotes, IsLaidOut, Layout, nothing, directory_of, Holds}
 use Rattle.file_model.specs.EmptyDocument.{empty_document, empty_tree}
 

@@ -7,7 +7,7 @@ use Rattle.chain_model.specs.Chain.{Store, IsPresent, IsChain, IsChainOf, Leads,
 use Rattle.cfb_header.specs.Header.{first_directory, first_mini_fat, mini_fat_count}
 use Rattle.chain_model.specs.Fat.{sectors_of}
 use Rattle.cfb_names.specs.Names.{key, key_cmp}
-use Rattle.cfb_directory.specs.Entries.{AreLinked, nobody, around, entry_at, left, right, first_of, size_of, child, name_of}
+use Rattle.directory_model.specs.Entries.{AreLinked, nobody, around, entry_at, left, right, first_of, size_of, child, name_of}
 use Rattle.tree_model.specs.Tree.{Tree, Children, tree, none, stream, storage}
 use Rattle.file_model.specs.Denotes.{Layout, IsLaidOut, directory_of, root_of, sectors, Denotes, Holds, HoldsEach, HoldsBytes, AreChildren, Used, entry, store_for}
 use Rattle.file_model.proofs.Lists.{sorted_unique}

@@ -7,7 +7,7 @@ use Rattle.chain_model.specs.Chain.{Store, IsChain, IsChainOf, AreDistinct}
 use Rattle.cfb_header.specs.Header.{IsHeader, difat, header_of, listed, first_directory, first_mini_fat, mini_fat_count}
 use Rattle.chain_model.specs.Fat.{IsFat, sectors_of, mini_sectors_of}
 use Rattle.cfb_names.specs.Names.{key, key_cmp}
-use Rattle.cfb_directory.specs.Entries.{entry_at, kind, child, class_of, state_of, first_of, size_of, name_of, IsNamed, AreLinked}
+use Rattle.directory_model.specs.Entries.{entry_at, kind, child, class_of, state_of, first_of, size_of, name_of, IsNamed, AreLinked}
 use Rattle.tree_model.specs.Tree.{Tree, Children, tree, none, stream, storage}
 use Rattle.tree_model.specs.Whole.{IsTree}
 use Rattle.file_model.specs.Limits.{CUTOFF}

@@ -10,7 +10,7 @@ use Rattle.storage_tree.proofs.Entries.{seen-storage, seen-stream}
 use Rattle.file_model.specs.Need.{entries, entries_of, over_streams_of, short_pieces, long_pieces, mini_sectors, long_sectors}
 use Rattle.file_layout.specs.Directory.{children_in, class_in, entries_with, ids_from}
 use Rattle.cfb_directory.specs.Written.{entry_bytes}
-use Rattle.cfb_directory.specs.declared.write.EntryFields.{EntryFields}
+use Rattle.directory_model.specs.declared.entries.EntryFields.{EntryFields}
 use Rattle.cfb_directory.proofs.Fields.{length-entry_bytes}
 use Rattle.file_writer.specs.Streams.{minis_with, sectors_with}
 use Rattle.file_writer.specs.Siblings.{past}

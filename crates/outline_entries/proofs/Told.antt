@@ -1,7 +1,7 @@
 -- What the parts of an outline tell of the entries that they were read of.
 use Rattle.std.proofs.Common.{◌≡◌, ◌<◌, ◌≤◌, ◌+◌, ℕ, List, [], ◌∷◌, ◌++◌, length, get_or, take, sym, ap, ◌∙◌, subst}
 use Rattle.std.proofs.lemmas.List.{take_more, take_all}
-use Rattle.cfb_directory.specs.Entries.{IsNamed, entry_at}
+use Rattle.directory_model.specs.Entries.{IsNamed, entry_at}
 use Rattle.file_outline.specs.declared.outline.Outline.{Outline}
 use Rattle.file_model.specs.Outline as model
 use Rattle.file_model.specs.Outline.{nested}

@@ -3,7 +3,7 @@ use Rattle.std.specs.Prelude.{◌≡◌, ◌↔◌, ℕ, List, [], ◌∷◌, ma
 use Rattle.std.specs.List.{Contains}
 use Rattle.std.specs.List.Sorted.{IsStrictlySortedBy}
 use Rattle.cfb_names.specs.Names.{key_cmp}
-use Rattle.cfb_directory.specs.Entries.{AreLinked, IsNamed, child, entry_at, first_of, kind, size_of}
+use Rattle.directory_model.specs.Entries.{AreLinked, IsNamed, child, entry_at, first_of, kind, size_of}
 use Rattle.storage_tree.specs.Tree.{Tree}
 use Rattle.file_model.specs.Denotes.{Denotes, directory_of}
 use Rattle.file_model.specs.Outline.{outline_of}

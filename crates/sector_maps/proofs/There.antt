@@ -17,8 +17,8 @@ use Rattle.cfb_header.specs.Bytes.{joined, sector}
 use Rattle.cfb_chain.proofs.Blocks.{length_block, length_joined}
 use Rattle.cfb_chain.proofs.Marks.{distinct_apart, distinct_left, distinct_right, distinct_tail}
 use Rattle.cfb_directory.specs.Entries.{AreFree, AreLinked, EntriesValue, IsFree, IsKindOf, IsNamed, MayRefuseChildren, MayRefuseEntry, MayRefuseLoad, around, child, entry_at, kind, kind_number, left, marked, nobody, right, root_name, size_of}
-use Rattle.cfb_directory.specs.declared.entries.EntryKind.{EntryKind}
-use Rattle.cfb_directory.specs.declared.entries.EntryKind.TheVariants as kinds
+use Rattle.directory_model.specs.declared.entries.EntryKind.{EntryKind}
+use Rattle.directory_model.specs.declared.entries.EntryKind.TheVariants as kinds
 use Rattle.cfb_directory.proofs.Marked.{children_kept, entry_kept}
 use Rattle.cfb_directory.proofs.Marks.{set_all-else}
 use Rattle.cfb_directory.proofs.Reading.{is_name-root}

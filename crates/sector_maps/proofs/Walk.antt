@@ -2,8 +2,8 @@
 use Rattle.std.proofs.Common.{◌≡◌, ◌<◌, ◌+◌, ◌++◌, ◌⊎◌, ◌↔◌, ◌∙◌, inl, inr, ℕ, Bool, true, false, cond, List, [], ◌∷◌, length, get_or, nat_eq, refl, sym, ap, subst, arith}
 use Rattle.std.specs.List.{Contains}
 use Rattle.cfb_directory.specs.Entries.{AreLinked, EntriesValue, child, entry_at, first_of, kind, kind_number, size_of}
-use Rattle.cfb_directory.specs.declared.entries.EntryKind.{EntryKind}
-use Rattle.cfb_directory.specs.declared.entries.EntryKind.TheVariants as kinds
+use Rattle.directory_model.specs.declared.entries.EntryKind.{EntryKind}
+use Rattle.directory_model.specs.declared.entries.EntryKind.TheVariants as kinds
 use Rattle.cfb_chain.specs.Chain.{IsChainOf}
 use Rattle.storage_tree.specs.Tree.{Tree, Children, tree, none, stream, storage}
 use Rattle.file_model.specs.Denotes.{AreChildren, Holds, HoldsEach, Layout, Used, directory_of, entry, nothing, root_of, sectors, store_for, taken}

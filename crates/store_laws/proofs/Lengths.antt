@@ -9,10 +9,10 @@ use Rattle.std.specs.Prelude.{if◌then◌else◌}
 use Rattle.cfb_header.specs.Header.{header_bytes}
 use Rattle.chain_model.proofs.Blocks.{length_block}
 use Rattle.cfb_header.proofs.Written.{length_written}
-use Rattle.cfb_directory.specs.Entries.{class_of, root_name}
-use Rattle.cfb_directory.specs.Written.{entry_bytes, free_entry_bytes}
-use Rattle.cfb_directory.specs.declared.write.EntryFields.{EntryFields}
-use Rattle.cfb_directory.proofs.Fields.{length-entry_bytes, length-free_entry_bytes}
+use Rattle.directory_model.specs.Entries.{class_of, root_name}
+use Rattle.directory_model.specs.Written.{entry_bytes, free_entry_bytes}
+use Rattle.directory_model.specs.declared.entries.EntryFields.{EntryFields}
+use Rattle.directory_model.proofs.Fields.{length-entry_bytes, length-free_entry_bytes}
 use Rattle.storage_tree.specs.Tree.{Tree, Children, tree, none, stream, storage}
 use Rattle.storage_tree.specs.Whole.{AreTrees, IsNamed, IsTree}
 use Rattle.file_model.specs.Denotes.{Denotes, Holds, HoldsEach, Layout, Used, directory_of, entry}

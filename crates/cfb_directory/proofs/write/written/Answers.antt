@@ -2,7 +2,7 @@ use Rattle.std.proofs.Common.{◌≡◌, ◌+◌, ◌*◌, ◌++◌, ℕ, List, 
 use Rattle.std.specs.Prelude.{slice_set}
 use Rattle.std.specs.Int.{w16, w32, to_le_bytes}
 use Rattle.cfb_directory.specs.Entries.{kind_number}
-use Rattle.cfb_directory.specs.declared.write.EntryFields.{EntryFields}
+use Rattle.directory_model.specs.declared.entries.EntryFields.{EntryFields}
 use Rattle.cfb_directory.proofs.Placed.{numbers_placed, placed, put}
 use Rattle.cfb_directory.proofs.write.written.Goals as goal
 

@@ -6,9 +6,9 @@ use Rattle.std.proofs.lemmas.List.Quantifiers.{all_pairs_push}
 use Rattle.std.proofs.lemmas.List.{get_or-append-add, get_or_default}
 use Rattle.std.proofs.Math.ListN.{length-set, get_or-append}
 use Rattle.std.specs.List.{All, Contains}
-use Rattle.cfb_directory.specs.Entries.{EntriesValue, IsFree, AreFree, marked}
+use Rattle.directory_model.specs.Entries.{EntriesValue, IsFree, AreFree, marked}
 use Rattle.cfb_bytes.specs.Marks.{set_all}
-use Rattle.cfb_directory.specs.Walk.{clear_all, unmarked}
+use Rattle.directory_model.specs.Walk.{clear_all, unmarked}
 
 -- one mark
 set_true : (used : List Bool) (m n : ℕ) → (n ≡ m) ⊎ (get_or used n true ≡ true) → get_or (set used m true) n true ≡ true

@@ -2,8 +2,8 @@
 use Rattle.std.specs.Prelude.{ℕ, ◌+◌, ◌*◌, ◌-◌, List, [], ◌∷◌, ◌++◌, length, replicate}
 use Rattle.std.specs.Int.{w16, w32, to_le_bytes}
 use Rattle.std.specs.List.{flat_map}
-use Rattle.cfb_directory.specs.Entries.{kind_number}
-use Rattle.cfb_directory.specs.declared.write.EntryFields.{EntryFields}
+use Rattle.directory_model.specs.Entries.{kind_number}
+use Rattle.directory_model.specs.declared.entries.EntryFields.{EntryFields}
 
 -- a name in UTF-16, with zeros up to 64 bytes
 unfoldable pub name_bytes : List ℕ → List ℕ

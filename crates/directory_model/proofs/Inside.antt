@@ -2,7 +2,7 @@
 use Rattle.std.proofs.Common.{◌≡◌, ◌≢◌, ◌<◌, ◌*◌, ℕ, List, [], ◌∷◌, ◌++◌, length, refl, sym, ◌∙◌, ap, append_assoc, append-nil, arith}
 use Rattle.std.proofs.lemmas.List.Elements.{All-append, All-push}
 use Rattle.std.specs.List.{All}
-use Rattle.cfb_directory.specs.Entries.{AreInside, AreLinked, NO_STREAM, around, around_inside, entry_at, left, nobody, nobody_inside, outside, right}
+use Rattle.directory_model.specs.Entries.{AreInside, AreLinked, NO_STREAM, around, around_inside, entry_at, left, nobody, nobody_inside, outside, right}
 
 -- links that stay inside reach the same
 pub linked_inside : (d : List ℕ) (id : ℕ) (ids : List ℕ) → AreLinked d id ids → AreInside d id ids

@@ -8,8 +8,8 @@ use Rattle.std.proofs.lemmas.List.{get_or-take, length-take-le}
 use Rattle.std.specs.List.{Contains, list_any, range_with_len}
 use Rattle.cfb_bytes.specs.Bytes.{u16_at}
 use Rattle.cfb_names.specs.Names.{IsName, is_forbidden, name_read}
-use Rattle.cfb_directory.specs.Entries.{IsNameOf, IsNamed, root_name, MayRefuseEntry, entry_at, name_length, name_of}
-use Rattle.cfb_directory.specs.Walk.{MayRefuseName}
+use Rattle.directory_model.specs.Entries.{IsNameOf, IsNamed, root_name, MayRefuseEntry, entry_at, name_length, name_of}
+use Rattle.directory_model.specs.Walk.{MayRefuseName}
 use Rattle.cfb_names.specs.declared.fault.DirFault.{DirFault}
 use Rattle.cfb_names.specs.declared.fault.DirFault.TheVariants.{NameEmpty, NameTooLong, NameNotAscii, NameForbidden, DuplicateName, BadEntry, TreeCycle, TooNested, NoMemory}
 

@@ -6,16 +6,16 @@ use Rattle.std.proofs.lemmas.List.Elements.{All-append, All-push, Contains-appen
 use Rattle.std.proofs.lemmas.List.{get_or-append-add, get_or_default, length-replicate}
 use Rattle.std.proofs.Math.ListN.{get_or-append}
 use Rattle.std.specs.List.{All, Contains, list_any}
-use Rattle.cfb_directory.proofs.Reading.{list_any-at}
+use Rattle.directory_model.proofs.Reading.{list_any-at}
 use Rattle.cfb_bytes.specs.Marks.{AreDistinct}
-use Rattle.cfb_directory.specs.Entries.{EntriesValue, IsFree, AreFree, AreLinked, MayRefuseChildren, MayRefuseEntry, MayRefuseLinked, IsKindOf, IsNamed, NO_STREAM, Reaches, here, by_left, by_right, child, entry_at, kind, left, right, marked}
+use Rattle.directory_model.specs.Entries.{EntriesValue, IsFree, AreFree, AreLinked, MayRefuseChildren, MayRefuseEntry, MayRefuseLinked, IsKindOf, IsNamed, NO_STREAM, Reaches, here, by_left, by_right, child, entry_at, kind, left, right, marked}
 use Rattle.cfb_bytes.specs.Marks.{set_all}
 use Rattle.cfb_names.specs.Names.{IsName, is_forbidden}
 use Rattle.cfb_names.specs.declared.fault.DirFault.{DirFault}
 use Rattle.cfb_names.specs.declared.fault.DirFault.TheVariants.{NameEmpty, NameTooLong, NameNotAscii, NameForbidden, DuplicateName, BadEntry, TreeCycle, TooNested, NoMemory}
-use Rattle.cfb_directory.proofs.Inside.{linked_inside}
-use Rattle.cfb_directory.proofs.Linked.{Around, around_of}
-use Rattle.cfb_directory.proofs.Marks.{free_below, length-set_all, set_all-there, set_all-else, set_all-stays}
+use Rattle.directory_model.proofs.Inside.{linked_inside}
+use Rattle.directory_model.proofs.Linked.{Around, around_of}
+use Rattle.directory_model.proofs.Marks.{free_below, length-set_all, set_all-there, set_all-else, set_all-stays}
 
 -- numbers of two lists
 at_behind : (xs ys : List ℕ) (j d : ℕ) → length xs ≤ j → get_or (xs ++ ys) j d ≡ get_or ys (j - length xs) d

@@ -1,7 +1,7 @@
 -- Why a walk over linked entries stops at one, how its marks are taken back, and why a name is refused.
 use Rattle.std.specs.List.{Contains}
 use Rattle.std.specs.Prelude.{◌≡◌, ◌≢◌, ◌<◌, ◌≤◌, ◌*◌, ℕ, Bool, true, false, List, [], ◌∷◌, length, slice_index_or, slice_set}
-use Rattle.cfb_directory.specs.Entries.{EntriesValue, name_length, name_of}
+use Rattle.directory_model.specs.Entries.{EntriesValue, name_length, name_of}
 use Rattle.cfb_names.specs.Names.{is_forbidden}
 use Rattle.cfb_names.specs.declared.fault.DirFault.{DirFault}
 use Rattle.cfb_names.specs.declared.fault.DirFault.TheVariants.{NameEmpty, NameTooLong, NameNotAscii, NameForbidden, BadEntry, TreeCycle}

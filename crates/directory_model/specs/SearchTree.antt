@@ -6,8 +6,8 @@ use Rattle.std.specs.declared.cmp.Ordering.TheVariants.{Less, Equal}
 use Rattle.cfb_names.specs.Names.{name_cmp}
 use Rattle.cfb_names.specs.declared.fault.DirFault.{DirFault}
 use Rattle.cfb_names.specs.declared.fault.DirFault.TheVariants.{DuplicateName, NoMemory}
-use Rattle.cfb_directory.specs.declared.links.Links.{Links}
-use Rattle.cfb_directory.specs.Entries.{NO_STREAM}
+use Rattle.directory_model.specs.declared.links.Links.{Links}
+use Rattle.directory_model.specs.Entries.{NO_STREAM}
 
 -- the place on top of those from `lo` up to `hi`
 abbrev pub middle : ℕ → ℕ → ℕ

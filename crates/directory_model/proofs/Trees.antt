@@ -5,9 +5,9 @@ use Rattle.std.proofs.lemmas.Bool.Decides.{eqb_tells}
 use Rattle.std.proofs.lemmas.List.Elements.{Contains-append_cases, Contains-append_left, Contains-append_right}
 use Rattle.std.specs.List.{Contains}
 use Rattle.cfb_bytes.specs.Marks.{AreDistinct}
-use Rattle.cfb_directory.specs.Entries.{NO_STREAM, AreLinked, nobody, around, entry_at, left, right}
-use Rattle.cfb_directory.specs.SearchTree.{AreKept, IsSearchTree, empty, node, middle, link_to}
-use Rattle.cfb_directory.proofs.Marked.{distinct_join}
+use Rattle.directory_model.specs.Entries.{NO_STREAM, AreLinked, nobody, around, entry_at, left, right}
+use Rattle.directory_model.specs.SearchTree.{AreKept, IsSearchTree, empty, node, middle, link_to}
+use Rattle.directory_model.proofs.Marked.{distinct_join}
 
 -- links agree on the places from `lo` up to `hi`
 abbrev pub AreSame : List ℕ → List ℕ → ℕ → ℕ → Type 0

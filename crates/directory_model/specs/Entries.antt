@@ -7,9 +7,9 @@ use Rattle.cfb_names.specs.Names.{is_forbidden}
 pub use Rattle.cfb_names.specs.Names.{root_name}
 use Rattle.cfb_names.specs.declared.fault.DirFault.{DirFault}
 use Rattle.cfb_names.specs.declared.fault.DirFault.TheVariants.{NameEmpty, NameTooLong, NameNotAscii, NameForbidden, BadEntry, TreeCycle, NoMemory}
-use Rattle.cfb_directory.specs.declared.entries.Entry.{Entry}
-use Rattle.cfb_directory.specs.declared.entries.EntryKind.{EntryKind}
-use Rattle.cfb_directory.specs.declared.entries.EntryKind.TheVariants.{Storage, Stream, Root}
+use Rattle.directory_model.specs.declared.entries.Entry.{Entry}
+use Rattle.directory_model.specs.declared.entries.EntryKind.{EntryKind}
+use Rattle.directory_model.specs.declared.entries.EntryKind.TheVariants.{Storage, Stream, Root}
 
 -- the value of a missing sibling or child
 abbrev pub NO_STREAM : ℕ

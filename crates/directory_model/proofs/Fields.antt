@@ -8,9 +8,9 @@ use Rattle.std.proofs.lemmas.Nat.{from_le_bytes-to_le_bytes_2, from_le_bytes-to_
 use Rattle.std.specs.List.{flat_map, range_with_len, All}
 use Rattle.std.specs.Int.{w16, w32, to_le_bytes, from_le_bytes}
 use Rattle.cfb_bytes.specs.Bytes.{block, u32_at, u16_at}
-use Rattle.cfb_directory.specs.Entries.{IsNamed, entry_at, child, class_of, first_of, kind, kind_number, left, name_length, name_of, right, size_of, state_of}
-use Rattle.cfb_directory.specs.Written.{entry_bytes, free_entry_bytes, name_bytes}
-use Rattle.cfb_directory.specs.declared.write.EntryFields.{EntryFields}
+use Rattle.directory_model.specs.Entries.{IsNamed, entry_at, child, class_of, first_of, kind, kind_number, left, name_length, name_of, right, size_of, state_of}
+use Rattle.directory_model.specs.Written.{entry_bytes, free_entry_bytes, name_bytes}
+use Rattle.directory_model.specs.declared.entries.EntryFields.{EntryFields}
 
 -- what stands behind a front
 after : (front rest : List ℕ) (n at : ℕ) → length front ≡ n → drop (n + at) (front ++ rest) ≡ drop at rest

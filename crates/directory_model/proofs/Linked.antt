@@ -1,6 +1,6 @@
 -- Entries that links reach.
 use Rattle.std.proofs.Common.{◌≡◌, ◌≢◌, ◌<◌, ◌*◌, ℕ, List, [], ◌∷◌, ◌++◌, length, refl, sym, ◌∙◌, ap, subst, append_assoc, append-nil}
-use Rattle.cfb_directory.specs.Entries.{AreLinked, nobody, around, NO_STREAM, Reaches, here, by_left, by_right, entry_at, left, right}
+use Rattle.directory_model.specs.Entries.{AreLinked, nobody, around, NO_STREAM, Reaches, here, by_left, by_right, entry_at, left, right}
 
 module _ (d : List ℕ) where
   -- what stands around an entry that is there

@@ -1,0 +1,4 @@
+pub mod Entries
+pub mod Written
+pub mod Walk
+pub mod SearchTree
