@@ -1,7 +1,1 @@
-pub mod Described
-pub mod Outlines
-pub mod Totals
-pub mod Room
-pub mod Built
-pub mod Streams
 pub mod Filed

@@ -1,31 +1,8 @@
--- The faults of lines, and their names.
-use Rattle.std.specs.Prelude.{ℕ, List, codes}
-use Rattle.cfb_names.specs.Faults.{name_of_fault}
-use Rattle.storage_tree.specs.FaultNames.{fault_name}
-use Rattle.storage_tree.specs.declared.fault.TreeFault.{TreeFault}
-use Rattle.storage_tree.specs.declared.fault.TreeFault.TheVariants as tree
+-- The faults of files that aren't made.
 use Rattle.file_writer.specs.declared.sending.SendFault.{SendFault}
 use Rattle.file_writer.specs.declared.sending.SendFault.TheVariants as send
-use Rattle.file_making.specs.declared.fault.LineFault.{LineFault}
-use Rattle.file_making.specs.declared.fault.LineFault.TheVariants.{Bad, Name, Tree, NoMemory}
 use Rattle.file_making.specs.declared.fault.MakeFault.{MakeFault}
 use Rattle.file_making.specs.declared.fault.MakeFault.TheVariants as make
-use Rattle.texts.specs.declared.lines.SyntaxFault.{SyntaxFault}
-use Rattle.texts.specs.declared.lines.SyntaxFault.TheVariants as syntax_fault
-
-abbrev pub of_tree_fault : TreeFault → LineFault
-of_tree_fault tree.NoMemory = NoMemory
-of_tree_fault fault = Tree fault
-
-abbrev pub of_syntax_fault : SyntaxFault → LineFault
-of_syntax_fault syntax_fault.Bad = Bad
-of_syntax_fault syntax_fault.NoMemory = NoMemory
-
-abbrev pub line_fault_name : LineFault → List ℕ
-line_fault_name Bad = codes "Bad"
-line_fault_name (Name fault) = name_of_fault fault
-line_fault_name (Tree fault) = fault_name fault
-line_fault_name NoMemory = codes "NoMemory"
 
 -- a fault of a described tree that is written
 abbrev pub of_send_fault : SendFault → MakeFault

@@ -4,7 +4,7 @@ use Rattle.file_model.specs.FaultNames.{fault_name}
 use Rattle.texts.specs.Reports.{of_file, of_line, standard}
 use Rattle.texts.specs.declared.input.InputFault.{InputFault}
 use Rattle.texts.specs.declared.input.InputFault.TheVariants as input
-use Rattle.file_making.specs.Faults.{line_fault_name}
+use Rattle.tree_descriptions.specs.Faults.{line_fault_name}
 use Rattle.file_making.specs.declared.fault.MakeFault.{MakeFault}
 use Rattle.file_making.specs.declared.fault.MakeFault.TheVariants as make
 

@@ -6,7 +6,7 @@ use Rattle.file_model.specs.Denotes.{Denotes}
 use Rattle.file_model.specs.Refusals.{writable, Refuses}
 use Rattle.file_writer.specs.Laid.{IsLaidOut}
 use Rattle.texts.specs.Input.{MayRefuseInput}
-use Rattle.file_making.specs.Description.{described, RefusesDescription}
+use Rattle.tree_descriptions.specs.Description.{described, RefusesDescription}
 use Rattle.file_making.specs.declared.fault.MakeFault.{MakeFault}
 use Rattle.file_making.specs.declared.fault.MakeFault.TheVariants as make
 

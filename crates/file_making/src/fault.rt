@@ -1,73 +1,9 @@
-//! Why a description or a file is refused.
+//! Why no file is made.
 
-use cfb_names::fault::DirFault;
 use file_model::fault::WriteFault;
-use storage_tree::fault::TreeFault;
 use texts::input::InputFault;
-use texts::lines::SyntaxFault;
 use thiserror::Error;
-
-/// Why a line of a description is refused.
-#[derive(Debug, Clone, Copy, PartialEq, Eq, Error)]
-pub enum LineFault {
-    /// The line is outside the grammar.
-    #[error("the line is outside the grammar")]
-    Bad,
-    /// A name of its path is none that a directory takes.
-    #[error("{0}")]
-    Name(DirFault),
-    /// The tree doesn't take it.
-    #[error("{0}")]
-    Tree(TreeFault),
-    /// No memory was left.
-    #[error("no memory is left")]
-    NoMemory,
-}
-
-impl LineFault {
-    ghost use Rattle.std.specs.Prelude.{◌≡◌};
-    ghost use Rattle.file_making.specs.Faults.{line_fault_name};
-
-    /// The fault's name, as it is printed.
-    pub fn name(&self) -> &'static str
-        ensures { result.now ≡ line_fault_name self.now }
-    {
-        match self {
-            LineFault::Bad => "Bad",
-            LineFault::Name(fault) => fault.name(),
-            LineFault::Tree(fault) => fault.name(),
-            LineFault::NoMemory => "NoMemory",
-        }
-    }
-}
-
-impl From<SyntaxFault> for LineFault {
-    ghost use Rattle.std.specs.Prelude.{◌≡◌};
-    ghost use Rattle.file_making.specs.Faults.{of_syntax_fault};
-
-    ghost from_gives = { λ fault e. e ≡ of_syntax_fault fault };
-
-    fn from(fault: SyntaxFault) -> Self {
-        match fault {
-            SyntaxFault::Bad => LineFault::Bad,
-            SyntaxFault::NoMemory => LineFault::NoMemory,
-        }
-    }
-}
-
-impl From<TreeFault> for LineFault {
-    ghost use Rattle.std.specs.Prelude.{◌≡◌};
-    ghost use Rattle.file_making.specs.Faults.{of_tree_fault};
-
-    ghost from_gives = { λ fault e. e ≡ of_tree_fault fault };
-
-    fn from(fault: TreeFault) -> Self {
-        match fault {
-            TreeFault::NoMemory => LineFault::NoMemory,
-            _ => LineFault::Tree(fault),
-        }
-    }
-}
+pub use tree_descriptions::fault::LineFault;
 
 /// Why no file is made.
 #[derive(Debug, Clone, Copy, PartialEq, Eq, Error)]

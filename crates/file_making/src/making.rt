@@ -1,14 +1,12 @@
 //! Making a compound file over readers and writers.
 
-ghost use Rattle.file_making.specs.Description.{described};
 ghost use Rattle.file_making.specs.Faults.{of_send_fault};
 ghost use Rattle.file_making.specs.Run.{Makes, MayRefuseMake};
 ghost use Rattle.std.specs.Prelude.{◌≡◌, ◌≢◌, ◌≤◌, Ok, length, IfErr, IfOk, IfSome};
 ghost use Rattle.storage_tree.specs.Kept.{kept};
 ghost use Rattle.texts.specs.Input.{most};
+ghost use Rattle.tree_descriptions.specs.Description.{described};
 
-use crate::building::Described;
-use crate::description::describe;
 use crate::fault::MakeFault;
 use file_model::fault::WriteFault;
 use file_writer::sending::{SendFault, send_file};
@@ -16,6 +14,7 @@ use std::alloc::Global;
 use std::io::{Read, Write};
 use storage_tree::tree::Tree;
 use texts::input::read_all;
+use tree_descriptions::description::{Described, describe};
 
 /// A fault of a described tree that is written.
 fn of_sending(fault: SendFault) -> MakeFault
@@ -58,7 +57,7 @@ pub fn make_file<R: Read, W: Write>(
 /// The tree that a description describes.
 ///
 /// Refused: as `make_file`, and also where its streams have more bytes than a file.
-#[tactic(auto, using(crate::proofs::Room::too_large))]
+#[tactic(auto, using(tree_descriptions::proofs::Room::too_large))]
 fn described_tree(alloc: Global, text: &[u8]) -> Result<Tree, MakeFault>
     requires { length text.now ≤ most }
     ensures made { IfOk result (λ tree. described text.now ≡ Ok (kept tree)) }

@@ -16,8 +16,8 @@ use Rattle.file_commands.specs.declared.fault.CleanFault.{CleanFault}
 use Rattle.file_commands.specs.declared.fault.CleanFault.TheVariants as clean
 use Rattle.file_commands.specs.declared.fault.GetFault.{GetFault}
 use Rattle.file_commands.specs.declared.fault.GetFault.TheVariants as get
-use Rattle.file_making.specs.declared.fault.LineFault.{LineFault}
-use Rattle.file_making.specs.declared.fault.LineFault.TheVariants as line
+use Rattle.tree_descriptions.specs.declared.fault.LineFault.{LineFault}
+use Rattle.tree_descriptions.specs.declared.fault.LineFault.TheVariants as line
 use Rattle.file_commands.specs.declared.fault.ListFault.{ListFault}
 use Rattle.file_commands.specs.declared.fault.ListFault.TheVariants as list
 use Rattle.file_making.specs.declared.fault.MakeFault.{MakeFault}

@@ -1,0 +1,6 @@
+pub mod Commands
+pub mod Faults
+pub mod Outline
+pub mod Description
+pub mod Refusal
+pub mod Building
