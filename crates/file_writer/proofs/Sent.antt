@@ -27,11 +27,11 @@ pub sends_wait : (w : Option (List ℕ)) (b c x : List ℕ) → c ≡ b ++ x →
 sends_wait w b c x e = record { gone = []; written = Appends-nil w; all = e }
 
 -- what waited was written, and the bytes behind it
-pub sends_through : (w v u : Option (List ℕ)) (b d c x : List ℕ) → d ≡ b → c ≡ [] → Appends w v d → Appends v u x → Sends w u b c x
-sends_through w v u b d c x eb ec h k = record {
-  gone = d ++ x;
-  written = Appends-trans w v u d x h k;
-  all = ap (λ zs. (d ++ x) ++ zs) ec ∙ append-nil (d ++ x) ∙ ap (λ zs. zs ++ x) eb;
+pub sends_through : (w v u : Option (List ℕ)) (b c x : List ℕ) → c ≡ [] → Appends w v b → Appends v u x → Sends w u b c x
+sends_through w v u b c x none h k = record {
+  gone = b ++ x;
+  written = Appends-trans w v u b x h k;
+  all = ap (λ zs. (b ++ x) ++ zs) none ∙ append-nil (b ++ x);
 }
 
 -- room was made, and bytes wait there

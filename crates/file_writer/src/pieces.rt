@@ -5,28 +5,17 @@ ghost use Rattle.file_writer.specs.Sending.{Sends};
 ghost use Rattle.std.specs.Int.{to_le_bytes, w32};
 ghost use Rattle.std.specs.Io.KnownBytes.{Appends};
 ghost use Rattle.std.specs.List.{concat, flat_map};
-ghost use Rattle.std.specs.Prelude.{[], ◌++◌, ◌<◌, ◌≡◌, ◌≤◌, OnOk, false, length, replicate, true};
+ghost use Rattle.std.specs.Prelude.{[], ◌<◌, ◌≡◌, ◌≤◌, OnOk, length, replicate};
 
 use crate::entries::class_bytes;
 use cfb_directory::write::{EntryFields, write_entry, write_free_entry};
 use std::io::{self, Write};
 
-/// How many bytes are written at once: where as many wait, no more join them.
+/// How many bytes are written at once: where as many wait, they are written before more join them.
 const PIECE: usize = 65536;
 
 /// Room for all that may wait, of which the last bytes are fewer than a piece.
 pub(crate) const ROOM: usize = 2 * PIECE;
-
-/// Whether bytes now wait behind others, as they do where all are few.
-fn wait(waiting: &mut Vec<u8>, bytes: &[u8]) -> bool
-    ensures waits { result ≡ true → waiting.new.items ≡ waiting.old.items ++ bytes.now }
-    ensures kept { result ≡ false → waiting.new.items ≡ waiting.old.items }
-{
-    if waiting.len() >= PIECE || bytes.len() >= PIECE {
-        return false;
-    }
-    waiting.extend_from_slice(bytes).is_ok()
-}
 
 /// Writes bytes.
 fn write<W: Write>(writer: &mut W, bytes: &[u8]) -> io::Result<()>
@@ -55,15 +44,29 @@ pub(crate) fn finish<W: Write>(writer: &mut W, bytes: &[u8]) -> io::Result<()>
     Ok(())
 }
 
-/// Lets bytes wait behind others, or writes them all.
-pub(crate) fn send<W: Write>(writer: &mut W, waiting: &mut Vec<u8>, bytes: &[u8]) -> io::Result<()>
-    ensures { OnOk result (Sends (W.contents writer.old) (W.contents writer.new) waiting.old.items waiting.new.items bytes.now) }
+/// Writes what waits where that is a whole piece. In the room that was taken for it, what is put there next needs no
+/// memory.
+fn make_room<W: Write>(writer: &mut W, waiting: &mut Vec<u8>) -> io::Result<()>
+    ensures { OnOk result (Sends (W.contents writer.old) (W.contents writer.new) waiting.old.items waiting.new.items []) }
 {
-    if wait(waiting, bytes) {
+    if waiting.len() < PIECE {
         return Ok(());
     }
     write_waiting(writer, waiting)?;
-    write(writer, bytes)?;
+    Ok(())
+}
+
+/// Lets bytes wait behind others, or writes them all where they are a piece or more.
+pub(crate) fn send<W: Write>(writer: &mut W, waiting: &mut Vec<u8>, bytes: &[u8]) -> io::Result<()>
+    ensures { OnOk result (Sends (W.contents writer.old) (W.contents writer.new) waiting.old.items waiting.new.items bytes.now) }
+{
+    if bytes.len() >= PIECE {
+        write_waiting(writer, waiting)?;
+        write(writer, bytes)?;
+        return Ok(());
+    }
+    make_room(writer, waiting)?;
+    waiting.extend_from_slice(bytes)?;
     Ok(())
 }
 
@@ -81,18 +84,6 @@ pub(crate) fn send_zeros<W: Write>(
     }
     let zeros = [0; 512];
     send(writer, waiting, &zeros[..count])?;
-    Ok(())
-}
-
-/// Writes what waits where that is a whole piece. In the room that was taken for it, what is put there next needs no
-/// memory.
-fn make_room<W: Write>(writer: &mut W, waiting: &mut Vec<u8>) -> io::Result<()>
-    ensures { OnOk result (Sends (W.contents writer.old) (W.contents writer.new) waiting.old.items waiting.new.items []) }
-{
-    if waiting.len() < PIECE {
-        return Ok(());
-    }
-    write_waiting(writer, waiting)?;
     Ok(())
 }
 

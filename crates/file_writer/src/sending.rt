@@ -24,7 +24,7 @@ use storage_tree::storage::{Node, Storage};
 use thiserror::Error;
 
 /// Why the file of a tree isn't written.
-#[derive(Debug, Clone, Copy, PartialEq, Eq, Error)]
+#[derive(Debug, Clone, Copy, Error)]
 pub enum SendFault {
     /// The tree has no file, or memory is wanting.
     #[error("{0}")]
