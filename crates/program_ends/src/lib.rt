@@ -6,3 +6,4 @@ pub mod command_lines;
 pub mod ends;
 pub mod journals;
 pub mod new_file;
+pub mod starts;
