@@ -1,6 +1,6 @@
 -- Where an object stands, found by its number among objects whose numbers rise; objects that keep their numbers; numbers past
 -- all that there are.
-use Rattle.std.proofs.Common.{◌≡◌, ℕ, ◌+◌, ◌<◌, ◌≤◌, zero, suc, true, false, nat_lt, List, [], ◌∷◌, ◌++◌, map, length, get_or, remove, slice_set, refl, ap, sym, subst, ◌∙◌, Option, Some, None, Result, Ok, Err, MatchOption, IfSome, Ordering, Less, Equal, Greater, nat_cmp, arith}
+use Rattle.std.proofs.Common.{◌≡◌, ℕ, ◌+◌, ◌<◌, ◌≤◌, zero, suc, true, false, nat_lt, List, [], ◌∷◌, ◌++◌, map, length, get_or, remove, slice_set, refl, ap, sym, subst, ◌∙◌, None, Result, Ok, Err, MatchOption, IfSome, Ordering, Less, Equal, Greater, nat_cmp, arith}
 use Rattle.std.proofs.lemmas.Bool.{eqb-true, eq-eqb, ltb-false, ltb-true}
 use Rattle.std.proofs.lemmas.Bool.Decides.{nat_tests}
 use Rattle.std.proofs.lemmas.Cmp.{ranked}

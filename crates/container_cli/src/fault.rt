@@ -6,7 +6,7 @@ use texts::report::{Report, STANDARD};
 use thiserror::Error;
 
 /// Why no events are run.
-#[derive(Debug, Clone, Copy, PartialEq, Eq, Error)]
+#[derive(Debug, Clone, Copy, Error)]
 pub enum SimulateFault {
     /// The events aren't read.
     #[error("{0}")]

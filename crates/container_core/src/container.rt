@@ -19,7 +19,7 @@ use wire_msgs::items::Items;
 use wire_msgs::message::Message;
 
 /// The limits of a container.
-#[derive(Clone, Copy, PartialEq, Eq)]
+#[derive(Clone, Copy)]
 pub struct Limits {
     /// The greatest number that is drawn, 1 to 1,000,000.
     pub numbers: u32,

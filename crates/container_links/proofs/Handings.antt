@@ -1,6 +1,5 @@
 -- What is asked of objects whose frame hands off, and which answers are contents that were awaited.
 use Rattle.std.proofs.Common.{◌≡◌, ◌==◌, ◌&&◌, ℕ, Bool, true, false, List, [], ◌∷◌, map, Option, Some, None, is_some, IfOk, Result, Ok, Err, refl, ap, subst, sym, ◌∙◌, if◌then◌else◌}
-use Rattle.std.specs.Prelude.{is_ok}
 use Rattle.wire_msgs.specs.Operations.{op_of}
 use Rattle.wire_msgs.specs.declared.answer.Answer.{Answer}
 use Rattle.wire_msgs.specs.declared.answer.Answer.TheVariants as told
@@ -70,15 +69,7 @@ closed_leaves : (l : Link) (content : Option Stored) (R : Result States StateFau
 closed_leaves l content (Err fault) e = refl
 closed_leaves l content (Ok v) e = rw e refl
 
-abbrev pub IsOther : WhenContent → Type 0
-IsOther Saved = ⊥
-IsOther turn = Unit {0}
-
 -- contents, by what they mean for the operation
-content_at : (l : Link) (content : Stored) (R : Result States StateFault) → l.saved ≡ None → answers (Some l) (saved_link content (done_link l l.s R)) ≡ is_ok R
-content_at l content (Err fault) e = refl
-content_at l content (Ok v) e = rw e refl
-
 fit_content : (l : Link) (op : Operation) (content : Stored) (b : Bool) → is_within content ≡ b → answers (Some l) (replied_fitting l op (told.Content content)) ≡ (b && answers (Some l) (replied l op (told.Content content)))
 fit_content l op content true e = rw e refl
 fit_content l op content false e = rw e refl
@@ -87,19 +78,6 @@ pub content_row : (l : Link) (op : Operation) (content : Stored) (o : Op) → o 
     → answers (Some l) (replied_fitting l op (told.Content content)) ≡ (is_within content && answers (Some l) (by_content l o content turn))
 content_row l op content o known turn e n =
     fit_content l op content (is_within content) refl ∙ ap (λ R. is_within content && answers (Some l) R) (content_is l op content ∙ ap (by_content l (op_of op) content) (sym e) ∙ ap (λ (x : Op). by_content l x content turn) (sym known))
-
-pub saved_row : (l : Link) (op : Operation) (content : Stored) (o : Op) → o ≡ op_of op → Saved ≡ when_content op → l.saved ≡ None
-    → answers (Some l) (replied_fitting l op (told.Content content)) ≡ (is_within content && is_ok (both.step l.states o))
-saved_row l op content o known e n = content_row l op content o known Saved e n ∙ ap (λ b. is_within content && b) (content_at l content (both.step l.states o) n)
-
-and_nothing : (b : Bool) → (b && false) ≡ false
-and_nothing true = refl
-and_nothing false = refl
-
-pub other_row : (l : Link) (op : Operation) (content : Stored) (turn : WhenContent) → turn ≡ when_content op → IsOther turn → l.saved ≡ None → answers (Some l) (replied_fitting l op (told.Content content)) ≡ false
-other_row l op content Saved e is n = absurd is
-other_row l op content Closed e is n = content_row l op content (op_of op) refl Closed e n ∙ (ap (λ b. is_within content && b) (closed_leaves l (Some content) (both.step l.states (op_of op)) n) ∙ and_nothing (is_within content))
-other_row l op content Unasked e is n = content_row l op content (op_of op) refl Unasked e n ∙ and_nothing (is_within content)
 
 -- other answers
 done_by : (l : Link) (o : Op) (turn : WhenDone) → Leaves l (by_done l o turn)

@@ -5,7 +5,7 @@ use object_state::CloseOption;
 use storage_tree::bytes::Bytes;
 
 /// The three kinds of objects.
-#[derive(Clone, Copy, PartialEq, Eq)]
+#[derive(Clone, Copy)]
 pub enum ObjectKind {
     /// A note.
     Note,

@@ -3,7 +3,7 @@
 use thiserror::Error;
 
 /// Why a container refuses a command, a message or a commit's result. A refused one changes nothing.
-#[derive(Debug, Clone, Copy, PartialEq, Eq, Error)]
+#[derive(Debug, Clone, Copy, Error)]
 pub enum ContainerFault {
     /// There is no such frame, object or server.
     #[error("there is no such frame, object or server")]

@@ -3,7 +3,7 @@
 use grant_core::Tools;
 
 /// What an answer tells of the frame's menus and border.
-#[derive(Clone, Copy, PartialEq, Eq)]
+#[derive(Clone, Copy)]
 pub enum Tells {
     /// The object has the frame from now on, under this grant, with these menus and this border.
     Gets(u32, Tools),

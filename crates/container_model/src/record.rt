@@ -52,7 +52,7 @@ pub struct Object {
 }
 
 /// How far a save of a frame is.
-#[derive(Clone, Copy, PartialEq, Eq)]
+#[derive(Clone, Copy)]
 pub enum Phase {
     /// No save is under way.
     Idle,

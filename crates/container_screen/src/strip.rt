@@ -8,7 +8,7 @@ use container_model::record::Object;
 use ole_parts::presentation::lines;
 
 /// What an object shows in one line of its area.
-#[derive(Clone, Copy, PartialEq, Eq)]
+#[derive(Clone, Copy)]
 pub enum Strip<'a> {
     /// Nothing.
     Nothing,

@@ -23,7 +23,7 @@ pub struct Entry {
 }
 
 /// What an entry says besides its name. The size is in bytes; links to nobody are 0xFFFFFFFF.
-#[derive(Clone, Copy, PartialEq, Eq)]
+#[derive(Clone, Copy)]
 pub struct EntryFields {
     pub kind: EntryKind,
     pub left: u32,

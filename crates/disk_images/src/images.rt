@@ -7,7 +7,7 @@ use std::alloc::{AllocError, Global};
 use store_model::area::Area;
 
 /// What a crash makes of the calls that no sync has followed.
-#[derive(Debug, Clone, Copy, PartialEq, Eq)]
+#[derive(Clone, Copy, PartialEq, Eq)]
 pub enum Pending {
     /// They are done.
     Kept,

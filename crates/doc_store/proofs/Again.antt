@@ -1,5 +1,5 @@
 -- A disk that is opened again after a commit that failed.
-use Rattle.std.proofs.Common.{◌≡◌, inl, inr, ⊎_elim, ℕ, List, Bool, true, Some, Result, Ok, Err, IfOk, IfErr, OnOk, ◌∙◌, ap, sym}
+use Rattle.std.proofs.Common.{◌≡◌, inl, inr, ⊎_elim, ℕ, List, Bool, true, Some, Result, Ok, Err, IfOk, IfErr, ◌∙◌, ap, sym}
 use Rattle.store_model.specs.Image.{Image}
 use Rattle.store_model.specs.Journal.{restored}
 use Rattle.store_model.specs.Store.{CommitRefuses, IsBeforeOrAfter, StandsAsOneOf, StandsFor, UnlessDevice}
@@ -22,10 +22,6 @@ ends (Lost fault) old bytes document is tells = (tells, ⊎_elim (λ was. was) (
 pub both_ok : {T E : Type 0} (r : Result T E) (P Q R : T → Type 0) → ((x : T) → P x → Q x → R x) → IfOk r P → IfOk r Q → IfOk r R
 both_ok (Ok x) P Q R then first second = then x first second
 both_ok (Err e) P Q R then first second = tt
-
-pub both_on_ok : {T E : Type 0} {P Q R : Type 0} (r : Result T E) → (P → Q → R) → OnOk r P → OnOk r Q → OnOk r R
-both_on_ok (Ok x) then first second = then first second
-both_on_ok (Err e) then first second = tt
 
 pub ok_then : {T E : Type 0} (r : Result T E) (P Q : T → Type 0) → ((x : T) → P x → Q x) → IfOk r P → IfOk r Q
 ok_then (Ok x) P Q then has = then x has

@@ -4,7 +4,7 @@ ghost use Rattle.doc_store.specs.Steps.{new_size};
 ghost use Rattle.std.specs.Prelude.{◌≡◌};
 
 /// What an open journal makes of the document area.
-#[derive(Clone, Copy, PartialEq, Eq)]
+#[derive(Clone, Copy)]
 pub(crate) enum Change {
     /// It holds a whole document of this length.
     Whole(u32),
@@ -25,7 +25,7 @@ impl Change {
 }
 
 /// What `open` finds in the journal.
-#[derive(Clone, Copy, PartialEq, Eq)]
+#[derive(Clone, Copy)]
 pub(crate) enum Found {
     /// A gate that isn't open, so the document area counts.
     Closed,

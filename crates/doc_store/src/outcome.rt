@@ -3,7 +3,7 @@
 use store_model::fault::StoreFault;
 
 /// How a commit ended.
-#[derive(Clone, Copy, PartialEq, Eq)]
+#[derive(Clone, Copy)]
 pub enum Outcome {
     /// Its bytes are the document.
     Kept,

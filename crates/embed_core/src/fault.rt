@@ -4,7 +4,7 @@ use std::alloc::{AllocError, AllocFailed};
 use thiserror::Error;
 
 /// Why an embedded object refuses a call.
-#[derive(Debug, Clone, Copy, PartialEq, Eq, Error)]
+#[derive(Debug, Clone, Copy, Error)]
 pub enum EmbedFault {
     /// An edit outside the kind's grammar or ranges.
     #[error("the edit isn't one of this object's")]

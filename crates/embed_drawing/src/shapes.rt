@@ -18,14 +18,14 @@ const LAST_START: u32 = 99;
 const LONGEST: u32 = 100;
 
 /// Where a line goes from its first cell.
-#[derive(Clone, Copy, PartialEq, Eq)]
+#[derive(Clone, Copy)]
 pub enum Heading {
     Across,
     Down,
 }
 
 /// A shape, by the column and the line where it begins, from 0 at the top left.
-#[derive(Clone, Copy, PartialEq, Eq)]
+#[derive(Clone, Copy)]
 pub enum Figure {
     /// A box, by its width and height.
     Rectangle {

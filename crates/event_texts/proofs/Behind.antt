@@ -1,5 +1,5 @@
 -- Events read from a line whose first words were cut off.
-use Rattle.std.proofs.Common.{◌≡◌, ℕ, List, [], ◌∷◌, true, false, Option, Some, None, bytes_eq, codes, cond, option_map, refl, ap}
+use Rattle.std.proofs.Common.{◌≡◌, ℕ, List, [], ◌∷◌, true, false, None, bytes_eq, codes, cond, option_map, refl, ap}
 use Rattle.text_words.specs.Words.{words, number_read}
 use Rattle.text_words.proofs.Cuts.{pieces-known, pieces-joined}
 use Rattle.event_texts.specs.Events.{edit_of, edit_read, forge_named, forge_read, open_named, open_read, start_read}

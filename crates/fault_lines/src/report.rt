@@ -6,7 +6,7 @@ use std::fmt;
 pub const STANDARD: &str = "-";
 
 /// A fault as it is printed, with the file or the line that it was found in.
-#[derive(Clone, Copy, PartialEq, Eq)]
+#[derive(Clone, Copy)]
 pub enum Report<'a> {
     /// The file's name, and the fault's.
     File(&'a str, &'static str),

@@ -1,7 +1,7 @@
 //! The places at which a file is at fault.
 
 /// A link of a chain: the sector that has it, which is none where the chain begins, and the number that it names.
-#[derive(Debug, Clone, Copy, PartialEq, Eq)]
+#[derive(Clone, Copy)]
 pub struct Link {
     /// The sector whose entry it is.
     pub from: Option<u32>,
@@ -10,7 +10,7 @@ pub struct Link {
 }
 
 /// A place at which a file is at fault.
-#[derive(Debug, Clone, Copy, PartialEq, Eq)]
+#[derive(Clone, Copy)]
 pub enum FaultPlace {
     /// The fields of the header.
     Header,

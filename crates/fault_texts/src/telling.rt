@@ -10,7 +10,7 @@ use std::alloc::{AllocError, Global};
 use stream_io::fault::ReadFault;
 
 /// How it is told what is wrong with a file.
-#[derive(Clone, Copy, PartialEq, Eq)]
+#[derive(Clone, Copy)]
 pub enum Form {
     /// A line for eyes.
     Line,

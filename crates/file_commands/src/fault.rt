@@ -8,7 +8,7 @@ use texts::input::InputFault;
 use thiserror::Error;
 
 /// Why no listing is written.
-#[derive(Debug, Clone, Copy, PartialEq, Eq, Error)]
+#[derive(Debug, Clone, Copy, Error)]
 pub enum ListFault {
     /// The file isn't read whole.
     #[error("{0}")]
@@ -41,7 +41,7 @@ impl From<PlacesFault> for ListFault {
 }
 
 /// Why the bytes of a stream aren't written.
-#[derive(Debug, Clone, Copy, PartialEq, Eq, Error)]
+#[derive(Debug, Clone, Copy, Error)]
 pub enum GetFault {
     /// The file isn't read whole.
     #[error("{0}")]
@@ -58,7 +58,7 @@ pub enum GetFault {
 }
 
 /// Why no clean file is written.
-#[derive(Debug, Clone, Copy, PartialEq, Eq, Error)]
+#[derive(Debug, Clone, Copy, Error)]
 pub enum CleanFault {
     /// The file isn't read whole.
     #[error("{0}")]

@@ -8,7 +8,7 @@ use crate::plan::Entry;
 use thiserror::Error;
 
 /// Why an entry isn't made.
-#[derive(Debug, Clone, Copy, PartialEq, Eq, Error)]
+#[derive(Debug, Clone, Copy, Error)]
 pub enum FolderFault {
     /// Something stands there already.
     #[error("something stands there already")]

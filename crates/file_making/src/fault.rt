@@ -6,7 +6,7 @@ use thiserror::Error;
 pub use tree_descriptions::fault::LineFault;
 
 /// Why no file is made.
-#[derive(Debug, Clone, Copy, PartialEq, Eq, Error)]
+#[derive(Debug, Clone, Copy, Error)]
 pub enum MakeFault {
     /// The description isn't read.
     #[error("{0}")]

@@ -8,7 +8,7 @@ use file_model::limit::CUTOFF;
 use storage_tree::class_id::ClassId;
 
 /// Where a stream lies: the sector or mini sector that it begins with, and how many bytes it has.
-#[derive(Clone, Copy, PartialEq, Eq)]
+#[derive(Clone, Copy)]
 pub struct Place {
     pub first: u32,
     pub size: u32,

@@ -4,7 +4,7 @@ use crate::sectors::SECTOR;
 use std::alloc::{AllocError, Global};
 
 /// What becomes of the bytes of sectors and mini sectors that nothing lies in any more.
-#[derive(Clone, Copy, PartialEq, Eq)]
+#[derive(Clone, Copy)]
 pub enum Freed {
     /// They stay, so that fewer blocks change.
     Kept,

@@ -5,7 +5,7 @@ ghost use Rattle.grant_core.specs.Faults.{fault_name};
 use thiserror::Error;
 
 /// Why a frame's grant refuses a call. A refused call changes nothing, but for `NoToolSpace`.
-#[derive(Clone, Copy, Debug, PartialEq, Eq, Error)]
+#[derive(Clone, Copy, Debug, Error)]
 pub enum GrantFault {
     /// The border that was asked for leaves no room in the frame. The object holds the frame all the
     /// same, with its menus and a border of zero (INPLACE_E_NOTOOLSPACE).

@@ -10,7 +10,7 @@ use std::marker::Model;
 
 /// A frame's menus and border space (IOleInPlaceFrame): at most one object has them. Whoever waits for
 /// them is another object than the holder, with another activation.
-#[derive(Clone, Copy, PartialEq, Eq)]
+#[derive(Clone, Copy)]
 pub struct FrameUi {
     width: u16,
     height: u16,

@@ -12,7 +12,7 @@ use store_model::area::Area;
 use store_model::disk::{Disk, DiskFailure};
 
 /// Which calls of a disk fail.
-#[derive(Clone, Copy, PartialEq, Eq)]
+#[derive(Clone, Copy)]
 pub enum Faults {
     /// None.
     Never,

@@ -28,7 +28,7 @@ pub enum Opening {
 }
 
 /// What comes next.
-#[derive(Clone, Copy, PartialEq, Eq)]
+#[derive(Clone, Copy)]
 pub enum Phase {
     /// What the last stream lacks, then the fields of the next one, or the length of the picture.
     Fields,

@@ -6,7 +6,7 @@ ghost use Rattle.message_model.specs.Codes.{answer_code_of, kind_of, operation_c
 use wire_msgs::refusal::Refusal;
 
 /// The kinds of frames.
-#[derive(Clone, Copy, PartialEq, Eq)]
+#[derive(Clone, Copy)]
 pub enum Kind {
     /// 1: a call.
     Call,
@@ -21,7 +21,7 @@ pub enum Kind {
 }
 
 /// The operations, without what they carry.
-#[derive(Clone, Copy, PartialEq, Eq)]
+#[derive(Clone, Copy)]
 pub enum OperationCode {
     /// 1.
     InitNew,
@@ -52,7 +52,7 @@ pub enum OperationCode {
 }
 
 /// The answers, without what they carry.
-#[derive(Clone, Copy, PartialEq, Eq)]
+#[derive(Clone, Copy)]
 pub enum AnswerCode {
     /// 0.
     Done,

@@ -1,7 +1,7 @@
 //! Where an object stands in its frame.
 
 /// The cells of an object in its frame.
-#[derive(Debug, Clone, Copy, PartialEq, Eq)]
+#[derive(Clone, Copy)]
 pub struct Area {
     /// Its left column.
     pub x: u16,

@@ -8,7 +8,7 @@ use crate::operations::Op;
 use crate::persist_states::Persist;
 
 /// The states of an object that isn't passive: of its storage and of its window.
-#[derive(Clone, Copy, PartialEq, Eq)]
+#[derive(Clone, Copy)]
 pub struct States {
     /// The state of its storage.
     pub persist: Persist,

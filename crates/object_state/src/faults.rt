@@ -5,7 +5,7 @@ ghost use Rattle.object_state.specs.Faults.{fault_name};
 use thiserror::Error;
 
 /// Why a state refuses an operation. A refused operation changes nothing.
-#[derive(Clone, Copy, Debug, PartialEq, Eq, Error)]
+#[derive(Clone, Copy, Debug, Error)]
 pub enum StateFault {
     /// The object has its storage already: it takes InitNew or Load once.
     #[error("AlreadyInitialized")]

@@ -6,7 +6,7 @@ use crate::faults::StateFault;
 use crate::operations::Op;
 
 /// How far an object is active.
-#[derive(Clone, Copy, PartialEq, Eq)]
+#[derive(Clone, Copy)]
 pub enum ObjectState {
     /// It isn't running: its content is all there is.
     Passive,

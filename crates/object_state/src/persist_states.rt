@@ -7,7 +7,7 @@ use crate::faults::StateFault;
 use crate::operations::Op;
 
 /// What an object may do with its storage.
-#[derive(Clone, Copy, PartialEq, Eq)]
+#[derive(Clone, Copy)]
 pub enum PersistState {
     /// It has none yet.
     Unset,
@@ -60,7 +60,7 @@ impl PersistState {
 
 /// The state of an object's storage, with the number of the last save that it was asked for: only
 /// that one may be completed or dropped.
-#[derive(Clone, Copy, PartialEq, Eq)]
+#[derive(Clone, Copy)]
 pub struct Persist {
     /// What the object may do with its storage.
     pub state: PersistState,

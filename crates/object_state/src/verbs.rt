@@ -7,7 +7,7 @@ use crate::object_states::ObjectState;
 use crate::operations::{CloseOption, Op};
 
 /// A verb that every object has (OLEIVERB of IOleObject::DoVerb).
-#[derive(Clone, Copy, PartialEq, Eq)]
+#[derive(Clone, Copy)]
 pub enum Verb {
     /// 0: the object's main verb, which here shows it for editing in place.
     Primary,
@@ -24,7 +24,7 @@ pub enum Verb {
 }
 
 /// An operation that a verb or a close takes, whose grant is still to be named.
-#[derive(Clone, Copy, PartialEq, Eq)]
+#[derive(Clone, Copy)]
 pub enum Step {
     /// `Op::InPlace`.
     InPlace,

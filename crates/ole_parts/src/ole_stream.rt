@@ -10,7 +10,7 @@ use crate::fault::OleFault;
 const VERSION: u32 = 0x0200_0001;
 
 /// What `\1Ole` says of an object: that it is embedded, and no link.
-#[derive(Debug, Clone, Copy, PartialEq, Eq)]
+#[derive(Clone, Copy)]
 pub struct OleStream;
 
 /// The stream as it is written: the version, and zeros.

@@ -5,7 +5,7 @@ use store_model::fault::StoreFault;
 use wire_msgs::refusal::Refusal;
 
 /// What is printed of a command.
-#[derive(Clone, Copy, PartialEq, Eq)]
+#[derive(Clone, Copy)]
 pub enum Told {
     /// This frame was made.
     Frame(u32),

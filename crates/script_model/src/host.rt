@@ -9,7 +9,7 @@ use store_model::fault::StoreFault;
 use thiserror::Error;
 
 /// Why a host doesn't do what it is asked for.
-#[derive(Debug, Clone, Copy, PartialEq, Eq, Error)]
+#[derive(Debug, Clone, Copy, Error)]
 pub enum HostFault {
     /// The server, or the link to it, failed.
     #[error("the server or the link to it failed")]

@@ -1,9 +1,9 @@
 -- A file that denotes a tree is met entry by entry, and none of these is refused.
-use Rattle.std.proofs.Common.{◌≡◌, ◌≢◌, ◌<◌, ◌≤◌, ◌+◌, ◌-◌, ◌*◌, ◌/◌, ◌++◌, ◌⊎◌, ◌↔◌, ◌∙◌, inl, inr, ℕ, zero, suc, Bool, true, false, if◌then◌else◌, List, [], ◌∷◌, Result, Ok, Err, IfErr, length, drop, get_or, replicate, take, slice_index, refl, sym, ap, subst, arith, nat_lt, get_or-set_other}
+use Rattle.std.proofs.Common.{◌≡◌, ◌≢◌, ◌<◌, ◌≤◌, ◌+◌, ◌-◌, ◌*◌, ◌/◌, ◌++◌, ◌⊎◌, ◌∙◌, inl, inr, ℕ, zero, suc, Bool, true, false, if◌then◌else◌, List, [], ◌∷◌, Result, Ok, Err, IfErr, length, drop, get_or, replicate, take, slice_index, refl, sym, ap, subst, arith, nat_lt, get_or-set_other}
 use Rattle.std.specs.Result.{IsErrAnd}
-use Rattle.std.proofs.lemmas.Bool.{cases_eq, cases_lt}
+use Rattle.std.proofs.lemmas.Bool.{cases_lt}
 use Rattle.std.proofs.lemmas.List.{drop_all, drop_more, get_or-replicate, get_or_default}
-use Rattle.std.proofs.lemmas.List.Elements.{All-append, All-contains, All-cons, All-nil, Contains-append_left, Contains-append_right}
+use Rattle.std.proofs.lemmas.List.Elements.{All-append, All-cons, All-nil, Contains-append_left, Contains-append_right}
 use Rattle.std.specs.List.{All, Contains}
 use Rattle.cfb_header.specs.Bytes.{block}
 use Rattle.cfb_chain.specs.Fat.{set_all}
@@ -13,10 +13,10 @@ use Rattle.cfb_names.specs.Names.{IsName}
 use Rattle.cfb_names.specs.declared.fault.DirFault.{DirFault}
 use Rattle.cfb_names.specs.declared.fault.DirFault.TheVariants as directory
 use Rattle.cfb_chain.specs.Chain.{AreDistinct}
-use Rattle.cfb_header.specs.Bytes.{joined, sector}
+use Rattle.cfb_header.specs.Bytes.{sector}
 use Rattle.cfb_chain.proofs.Blocks.{length_block, length_joined}
 use Rattle.cfb_chain.proofs.Marks.{distinct_apart, distinct_left, distinct_right, distinct_tail}
-use Rattle.cfb_directory.specs.Entries.{AreFree, AreLinked, EntriesValue, IsFree, IsKindOf, IsNamed, MayRefuseChildren, MayRefuseEntry, MayRefuseLoad, around, child, entry_at, kind, kind_number, left, marked, nobody, right, root_name, size_of}
+use Rattle.cfb_directory.specs.Entries.{AreFree, AreLinked, EntriesValue, IsKindOf, IsNamed, MayRefuseChildren, MayRefuseEntry, MayRefuseLoad, around, child, entry_at, kind, kind_number, left, marked, nobody, right, root_name, size_of}
 use Rattle.directory_model.specs.declared.entries.EntryKind.{EntryKind}
 use Rattle.directory_model.specs.declared.entries.EntryKind.TheVariants as kinds
 use Rattle.cfb_directory.proofs.Marked.{children_kept, entry_kept}
@@ -24,7 +24,7 @@ use Rattle.cfb_directory.proofs.Marks.{set_all-else}
 use Rattle.cfb_directory.proofs.Reading.{is_name-root}
 use Rattle.storage_tree.specs.Tree.{Tree, Children, tree, none, stream, storage}
 use Rattle.storage_tree.specs.Whole.{AreTrees, IsTree}
-use Rattle.file_model.specs.Denotes.{AreChildren, Holds, HoldsEach, Layout, Used, both, directory_of, entry, root_of, taken, within}
+use Rattle.file_model.specs.Denotes.{Holds, HoldsEach, Layout, Used, both, directory_of, entry, taken, within}
 use Rattle.file_model.proofs.Lists.{Contains-behind, Contains-cons_cases, Contains-front}
 use Rattle.file_model.proofs.Unique.{linked_unique}
 use Rattle.sector_maps.specs.Faults.{of_chain_fault, of_directory_fault}

@@ -1,7 +1,7 @@
 -- The entries of a storage, painted one after another.
 use Rattle.std.proofs.Common.{◌≡◌, ◌<◌, ◌+◌, ◌++◌, ◌⊎◌, ◌↔◌, ◌∙◌, inl, inr, ℕ, Bool, true, false, cond, List, [], ◌∷◌, length, get_or, nat_eq, refl, sym, ap, subst, arith}
 use Rattle.std.specs.List.{Contains}
-use Rattle.cfb_directory.specs.Entries.{AreLinked, EntriesValue, child, entry_at, first_of, kind, kind_number, size_of}
+use Rattle.cfb_directory.specs.Entries.{AreLinked, child, entry_at, first_of, kind, kind_number, size_of}
 use Rattle.directory_model.specs.declared.entries.EntryKind.{EntryKind}
 use Rattle.directory_model.specs.declared.entries.EntryKind.TheVariants as kinds
 use Rattle.cfb_chain.specs.Chain.{IsChainOf}

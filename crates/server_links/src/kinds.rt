@@ -14,7 +14,7 @@ use std::alloc::{AllocError, Global};
 use storage_tree::class_id::ClassId;
 
 /// The kinds of objects.
-#[derive(Clone, Copy, PartialEq, Eq)]
+#[derive(Clone, Copy)]
 pub(crate) enum Kind {
     Note,
     Table,

@@ -17,7 +17,7 @@ use std::io::{Read, Write};
 pub const MOST_LINKS: u32 = 100;
 
 /// Why a server serves no other link.
-#[derive(Clone, Copy, PartialEq, Eq)]
+#[derive(Clone, Copy)]
 pub enum Stop {
     /// None came.
     NoLink,

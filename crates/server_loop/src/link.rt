@@ -12,7 +12,7 @@ use std::io::{Read, Write};
 use storage_tree::class_id::ClassId;
 
 /// Why a link is left for now.
-#[derive(Clone, Copy, PartialEq, Eq)]
+#[derive(Clone, Copy)]
 pub enum Pause {
     /// A call makes an activation, and needs an object of this class. Where none is offered, it is passed over.
     Wants(ClassId),

@@ -39,7 +39,7 @@ pub const MOST_READS: u32 = 1_000_000;
 const PIECE: usize = 8192;
 
 /// Why a link is over.
-#[derive(Clone, Copy, PartialEq, Eq)]
+#[derive(Clone, Copy)]
 pub enum End {
     /// The bytes behind the frames that were taken show this fault.
     Faulty(WireFault),
@@ -56,7 +56,7 @@ pub enum End {
 }
 
 /// How far a link came.
-#[derive(Clone, Copy, PartialEq, Eq)]
+#[derive(Clone, Copy)]
 pub enum Advance {
     /// A message was taken.
     Met,

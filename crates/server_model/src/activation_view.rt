@@ -4,7 +4,7 @@ use object_state::States;
 use storage_tree::class_id::ClassId;
 
 /// What is seen of an activation from outside, but for its content.
-#[derive(Clone, Copy, PartialEq, Eq)]
+#[derive(Clone, Copy)]
 pub struct ActivationView {
     /// The class of its object.
     pub class: ClassId,

@@ -1,7 +1,7 @@
 //! Who has a frame's menus and border.
 
 /// An activation that has a grant.
-#[derive(Clone, Copy, PartialEq, Eq)]
+#[derive(Clone, Copy)]
 pub struct Hold {
     /// The activation.
     pub act: u32,

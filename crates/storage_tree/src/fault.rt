@@ -4,7 +4,7 @@ use std::alloc::{AllocError, AllocFailed};
 use thiserror::Error;
 
 /// Why a call on a tree is refused.
-#[derive(Debug, Clone, Copy, PartialEq, Eq, Error)]
+#[derive(Debug, Clone, Copy, Error)]
 pub enum TreeFault {
     /// Nothing stands at the path.
     #[error("nothing stands at the path")]
@@ -68,7 +68,7 @@ impl<T: Drop> From<AllocFailed<T>> for TreeFault {
 }
 
 /// Why a stream isn't put to the end of a list of streams.
-#[derive(Debug, Clone, Copy, PartialEq, Eq, Error)]
+#[derive(Debug, Clone, Copy, Error)]
 pub enum StreamsFault {
     /// Its name isn't greater than the last one.
     #[error("a stream's name is out of order")]

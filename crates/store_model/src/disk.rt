@@ -8,7 +8,7 @@ use crate::area::Area;
 use thiserror::Error;
 
 /// A call of a disk that failed, and that the disk counted.
-#[derive(Debug, Clone, Copy, PartialEq, Eq, Error)]
+#[derive(Debug, Clone, Copy, Error)]
 #[error("a call of the disk failed")]
 pub struct DiskFailure;
 

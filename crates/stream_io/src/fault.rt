@@ -7,7 +7,7 @@ use storage_tree::fault::TreeFault;
 use thiserror::Error;
 
 /// Why a file isn't read.
-#[derive(Debug, Clone, Copy, PartialEq, Eq, Error)]
+#[derive(Debug, Clone, Copy, Error)]
 pub enum ReadFault {
     /// The header or a chain of sectors is at fault.
     #[error("{0}")]
@@ -21,7 +21,7 @@ pub enum ReadFault {
 }
 
 /// Why the stream at a path of a file isn't read.
-#[derive(Debug, Clone, Copy, PartialEq, Eq, Error)]
+#[derive(Debug, Clone, Copy, Error)]
 pub enum StreamFault {
     /// The file isn't read.
     #[error("{0}")]

@@ -4,7 +4,7 @@ use std::alloc::AllocError;
 use thiserror::Error;
 
 /// Why blocks aren't copied.
-#[derive(Debug, Clone, Copy, PartialEq, Eq, Error)]
+#[derive(Debug, Clone, Copy, Error)]
 pub enum CopyFault {
     /// A read fails.
     #[error("reading fails")]
@@ -18,7 +18,7 @@ pub enum CopyFault {
 }
 
 /// Why blocks aren't read.
-#[derive(Debug, Clone, Copy, PartialEq, Eq, Error)]
+#[derive(Debug, Clone, Copy, Error)]
 pub enum SeekFault {
     /// A read fails.
     #[error("reading fails")]

@@ -8,7 +8,7 @@ use std::io::{ErrorKind, Read};
 use thiserror::Error;
 
 /// Why an input isn't read.
-#[derive(Debug, Clone, Copy, PartialEq, Eq, Error)]
+#[derive(Debug, Clone, Copy, Error)]
 pub enum InputFault {
     /// A read fails.
     #[error("reading fails")]

@@ -10,7 +10,7 @@ use text_words::words::Pieces;
 use thiserror::Error;
 
 /// Why the lines of a text aren't read.
-#[derive(Debug, Clone, Copy, PartialEq, Eq, Error)]
+#[derive(Debug, Clone, Copy, Error)]
 pub enum SyntaxFault {
     /// A line is outside the grammar.
     #[error("the line is outside the grammar")]

@@ -6,7 +6,7 @@ use texts::lines::SyntaxFault;
 use thiserror::Error;
 
 /// Why a line of a description is refused.
-#[derive(Debug, Clone, Copy, PartialEq, Eq, Error)]
+#[derive(Debug, Clone, Copy, Error)]
 pub enum LineFault {
     /// The line is outside the grammar.
     #[error("the line is outside the grammar")]

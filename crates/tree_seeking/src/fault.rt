@@ -10,7 +10,7 @@ use texts::input::InputFault;
 use thiserror::Error;
 
 /// Why the tree of a file that can be sought in isn't read.
-#[derive(Debug, Clone, Copy, PartialEq, Eq, Error)]
+#[derive(Debug, Clone, Copy, Error)]
 pub enum SourceFault {
     /// The file isn't read.
     #[error("{0}")]

@@ -35,7 +35,7 @@ pub enum Event {
 }
 
 /// Why a run stops before an event.
-#[derive(Clone, Copy, PartialEq, Eq)]
+#[derive(Clone, Copy)]
 pub enum Stop {
     /// The event can't happen in this world.
     NotEnabled,

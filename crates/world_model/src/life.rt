@@ -1,7 +1,7 @@
 //! The lives of servers.
 
 /// How far a server's life is.
-#[derive(Clone, Copy, PartialEq, Eq)]
+#[derive(Clone, Copy)]
 pub enum Life {
     /// It runs.
     Running,

@@ -15,7 +15,7 @@ use wire_msgs::message::Message;
 use wire_msgs::refusal::Refusal;
 
 /// The state of an activation, as its server sees it.
-#[derive(Clone, Copy, PartialEq, Eq)]
+#[derive(Clone, Copy)]
 pub struct View {
     /// Whether it is open.
     pub opened: bool,
@@ -36,7 +36,7 @@ pub struct Sent {
 }
 
 /// A content that the container took as an object's work content, and what its record held of the object just before.
-#[derive(Clone, Copy, PartialEq, Eq)]
+#[derive(Clone, Copy)]
 pub struct Taken {
     /// The place of the message that brought it, in the list of messages sent; none where it was forged.
     pub place: Option<u32>,

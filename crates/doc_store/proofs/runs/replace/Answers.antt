@@ -9,7 +9,7 @@ use Rattle.doc_store.specs.Steps.{IsGating, IsInstalling, IsOpenWith, IsStaging}
 use Rattle.doc_store.specs.declared.found.Change.TheVariants.{Blocks}
 use Rattle.store_model.proofs.Opening.{opened, opened_changed, opened_stands}
 use Rattle.doc_store.proofs.Committed.{gate_opens, opened_with, staging}
-use Rattle.doc_store.proofs.Again.{both_on_ok}
+use Rattle.doc_store.proofs.Again.{both_ok}
 use Rattle.doc_store.proofs.Closed.{gate_shut}
 use Rattle.doc_store.proofs.Gating.{gate_closes}
 use Rattle.doc_store.proofs.Moments.{then_leaves, weaker}
@@ -99,8 +99,8 @@ returns-clause-journal g c model =
 pub returns-clause-rests : goal.returns-clause-rests
 returns-clause-rests g c model =
     let reads = g.D.Disk.reads in
-    both_on_ok c.set_gate-2.result
-    (λ written durable. record { durable = durable; closed = subst IsClosed (sym (ap (λ (i : Image). i.journal) written)) (gate_shut (reads c.carry_out.new.disk).journal) })
+    both_ok c.set_gate-2.result _ _ _
+    (λ x written durable. record { durable = durable; closed = subst IsClosed (sym (ap (λ (i : Image). i.journal) written)) (gate_shut (reads c.carry_out.new.disk).journal) })
     (c.set_gate-2.ensures.written model) (c.set_gate-2.ensures.durable model)
 
 pub returns-clause-stays : goal.returns-clause-stays

@@ -1,4 +1,4 @@
-use Rattle.std.proofs.Common.{◌≡◌, ◌∙◌, ◌++◌, ◌∷◌, [], List, ap, sym}
+use Rattle.std.proofs.Common.{◌++◌, List, ap, sym}
 use Rattle.std.specs.Vec.Iter.{into_iter_items}
 use Rattle.container_model.specs.declared.record.Object.{Object}
 use Rattle.container_checks.proofs.Numbers.{numbers, one_more, still}
