@@ -19,7 +19,9 @@ fn answer<R: Runtime + AllocGlobal, F: Fn(&str) -> ExitCode>(
     rt: &R,
     words: &[String],
     make: F,
-) -> Result<ExitCode, AllocError> {
+) -> Result<ExitCode, AllocError>
+    requires { F.IsAlwaysCallable make }
+{
     match making_line(rt.alloc())?.try_get_matches_from(words) {
         Ok(matches) => match file_asked_for(&matches) {
             Some(path) => Ok(make(path)),
@@ -29,20 +31,18 @@ fn answer<R: Runtime + AllocGlobal, F: Fn(&str) -> ExitCode>(
     }
 }
 
-fn start<R: Runtime + AllocGlobal, F: Fn(&str) -> ExitCode>(
-    rt: &R,
-    make: F,
-) -> io::Result<ExitCode> {
+fn start<R: Runtime + AllocGlobal, F: Fn(&str) -> ExitCode>(rt: &R, make: F) -> io::Result<ExitCode>
+    requires { F.IsAlwaysCallable make }
+{
     let words: Vec<String> = env::args(rt)?.collect(rt.alloc())?;
     Ok(answer(rt, words.as_slice(), make)?)
 }
 
 /// Makes the file of the path that the program's command line asks for, or tells what is wrong with the line, or prints the
 /// help or the version that it asks for.
-pub fn start_making<R: Runtime + AllocGlobal, F: Fn(&str) -> ExitCode>(
-    rt: &R,
-    make: F,
-) -> ExitCode {
+pub fn start_making<R: Runtime + AllocGlobal, F: Fn(&str) -> ExitCode>(rt: &R, make: F) -> ExitCode
+    requires { F.IsAlwaysCallable make }
+{
     match start(rt, make) {
         Ok(code) => code,
         Err(error) => refuse_start(rt, &error),
