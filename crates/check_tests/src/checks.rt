@@ -42,10 +42,15 @@ fn writes_by_places(alloc: Global, file: &[u8], is_sound: bool, want: &[u8]) -> 
         && text.as_slice() == want
 }
 
+/// Whether a link leads from a sector, or from where a chain begins, to a number.
+fn leads(link: Link, from: Option<u32>, to: u32) -> bool {
+    link.from == from && link.to == to
+}
+
 /// Whether the directory begins outside the file.
 fn begins_outside(alloc: Global, file: &[u8], to: u32) -> bool {
     match find_place(alloc, file, ChainFault::OutOfFile) {
-        Ok(Some(FaultPlace::Directory(link))) => link == Link { from: None, to },
+        Ok(Some(FaultPlace::Directory(link))) => leads(link, None, to),
         _ => false,
     }
 }
@@ -54,13 +59,7 @@ fn begins_outside(alloc: Global, file: &[u8], to: u32) -> bool {
 fn comes_back(alloc: Global, file: &[u8], n: u32) -> bool {
     match find_stream(alloc, file, ChainFault::Cycle) {
         Ok(Some(place)) => {
-            place.is_mini
-                && end_of(&place.way) == 1
-                && place.link
-                    == Link {
-                        from: Some(n),
-                        to: n,
-                    }
+            place.is_mini && end_of(&place.way) == 1 && leads(place.link, Some(n), n)
         }
         _ => false,
     }
