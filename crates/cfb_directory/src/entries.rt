@@ -362,7 +362,7 @@ impl<'a> Entries<'a> {
     /// What an entry says. The root is named `Root Entry`, whatever stands in the file.
     ///
     /// Refused: `BadEntry` for an id outside the directory, for an entry 0 that isn't a root, for another entry that is
-    /// neither a storage nor a stream, and for an odd length of its name; what `Name::new` refuses for its name, whose
+    /// neither a storage nor a stream, and for an odd length of its name; what `named` refuses for its name, whose
     /// length with the closing zero is from 4 to 64 bytes (MS-CFB 2.6.1).
     pub fn entry(&self, id: u32) -> Result<Entry, DirFault>
         ensures read { IfOk result (IsEntry self.now.directory id) }

@@ -10,7 +10,7 @@ ghost use Rattle.std.specs.Prelude.{◌≡◌, ◌<◌, ◌≤◌, IfErr, IfOk, 
 use crate::entries::NO_STREAM;
 use cfb_names::fault::DirFault;
 use cfb_names::key::Key;
-use cfb_names::name::Name;
+use cfb_names::name::{Name, key};
 pub use directory_model::links::Links;
 use std::alloc::{AllocError, Global};
 
@@ -56,7 +56,7 @@ fn keyed(alloc: Global, names: &[Name]) -> Result<Vec<(Key, u32)>, DirFault>
 {
     let mut siblings = Vec::new(alloc);
     for (k, name) in names.iter().enumerate() {
-        siblings.push((name.key(), k as u32))?;
+        siblings.push((key(name), k as u32))?;
     }
     Ok(siblings)
 }

@@ -79,31 +79,40 @@ pub fn keys_agree()
     ensures { KeysAgree }
 {}
 
-impl Name {
-    /// The name of these characters.
-    ///
-    /// Refused, in this order: `NameEmpty`; `NameTooLong` for more than 31; `NameNotAscii` for one past 127;
-    /// `NameForbidden` for a zero or one of `/ \ : !` (MS-CFB 2.6.1).
-    pub fn new(bytes: &[u8]) -> Result<Name, DirFault>
-        ensures { result ≡ name_read bytes.now }
-    {
-        if bytes.is_empty() {
-            return Err(DirFault::NameEmpty);
-        }
-        if bytes.len() > LONGEST {
-            return Err(DirFault::NameTooLong);
-        }
-        if is_past_ascii(bytes) {
-            return Err(DirFault::NameNotAscii);
-        }
-        if has_forbidden(bytes) {
-            return Err(DirFault::NameForbidden);
-        }
-        Ok(Name {
-            units: spelled(bytes),
-        })
+// A type is read with all of its methods by whoever holds a value of it. So what leads from names to faults and keys, which
+// few need who hold names, are no methods.
+/// The name of these characters.
+///
+/// Refused, in this order: `NameEmpty`; `NameTooLong` for more than 31; `NameNotAscii` for one past 127;
+/// `NameForbidden` for a zero or one of `/ \ : !` (MS-CFB 2.6.1).
+pub fn named(bytes: &[u8]) -> Result<Name, DirFault>
+    ensures { result ≡ name_read bytes.now }
+{
+    if bytes.is_empty() {
+        return Err(DirFault::NameEmpty);
     }
+    if bytes.len() > LONGEST {
+        return Err(DirFault::NameTooLong);
+    }
+    if is_past_ascii(bytes) {
+        return Err(DirFault::NameNotAscii);
+    }
+    if has_forbidden(bytes) {
+        return Err(DirFault::NameForbidden);
+    }
+    Ok(Name {
+        units: spelled(bytes),
+    })
+}
 
+/// What children are found and ordered by: the length, the characters in upper case, and zeros.
+pub fn key(name: &Name) -> Key
+    ensures { result ≡ key name.now }
+{
+    Key::new(upper(&name.units))
+}
+
+impl Name {
     /// The name that is kept so: its length, its characters, and zeros. Nothing is tested.
     pub fn from_units(units: [u8; 32]) -> Name
         requires { IsHeld units }
@@ -144,18 +153,11 @@ impl Name {
         &self.units[1..=len]
     }
 
-    /// What children are found and ordered by: the length, the characters in upper case, and zeros.
-    pub fn key(&self) -> Key
-        ensures { result ≡ key self.now }
-    {
-        Key::new(upper(&self.units))
-    }
-
     /// The order of names: the shorter one is less, and of two that are equally long the one whose characters in upper
     /// case are less (MS-CFB 2.6.4).
     pub fn cmp(&self, other: &Name) -> Ordering
         ensures { result ≡ name_cmp self.now other.now }
     {
-        self.key().cmp(&other.key())
+        key(self).cmp(&key(other))
     }
 }

@@ -11,8 +11,8 @@ use container_model::record::{Frame, Link, Object, Phase};
 use embed_core::classes;
 use grant_core::{Claim, GrantState};
 use object_parts::area::Area;
-use storage_tree::bytes::Bytes;
-use storage_tree::class_id::ClassId;
+use stored_values::bytes::Bytes;
+use stored_values::class_id::ClassId;
 
 /// How many numbers an activation that gets operations has left at least.
 pub const MARGIN: usize = 8;

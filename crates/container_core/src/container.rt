@@ -14,7 +14,7 @@ use container_state::state::State;
 use container_steps::steady_laws::steady_after;
 use std::alloc::{AllocError, Global};
 use std::marker::Model;
-use storage_tree::bytes::Bytes;
+use stored_values::bytes::Bytes;
 use wire_msgs::items::Items;
 use wire_msgs::message::Message;
 

@@ -19,7 +19,7 @@ use container_state::state::State;
 use document_model::object::DocObject;
 use ole_streams::doc::Doc;
 use std::alloc::{AllocError, Global};
-use storage_tree::bytes::Bytes;
+use stored_values::bytes::Bytes;
 use wire_msgs::items::Items;
 
 // How many frames there may be.

@@ -6,8 +6,8 @@ use Rattle.std.proofs.lemmas.Bool.{leb-true}
 use Rattle.cfb_names.specs.Names.{key, key_cmp}
 use Rattle.storage_tree.specs.Tree.{Tree, Children, tree, none, stream, storage}
 use Rattle.storage_tree.specs.Change.{Seen, bytes, inner, child, find, place}
-use Rattle.storage_tree.specs.Streams.{AreInOrder}
-use Rattle.storage_tree.specs.declared.streams.NamedStream.{NamedStream}
+use Rattle.stored_streams.specs.Streams.{AreInOrder}
+use Rattle.stored_streams.specs.declared.streams.NamedStream.{NamedStream}
 use Rattle.storage_tree.proofs.Entries.{place-child}
 use Rattle.object_parts.specs.Limits.{OLE, COMP_OBJ, OLE_PRES}
 use Rattle.ole_parts.specs.CompObjs.{comp_obj_bytes}

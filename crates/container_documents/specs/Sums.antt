@@ -1,8 +1,8 @@
 -- What a document needs in a file, reckoned object by object. No reader has to believe it: it is shown to be what the
 -- document's tree needs.
 use Rattle.std.specs.Prelude.{◌≡◌, ◌+◌, ℕ, List, [], ◌∷◌, map, length, zero, suc, nat_lt, if◌then◌else◌}
-use Rattle.storage_tree.specs.Streams.{AreInOrder}
-use Rattle.storage_tree.specs.declared.streams.NamedStream.{NamedStream}
+use Rattle.stored_streams.specs.Streams.{AreInOrder}
+use Rattle.stored_streams.specs.declared.streams.NamedStream.{NamedStream}
 use Rattle.file_model.specs.Limits.{CUTOFF}
 use Rattle.file_model.specs.Need.{pieces}
 use Rattle.ole_parts.specs.CompObjs.{CLASS_BYTES, comp_obj_bytes}

@@ -13,7 +13,7 @@ use container_checks::contents::kept;
 use container_model::record::Object;
 use file_model::limit::{CUTOFF, MANY, MOST_FAT_SECTORS};
 use file_model::need::fat_sectors;
-use storage_tree::streams::NamedStream;
+use stored_streams::streams::NamedStream;
 
 /// How many bytes `\1Ole` has (MS-OLEDS 2.3.3).
 const OLE_SIZE: usize = 20;

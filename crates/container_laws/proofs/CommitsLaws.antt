@@ -8,7 +8,7 @@ use Rattle.wire_msgs.specs.Found.{nth}
 use Rattle.wire_msgs.specs.declared.operation.Operation.{Operation}
 use Rattle.object_state.specs.declared.persist_states.PersistState.{PersistState}
 use Rattle.object_state.specs.declared.persist_states.PersistState.TheVariants.{HandsOff}
-use Rattle.storage_tree.specs.declared.stored.Stored.{Stored}
+use Rattle.stored_streams.specs.declared.stored.Stored.{Stored}
 use Rattle.file_model.specs.Refusals.{writable}
 use Rattle.file_model.specs.declared.fault.WriteFault.{WriteFault}
 use Rattle.container_model.specs.declared.record.Link.{Link}

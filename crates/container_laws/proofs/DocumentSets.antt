@@ -4,8 +4,8 @@ use Rattle.std.proofs.Math.Decide.{ℕ_discrete}
 use mathlib.Core.HLevel.{Discrete, hedberg}
 use mathlib.Core.List.{List-discrete}
 use Rattle.object_parts.specs.declared.area.Area.{Area}
-use Rattle.storage_tree.specs.declared.stored.Stored.{Stored}
-use Rattle.storage_tree.specs.declared.streams.NamedStream.{NamedStream}
+use Rattle.stored_streams.specs.declared.stored.Stored.{Stored}
+use Rattle.stored_streams.specs.declared.streams.NamedStream.{NamedStream}
 use Rattle.document_model.specs.declared.object.DocObject.{DocObject}
 
 text_decided : Discrete (List ℕ)

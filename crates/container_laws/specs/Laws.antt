@@ -10,7 +10,7 @@ use Rattle.grant_core.specs.declared.grant_states.Claim.{Claim}
 use Rattle.grant_core.specs.Grants.{waiting, who}
 use Rattle.grant_core.specs.Laws.{IsRevoking}
 use Rattle.object_parts.specs.Limits.{is_within}
-use Rattle.storage_tree.specs.declared.stored.Stored.{Stored}
+use Rattle.stored_streams.specs.declared.stored.Stored.{Stored}
 use Rattle.container_model.specs.declared.record.Link.{Link}
 use Rattle.container_model.specs.declared.record.Object.{Object}
 use Rattle.container_model.specs.declared.record.Frame.{Frame}

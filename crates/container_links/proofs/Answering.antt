@@ -10,7 +10,7 @@ use Rattle.object_state.specs.Both as both
 use Rattle.object_state.specs.declared.operations.Op.{Op}
 use Rattle.object_state.specs.declared.operations.CloseOption.TheVariants.{SaveIfDirty, NoSave}
 use Rattle.object_state.specs.declared.menu_texts.Menus.{Menus}
-use Rattle.storage_tree.specs.declared.stored.Stored.{Stored}
+use Rattle.stored_streams.specs.declared.stored.Stored.{Stored}
 use Rattle.container_model.specs.declared.record.Link.{Link}
 use Rattle.container_model.specs.declared.fault.ContainerFault.{ContainerFault}
 use Rattle.container_model.specs.declared.fault.ContainerFault.TheVariants.{Stale, BadAnswer}

@@ -12,7 +12,7 @@ use Rattle.object_state.specs.declared.faults.StateFault.{StateFault}
 use Rattle.object_state.specs.declared.menu_texts.Menus.{Menus}
 use Rattle.object_state.specs.declared.operations.Op.{Op}
 use Rattle.object_parts.specs.Limits.{is_within}
-use Rattle.storage_tree.specs.declared.stored.Stored.{Stored}
+use Rattle.stored_streams.specs.declared.stored.Stored.{Stored}
 use Rattle.container_model.specs.declared.fault.ContainerFault.{ContainerFault}
 use Rattle.container_model.specs.declared.fault.ContainerFault.TheVariants.{BadAnswer, Stale}
 use Rattle.container_model.specs.declared.grants.Tells.{Tells}

@@ -13,7 +13,7 @@ use Rattle.object_state.specs.declared.faults.StateFault.{StateFault}
 use Rattle.object_state.specs.declared.menu_texts.Menus.{Menus}
 use Rattle.object_state.specs.declared.operations.Op.{Op}
 use Rattle.object_state.specs.declared.operations.CloseOption.TheVariants.{SaveIfDirty, NoSave}
-use Rattle.storage_tree.specs.declared.stored.Stored.{Stored}
+use Rattle.stored_streams.specs.declared.stored.Stored.{Stored}
 use Rattle.container_model.specs.declared.fault.ContainerFault.TheVariants.{BadAnswer}
 use Rattle.container_model.specs.declared.grants.Tells.TheVariants as tells
 use Rattle.container_model.specs.declared.record.Link.{Link}

@@ -17,7 +17,7 @@ use container_model::answer::Action;
 use container_model::record::{Frame, Link, Object, Phase};
 use object_parts::limits::is_within;
 use std::alloc::{AllocError, Global};
-use storage_tree::stored::Stored;
+use stored_streams::stored::Stored;
 use wire_msgs::answer::Answer;
 use wire_msgs::items::Items;
 use wire_msgs::message::Message;

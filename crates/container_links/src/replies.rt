@@ -21,7 +21,7 @@ use grant_core::Tools;
 use object_parts::limits::is_within;
 use object_state::{Op, States};
 use std::alloc::{AllocError, Global};
-use storage_tree::stored::Stored;
+use stored_streams::stored::Stored;
 use wire_msgs::answer::Answer;
 use wire_msgs::message::Message;
 use wire_msgs::operation::Operation;

@@ -8,8 +8,8 @@ use Rattle.wire_msgs.specs.declared.operation.Operation.TheVariants.{InitNew, Lo
 use Rattle.object_state.specs.Both.{loaded}
 use Rattle.grant_core.specs.Frames.{fresh}
 use Rattle.grant_core.specs.declared.grant_states.GrantState.{GrantState}
-use Rattle.storage_tree.specs.declared.stored.Stored.{Stored}
-use Rattle.storage_tree.specs.declared.streams.NamedStream.{NamedStream}
+use Rattle.stored_streams.specs.declared.stored.Stored.{Stored}
+use Rattle.stored_streams.specs.declared.streams.NamedStream.{NamedStream}
 use Rattle.embed_core.specs.Kinds.{Kind, Note, Table, Drawing, class_of}
 use Rattle.object_parts.specs.declared.area.Area.{Area}
 use Rattle.container_model.specs.declared.record.Link.{Link}

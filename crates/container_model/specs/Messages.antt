@@ -16,7 +16,7 @@ use Rattle.object_state.specs.declared.operations.CloseOption.TheVariants.{SaveI
 use Rattle.object_parts.specs.Limits.{is_within}
 use Rattle.object_state.specs.declared.both_states.States.{States}
 use Rattle.object_state.specs.declared.faults.StateFault.{StateFault}
-use Rattle.storage_tree.specs.declared.stored.Stored.{Stored}
+use Rattle.stored_streams.specs.declared.stored.Stored.{Stored}
 use Rattle.grant_core.specs.declared.grant_states.GrantState.{GrantState}
 use Rattle.grant_core.specs.declared.grant_states.GrantState.TheVariants.{Held}
 use Rattle.grant_core.specs.Grants as grant

@@ -5,9 +5,9 @@ ghost use Rattle.container_model.specs.Record.{acts, quiet_answer};
 
 use object_parts::area::Area;
 use std::alloc::Global;
-use storage_tree::bytes::Bytes;
-use storage_tree::class_id::ClassId;
-use storage_tree::stored::Stored;
+use stored_streams::stored::Stored;
+use stored_values::bytes::Bytes;
+use stored_values::class_id::ClassId;
 use wire_msgs::items::Items;
 use wire_msgs::message::Message;
 use wire_msgs::refusal::Refusal;

@@ -2,7 +2,7 @@
 
 use object_parts::area::Area;
 use object_state::CloseOption;
-use storage_tree::bytes::Bytes;
+use stored_values::bytes::Bytes;
 
 /// The three kinds of objects.
 #[derive(Clone, Copy)]

@@ -3,9 +3,9 @@
 use grant_core::FrameUi;
 use object_parts::area::Area;
 use object_state::States;
-use storage_tree::bytes::Bytes;
-use storage_tree::class_id::ClassId;
-use storage_tree::stored::Stored;
+use stored_streams::stored::Stored;
+use stored_values::bytes::Bytes;
+use stored_values::class_id::ClassId;
 use wire_msgs::items::Items;
 use wire_msgs::operation::Operation;
 

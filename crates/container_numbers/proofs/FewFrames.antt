@@ -9,7 +9,7 @@ use Rattle.wire_msgs.specs.declared.message.Message.TheVariants.{Call, Reply, Wr
 use Rattle.wire_msgs.specs.declared.operation.Operation.TheVariants.{UiDeactivate}
 use Rattle.object_parts.specs.Limits.{is_within}
 use Rattle.object_state.specs.declared.verbs.Step.{Step}
-use Rattle.storage_tree.specs.declared.stored.Stored.{Stored}
+use Rattle.stored_streams.specs.declared.stored.Stored.{Stored}
 use Rattle.grant_core.specs.Frames.{after}
 use Rattle.grant_core.specs.Grants as grant
 use Rattle.grant_core.specs.Grants.{Event}

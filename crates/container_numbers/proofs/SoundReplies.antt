@@ -9,7 +9,7 @@ use Rattle.object_state.specs.Both as both
 use Rattle.object_state.specs.declared.operations.CloseOption.TheVariants.{SaveIfDirty, NoSave}
 use Rattle.object_state.specs.declared.both_states.States.{States}
 use Rattle.object_state.specs.declared.faults.StateFault.{StateFault}
-use Rattle.storage_tree.specs.declared.stored.Stored.{Stored}
+use Rattle.stored_streams.specs.declared.stored.Stored.{Stored}
 use Rattle.container_model.specs.declared.fault.ContainerFault.{ContainerFault}
 use Rattle.container_model.specs.declared.fault.ContainerFault.TheVariants.{BadAnswer, Stale}
 use Rattle.container_model.specs.declared.grants.Tells.{Tells}

@@ -19,7 +19,7 @@ use Rattle.container_numbers.proofs.SoundRooms.{IsSaved, Owing, Within, all_of, 
 use Rattle.container_steady.specs.Steady.{IsUnsettled}
 use Rattle.container_steady.proofs.Settling.{IsCommitOf, done_commits, is_dropped, is_failed, kept_commits}
 use Rattle.grant_core.specs.Frames.{Ui}
-use Rattle.storage_tree.specs.declared.stored.Stored.{Stored}
+use Rattle.stored_streams.specs.declared.stored.Stored.{Stored}
 use Rattle.std.specs.Prelude.{IsOk}
 use Rattle.wire_msgs.specs.declared.operation.Operation.TheVariants.{SaveDropped}
 

@@ -1,6 +1,6 @@
 -- What a reply makes of an object, from what it makes of its link.
 use Rattle.std.proofs.Common.{◌≡◌, Bool, List, Option, Result, Ok, Err, is_some, refl, ap, ◌∙◌}
-use Rattle.storage_tree.specs.declared.stored.Stored.{Stored}
+use Rattle.stored_streams.specs.declared.stored.Stored.{Stored}
 use Rattle.wire_msgs.specs.declared.refusal.Refusal.{Refusal}
 use Rattle.container_model.specs.declared.answer.Action.{Action}
 use Rattle.container_model.specs.declared.fault.ContainerFault.{ContainerFault}

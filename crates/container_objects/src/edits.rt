@@ -12,7 +12,7 @@ use container_model::answer::Action;
 use container_model::fault::ContainerFault;
 use container_model::record::{Link, Object};
 use std::alloc::Global;
-use storage_tree::bytes::Bytes;
+use stored_values::bytes::Bytes;
 use wire_msgs::items::Items;
 use wire_msgs::operation::Operation;
 

@@ -7,7 +7,7 @@ use container_model::record::{Frame, Object, Phase};
 use document_model::object::DocObject;
 use grant_core::FrameUi;
 use std::alloc::{AllocError, Global};
-use storage_tree::bytes::Bytes;
+use stored_values::bytes::Bytes;
 
 /// A frame of a file that is opened, under the file's name.
 pub fn opened_frame(name: Bytes, w: u16, h: u16) -> Frame

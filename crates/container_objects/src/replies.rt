@@ -13,7 +13,7 @@ use container_model::fault::ContainerFault;
 use container_model::grants::Tells;
 use container_model::record::Object;
 use std::alloc::Global;
-use storage_tree::stored::Stored;
+use stored_streams::stored::Stored;
 use wire_msgs::answer as reply;
 use wire_msgs::items::Items;
 use wire_msgs::refusal::Refusal;

@@ -10,7 +10,7 @@ use container_links::asking::{Asking, prepare};
 use container_links::settling::hands_off;
 use container_model::record::{Frame, Object, Phase};
 use std::alloc::{AllocError, Global};
-use storage_tree::bytes::Bytes;
+use stored_values::bytes::Bytes;
 use wire_msgs::operation::Operation;
 
 /// What is needed to ask the objects of a frame for their contents, for the save of number `k`.

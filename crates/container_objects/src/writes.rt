@@ -10,7 +10,7 @@ use container_links::writes::is_open_to;
 use container_model::fault::ContainerFault;
 use container_model::record::Object;
 use object_parts::limits::is_within;
-use storage_tree::stored::Stored;
+use stored_streams::stored::Stored;
 
 /// A write is taken: its content is the object's work content. It takes no memory.
 ///

@@ -11,7 +11,7 @@ use container_model::answer::Answer;
 use container_model::fault::ContainerFault;
 use container_objects::edits::edit_one;
 use std::alloc::Global;
-use storage_tree::bytes::Bytes;
+use stored_values::bytes::Bytes;
 
 impl State {
     // A running object is asked for an edit.

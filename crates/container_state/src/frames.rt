@@ -11,7 +11,7 @@ use container_model::fault::ContainerFault;
 use container_model::record::{Frame, Phase};
 use grant_core::FrameUi;
 use std::alloc::Global;
-use storage_tree::bytes::Bytes;
+use stored_values::bytes::Bytes;
 
 // How many frames there may be.
 const MOST_FRAMES: usize = 8;

@@ -18,7 +18,7 @@ use container_model::fault::ContainerFault;
 use container_objects::replies::{Told, answered, told_object};
 use container_objects::writes::write_one;
 use std::alloc::Global;
-use storage_tree::stored::Stored;
+use stored_streams::stored::Stored;
 use wire_msgs::answer as reply;
 use wire_msgs::message::Message;
 

@@ -20,7 +20,7 @@ use container_model::fault::ContainerFault;
 use container_model::record::Frame;
 use container_objects::saves::{begin_save, go_on, prepare_save};
 use std::alloc::Global;
-use storage_tree::bytes::Bytes;
+use stored_values::bytes::Bytes;
 use wire_msgs::items::Items;
 
 // Whether the objects of a frame may be asked for their contents.

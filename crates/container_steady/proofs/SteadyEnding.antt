@@ -20,7 +20,7 @@ use Rattle.object_state.specs.declared.persist_states.Persist.{Persist}
 use Rattle.object_state.specs.declared.persist_states.PersistState.{PersistState}
 use Rattle.object_state.specs.declared.persist_states.PersistState.TheVariants.{Unset, Normal, NoScribble}
 use Rattle.object_state.specs.declared.persist_states.PersistState.TheVariants as state
-use Rattle.storage_tree.specs.declared.stored.Stored.{Stored}
+use Rattle.stored_streams.specs.declared.stored.Stored.{Stored}
 use Rattle.container_model.specs.declared.record.Link.{Link}
 use Rattle.container_model.specs.declared.record.Phase.TheVariants.{Idle}
 use Rattle.container_model.specs.Messages.{has_save, is_save_pending}

@@ -6,7 +6,7 @@ use Rattle.wire_msgs.specs.Found.{find, put, nth}
 use Rattle.object_parts.specs.Limits.{is_within}
 use Rattle.object_state.specs.declared.persist_states.PersistState.{PersistState}
 use Rattle.object_state.specs.declared.persist_states.PersistState.TheVariants as state
-use Rattle.storage_tree.specs.declared.stored.Stored.{Stored}
+use Rattle.stored_streams.specs.declared.stored.Stored.{Stored}
 use Rattle.grant_core.specs.Frames.{Ui}
 use Rattle.grant_core.specs.declared.grant_states.Claim.{Claim}
 use Rattle.container_model.specs.declared.record.Link.{Link}

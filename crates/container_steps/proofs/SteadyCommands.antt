@@ -9,7 +9,7 @@ use Rattle.grant_core.specs.declared.grant_states.GrantState.{GrantState}
 use Rattle.grant_core.specs.declared.grant_states.GrantState.TheVariants.{Free, Granting, Held, Revoking}
 use Rattle.grant_core.specs.declared.grant_states.Claim.{Claim}
 use Rattle.object_state.specs.Both as both
-use Rattle.storage_tree.specs.declared.streams.NamedStream.{NamedStream}
+use Rattle.stored_streams.specs.declared.streams.NamedStream.{NamedStream}
 use Rattle.embed_core.specs.Kinds.{Kind, Note, Table, Drawing}
 use Rattle.object_parts.specs.Limits.{is_within}
 use Rattle.ole_parts.specs.CompObjs.{PAST_USER_TYPE}

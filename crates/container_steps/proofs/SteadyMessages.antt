@@ -9,7 +9,7 @@ use Rattle.wire_msgs.specs.declared.answer.Answer.{Answer}
 use Rattle.wire_msgs.specs.declared.message.Message.{Message}
 use Rattle.wire_msgs.specs.declared.message.Message.TheVariants.{Call, Reply, Write, Ask}
 use Rattle.object_parts.specs.Limits.{is_within}
-use Rattle.storage_tree.specs.declared.stored.Stored.{Stored}
+use Rattle.stored_streams.specs.declared.stored.Stored.{Stored}
 use Rattle.grant_core.specs.Frames.{Ui, after, kept}
 use Rattle.grant_core.specs.Grants as grant
 use Rattle.grant_core.specs.Grants.{Event, Granted, Revoked, passed_on, table, who}

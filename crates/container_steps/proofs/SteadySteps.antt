@@ -18,7 +18,7 @@ use Rattle.object_state.specs.declared.verbs.Verb.TheVariants as verb
 use Rattle.object_state.specs.declared.verbs.Step.{Step}
 use Rattle.object_state.specs.declared.verbs.Step.TheVariants as step
 use Rattle.object_state.proofs.Tables.{verbs-lead, closes-end}
-use Rattle.storage_tree.specs.declared.stored.Stored.{Stored}
+use Rattle.stored_streams.specs.declared.stored.Stored.{Stored}
 use Rattle.container_model.specs.declared.record.Phase.TheVariants.{Idle}
 use Rattle.container_model.specs.Verbs.{operation_of, takes, gives_up}
 use Rattle.container_steady.specs.Roles.{IsPlain}

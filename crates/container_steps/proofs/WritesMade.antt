@@ -1,7 +1,7 @@
 -- The record after a write.
 use Rattle.std.proofs.Common.{◌≡◌, ℕ, true, List, Some, Ok, ap, sym, ◌∙◌, subst}
 use Rattle.wire_msgs.specs.Found.{find, put}
-use Rattle.storage_tree.specs.declared.stored.Stored.{Stored}
+use Rattle.stored_streams.specs.declared.stored.Stored.{Stored}
 use Rattle.container_model.specs.declared.answer.Answer as told_answer
 use Rattle.container_model.specs.declared.fault.ContainerFault.{ContainerFault}
 use Rattle.container_model.specs.declared.record.Object.{Object}

@@ -1,7 +1,7 @@
 //! Messages of a server, as rows spell them: also such as no server of the program sends.
 
 use crate::words::{halves, number};
-use cfb_names::name::Name;
+use cfb_names::name::named;
 use container_core::container::ContainerCore;
 use container_model::answer::Answer;
 use container_model::fault::ContainerFault;
@@ -9,9 +9,9 @@ use object_parts::limits::MOST_BYTES;
 use object_state::Menus;
 use std::alloc::Global;
 use std::process::Abort;
-use storage_tree::bytes::Bytes;
-use storage_tree::stored::Stored;
-use storage_tree::streams::NamedStream;
+use stored_streams::stored::Stored;
+use stored_streams::streams::NamedStream;
+use stored_values::bytes::Bytes;
 use wire_msgs::answer::Answer as Said;
 use wire_msgs::message::Message;
 
@@ -20,7 +20,7 @@ fn bytes(rt: &impl Abort, alloc: Global, bytes: &[u8]) -> Bytes {
 }
 
 fn push(rt: &impl Abort, alloc: Global, content: &mut Stored, name: &[u8], stream: &[u8]) {
-    let name = Name::new(name).expect(rt, "a name");
+    let name = named(name).expect(rt, "a name");
     let bytes = bytes(rt, alloc, stream);
     content
         .streams

@@ -17,10 +17,10 @@ use ole_streams::names;
 use std::alloc::Global;
 use std::process::Abort;
 use std::str::SplitWhitespace;
-use storage_tree::bytes::Bytes;
-use storage_tree::class_id::ClassId;
-use storage_tree::stored::Stored;
 use storage_tree::tree::Tree;
+use stored_streams::stored::Stored;
+use stored_values::bytes::Bytes;
+use stored_values::class_id::ClassId;
 
 const ROWS: &str = "new a.ole 12 4 => frame 1
 insert 1 note 1 1 5 2 => object 1

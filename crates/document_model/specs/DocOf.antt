@@ -5,8 +5,8 @@ use Rattle.object_parts.specs.Limits.{OLE, COMP_OBJ, OLE_PRES, is_within}
 use Rattle.object_parts.specs.declared.area.Area.{Area}
 use Rattle.storage_tree.specs.Tree.{Tree, Children, tree, none, stream, storage}
 use Rattle.storage_tree.specs.Change.{Seen, bytes, inner, find, without}
-use Rattle.storage_tree.specs.Streams.{is_next}
-use Rattle.storage_tree.specs.declared.streams.NamedStream.{NamedStream}
+use Rattle.stored_streams.specs.Streams.{is_next}
+use Rattle.stored_streams.specs.declared.streams.NamedStream.{NamedStream}
 use Rattle.ole_parts.specs.CompObjs.{PAST_USER_TYPE, user_type_read}
 use Rattle.document_model.specs.DocTree.{LAYOUT, object_name}
 use Rattle.ole_parts.specs.Fields.{on_ok}

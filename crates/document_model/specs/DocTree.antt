@@ -4,7 +4,7 @@ use Rattle.cfb_names.specs.Names.{key}
 use Rattle.object_parts.specs.Limits.{OLE, COMP_OBJ, OLE_PRES}
 use Rattle.storage_tree.specs.Tree.{Tree, Children, tree, none}
 use Rattle.storage_tree.specs.Change.{Seen, bytes, inner, place}
-use Rattle.storage_tree.specs.declared.streams.NamedStream.{NamedStream}
+use Rattle.stored_streams.specs.declared.streams.NamedStream.{NamedStream}
 use Rattle.ole_parts.specs.CompObjs.{comp_obj_bytes}
 use Rattle.document_model.specs.Layouts.{layout_bytes}
 use Rattle.ole_parts.specs.OleStreams.{ole_bytes}

@@ -6,9 +6,9 @@ ghost use Rattle.std.specs.Prelude.{◌≡◌, IfOk};
 use object_parts::area::Area;
 use object_parts::limits::is_within;
 use std::alloc::{AllocError, Global};
-use storage_tree::bytes::Bytes;
-use storage_tree::class_id::ClassId;
-use storage_tree::stored::Stored;
+use stored_streams::stored::Stored;
+use stored_values::bytes::Bytes;
+use stored_values::class_id::ClassId;
 
 /// The first length that a user type can't have, so that its size with the closing zero fits four bytes.
 const PAST_USER_TYPE: usize = 0xffff_ffff;

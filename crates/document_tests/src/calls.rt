@@ -1,6 +1,6 @@
 //! What tests call. These functions have no contracts, so that the tests stay quick to prove.
 
-use cfb_names::name::Name;
+use cfb_names::name::{Name, named};
 use object_parts::area::Area;
 use object_parts::limits::{comp_obj, ole};
 use ole_streams::comp_obj::CompObj;
@@ -11,18 +11,18 @@ use ole_streams::names;
 use ole_streams::ole_stream::OleStream;
 use std::alloc::Global;
 use std::process::Abort;
-use storage_tree::bytes::Bytes;
-use storage_tree::class_id::ClassId;
-use storage_tree::stored::Stored;
-use storage_tree::streams::{NamedStream, Streams};
 use storage_tree::tree::Tree;
+use stored_streams::stored::Stored;
+use stored_streams::streams::{NamedStream, Streams};
+use stored_values::bytes::Bytes;
+use stored_values::class_id::ClassId;
 
 pub(crate) fn bytes(rt: &impl Abort, alloc: Global, bytes: &[u8]) -> Bytes {
     Bytes::from_slice(alloc, bytes).expect(rt, "memory")
 }
 
 pub(crate) fn name(rt: &impl Abort, text: &[u8]) -> Name {
-    Name::new(text).expect(rt, "a name")
+    named(text).expect(rt, "a name")
 }
 
 fn streams(rt: &impl Abort, alloc: Global, stream: &[u8]) -> Streams {

@@ -11,9 +11,9 @@ use ole_streams::doc::{Doc, DocObject};
 use ole_streams::names;
 use std::alloc::Global;
 use std::process::Abort;
-use storage_tree::bytes::Bytes;
-use storage_tree::streams::Streams;
 use storage_tree::tree::Tree;
+use stored_streams::streams::Streams;
+use stored_values::bytes::Bytes;
 use stream_io::read::read_file;
 
 /// Three words a push: the picture's bytes, those of the stream, and how it is answered. A long stream and a picture

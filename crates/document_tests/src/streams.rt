@@ -7,7 +7,7 @@ use ole_streams::ole_stream::OleStream;
 use ole_streams::presentation::{Presentation, lines};
 use std::alloc::Global;
 use std::process::Abort;
-use storage_tree::bytes::Bytes;
+use stored_values::bytes::Bytes;
 
 /// Three words a stream: which, what it is to hold (a user type, lines), and its bytes, or none.
 const WRITTEN: &str = "ole . 01000002,00000000,00000000,00000000,00000000

@@ -2,7 +2,7 @@
 use Rattle.std.specs.Prelude.{◌+◌, ◌*◌, ◌&&◌, ◌||◌, ℕ, Bool, true, List, [], ◌∷◌, ◌++◌, length, map, nat_le, nat_eq, nat_lt, codes}
 use Rattle.std.specs.List.{list_all, flat_map}
 use Rattle.std.specs.Fmt.{decimal}
-use Rattle.storage_tree.specs.declared.streams.NamedStream.{NamedStream}
+use Rattle.stored_streams.specs.declared.streams.NamedStream.{NamedStream}
 use Rattle.object_state.specs.Printable.{is_printable}
 
 -- a cell by its column, from 0 for A, and its row, from 1

@@ -1,7 +1,7 @@
 -- What an embedded object does with an edit and with streams.
 use Rattle.std.specs.Prelude.{◌≡◌, ℕ, true, List, [], ◌∷◌, Option, Some, None, option_and_then, Result, Ok, Err, IsOk, cond}
 use Rattle.cfb_names.specs.Names.{key, key_eq}
-use Rattle.storage_tree.specs.declared.streams.NamedStream.{NamedStream}
+use Rattle.stored_streams.specs.declared.streams.NamedStream.{NamedStream}
 use Rattle.embed_core.specs.Content.{Content, is_content, stream_name, stream_bytes, stored}
 use Rattle.embed_core.specs.Kinds.{Kind, kind_of, empty}
 use Rattle.embed_core.specs.Edits.{Edit, edited}

@@ -3,7 +3,7 @@
 ghost use Rattle.embed_core.specs.Kinds.{Drawing, Note, Table, class_of, class_with};
 ghost use Rattle.std.specs.Prelude.{◌≡◌};
 
-use storage_tree::class_id::ClassId;
+use stored_values::class_id::ClassId;
 
 /// The class id whose first field ends in this byte, as it stands in files.
 fn class_with(last: u8) -> ClassId

@@ -9,8 +9,8 @@ ghost use Rattle.embed_core.specs.Pictures.{picture_bytes};
 use crate::fault::EmbedFault;
 use object_state::Menus;
 use std::alloc::Global;
-use storage_tree::class_id::ClassId;
-use storage_tree::streams::Streams;
+use stored_streams::streams::Streams;
+use stored_values::class_id::ClassId;
 
 /// An object in a server, of one of the three kinds. What a kind's contents, edits and pictures are, its definitions
 /// say; whatever kind stands in a box, the calls do just that to the content that it holds.

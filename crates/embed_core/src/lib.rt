@@ -12,7 +12,7 @@ pub mod stream_names;
 pub mod tally;
 
 pub use object_state::Menus;
-pub use storage_tree::bytes::Bytes;
-pub use storage_tree::class_id::ClassId;
-pub use storage_tree::stored::Stored;
-pub use storage_tree::streams::Streams;
+pub use stored_streams::stored::Stored;
+pub use stored_streams::streams::Streams;
+pub use stored_values::bytes::Bytes;
+pub use stored_values::class_id::ClassId;

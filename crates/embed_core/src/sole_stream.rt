@@ -1,22 +1,22 @@
 //! Contents that are held in one stream.
 
 ghost use Rattle.embed_core.specs.Objects.{sole_bytes};
-ghost use Rattle.storage_tree.specs.declared.streams.NamedStream.{NamedStream};
+ghost use Rattle.stored_streams.specs.declared.streams.NamedStream.{NamedStream};
 ghost use Rattle.std.specs.Option.{option_map};
 ghost use Rattle.std.specs.Prelude.{[], ◌∷◌, ◌≡◌, IfErr, IfOk};
 
 use crate::fault::EmbedFault;
-use cfb_names::name::Name;
+use cfb_names::name::{Name, key};
 use std::alloc::Global;
-use storage_tree::bytes::Bytes;
-use storage_tree::streams::{NamedStream, Streams};
+use stored_streams::streams::{NamedStream, Streams};
+use stored_values::bytes::Bytes;
 
 /// The bytes of the only stream, where there is just one, and its name is this one, in whatever case.
 pub fn bytes<'a>(streams: &'a Streams, name: &Name) -> Option<&'a [u8]>
     ensures { option_map (λ b. b.now) result ≡ sole_bytes name.now streams.now }
 {
     match streams.as_slice() {
-        [stream] if stream.name.key().cmp(&name.key()).is_eq() => Some(stream.bytes.as_slice()),
+        [stream] if key(&stream.name).cmp(&key(name)).is_eq() => Some(stream.bytes.as_slice()),
         _ => None,
     }
 }

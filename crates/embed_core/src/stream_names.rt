@@ -4,13 +4,13 @@ ghost use Rattle.embed_core.specs.Content.{stream_name};
 ghost use Rattle.embed_core.specs.Kinds.{Drawing, Note, Table, empty};
 ghost use Rattle.std.specs.Prelude.{◌≡◌};
 
-use cfb_names::name::Name;
+use cfb_names::name::{Name, named};
 
 /// The stream of a note, `Text`.
 pub fn note() -> Name
     ensures { result ≡ stream_name (empty Note) }
 {
-    match Name::new(b"Text") {
+    match named(b"Text") {
         Ok(name) => name,
         Err(_) => unreachable!(),
     }
@@ -20,7 +20,7 @@ pub fn note() -> Name
 pub fn table() -> Name
     ensures { result ≡ stream_name (empty Table) }
 {
-    match Name::new(b"Cells") {
+    match named(b"Cells") {
         Ok(name) => name,
         Err(_) => unreachable!(),
     }
@@ -30,7 +30,7 @@ pub fn table() -> Name
 pub fn drawing() -> Name
     ensures { result ≡ stream_name (empty Drawing) }
 {
-    match Name::new(b"Shapes") {
+    match named(b"Shapes") {
         Ok(name) => name,
         Err(_) => unreachable!(),
     }

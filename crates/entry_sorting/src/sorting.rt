@@ -12,6 +12,7 @@ ghost use Rattle.entry_sorting.specs.Sorting.{AllAdjacentApart, AreInOrder, HasE
 use cfb_directory::entries::Entries;
 use cfb_names::fault::DirFault;
 use cfb_names::key::Key;
+use cfb_names::name::key;
 use std::cmp::Ordering;
 
 /// Adds an entry to a list that has room for it.
@@ -41,7 +42,7 @@ fn list_keys(entries: &Entries<'_>, ids: &[u32], list: &mut Vec<(Key, u32)>) -> 
             Ok(name) => name,
             Err(fault) => return Err(fault),
         };
-        push_within(list, name.key(), *id);
+        push_within(list, key(&name), *id);
     }
     Ok(())
 }

@@ -12,7 +12,7 @@ use container_model::command::{Command, ObjectKind};
 use object_parts::area::Area;
 use object_state::CloseOption;
 use std::alloc::{AllocError, Global};
-use storage_tree::bytes::Bytes;
+use stored_values::bytes::Bytes;
 use text_words::words::{Pieces, cut, number};
 use texts::words::is_visible;
 use world_model::event::Event;

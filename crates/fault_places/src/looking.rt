@@ -13,6 +13,7 @@ use crate::ways::{end_of, push_ways, root_way};
 use cfb_directory::entries::{Entries, EntryKind};
 use cfb_names::fault::DirFault;
 use cfb_names::key::Key;
+use cfb_names::name::key;
 use std::alloc::{AllocError, Global};
 use std::collections::BTreeMap;
 
@@ -140,7 +141,7 @@ fn find_twins(alloc: Global, entries: &Entries<'_>, ids: &[u32]) -> Option<(u32,
         let Ok(entry) = entries.entry(*id) else {
             return None;
         };
-        match keyed.insert(entry.name.key(), *id) {
+        match keyed.insert(key(&entry.name), *id) {
             Ok(None) => {}
             Ok(Some(other)) => return Some((other, *id)),
             Err(_) => return None,
@@ -169,7 +170,7 @@ fn are_twins(entries: &Entries<'_>, m: u32, n: u32) -> bool
     let Ok(other) = entries.entry(n) else {
         return false;
     };
-    are_same(one.name.key(), other.name.key())
+    are_same(key(&one.name), key(&other.name))
 }
 
 /// Whether two entries are among these, and have one name in upper case.

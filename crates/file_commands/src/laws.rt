@@ -5,7 +5,7 @@ ghost use Rattle.std.specs.Prelude.{◌≡◌, Some};
 ghost use Rattle.uuid.specs.Parts.{swap_fields};
 ghost use Rattle.uuid.specs.Text.{parsed};
 
-use storage_tree::class_id::ClassId;
+use stored_values::class_id::ClassId;
 use uuid::Uuid;
 
 /// The text of a class id in a listing is read back by `uuid` as the id, whose first three fields stand in files with

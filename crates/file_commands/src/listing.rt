@@ -9,7 +9,7 @@ ghost use Rattle.file_outline.specs.View.{outline_view, part_view};
 use cfb_names::name::Name;
 use file_outline::outline::{Outline, Part};
 use std::alloc::{AllocError, Global};
-use storage_tree::class_id::ClassId;
+use stored_values::class_id::ClassId;
 use texts::writing::{push_class, push_name, push_numbered};
 
 /// How many bytes a line usually has: room for so many is taken at once for each child of the root.

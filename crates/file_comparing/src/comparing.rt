@@ -57,7 +57,7 @@ pub fn is_shown(
         let Some((key, child)) = children.next() else {
             return Ok(false);
         };
-        if *key != part.0.key() {
+        if *key != cfb_names::name::key(&part.0) {
             return Ok(false);
         }
         if child.0.as_bytes() != part.0.as_bytes() {

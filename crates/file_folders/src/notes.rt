@@ -4,7 +4,7 @@ ghost use Rattle.file_folders.specs.Notes.{is_plain, notes_text};
 ghost use Rattle.std.specs.Prelude.{◌≡◌, IfOk};
 
 use std::alloc::{AllocError, Global};
-use storage_tree::class_id::ClassId;
+use stored_values::class_id::ClassId;
 use texts::writing::{push_class, push_numbered};
 
 /// The name of the file of a folder that tells the class id and the state bits of its storage. No storage or stream stands

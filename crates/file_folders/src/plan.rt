@@ -8,10 +8,10 @@ ghost use Rattle.storage_tree.specs.View.{shown, view};
 use crate::path::FolderPath;
 use cfb_names::name::Name;
 use std::alloc::{AllocError, Global};
-use storage_tree::bytes::Bytes;
-use storage_tree::class_id::ClassId;
 use storage_tree::storage::{Node, Storage};
 use storage_tree::tree::Tree;
+use stored_values::bytes::Bytes;
+use stored_values::class_id::ClassId;
 
 /// A storage or a stream, as it stands in a folder.
 #[derive(Drop)]

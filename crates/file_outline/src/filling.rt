@@ -11,11 +11,11 @@ ghost use Rattle.storage_tree.specs.Whole.{IsTree, IsWhole};
 use crate::outline::{Outline, Part, Place, is_short};
 use cfb_chain::fat::Fat;
 use cfb_names::key::Key;
-use cfb_names::name::Name;
+use cfb_names::name::{Name, key};
 use std::alloc::{AllocError, Global};
 use std::collections::BTreeMap;
-use storage_tree::bytes::Bytes;
 use storage_tree::storage::{Node, Storage};
+use stored_values::bytes::Bytes;
 
 /// The bytes of the stream that lies at a place, given the tables of sectors and of mini sectors (MS-CFB 2.6.3).
 pub fn bytes_at(
@@ -41,7 +41,7 @@ fn push_child(
 ) -> Result<(), AllocError>
     ensures { OnOk result (pairs.new.items ≡ pairs.old.items ++ (key name, (name, node)) ∷ []) }
 {
-    Ok(pairs.push((name.key(), (name, node)))?)
+    Ok(pairs.push((key(&name), (name, node)))?)
 }
 
 /// The map of children whose keys ascend, made at once: to insert each one is a search of its own.

@@ -8,7 +8,7 @@ ghost use Rattle.std.specs.Prelude.{◌≡◌, IfNone, IfSome, List, None, Some,
 ghost use Rattle.storage_tree.specs.Change.{find, look, map_ok, on_ok};
 
 use crate::outline::{Outline, Part, Place};
-use cfb_names::name::Name;
+use cfb_names::name::{Name, key};
 use storage_tree::fault::TreeFault;
 
 /// The part of a name.
@@ -16,9 +16,9 @@ fn part_of<'o>(outline: &'o Outline, name: &Name) -> Option<&'o Part>
     ensures found { IfSome result (λ part. (content : place.Place → List ℕ) → (spelled : List ℕ) × (find (key name.now) (shown_parts content outline.now.parts.items) ≡ Some (spelled, shown_part content part.now))) }
     ensures none { IfNone result ((content : place.Place → List ℕ) → find (key name.now) (shown_parts content outline.now.parts.items) ≡ None) }
 {
-    let wanted = name.key();
+    let wanted = key(name);
     for part in &outline.parts {
-        if wanted.cmp(&part.0.key()).is_eq() {
+        if wanted.cmp(&key(&part.0)).is_eq() {
             return Some(&part.1);
         }
     }

@@ -5,7 +5,7 @@ ghost use Rattle.file_model.specs.Limits.{CUTOFF};
 
 use cfb_names::name::Name;
 use file_model::limit::CUTOFF;
-use storage_tree::class_id::ClassId;
+use stored_values::class_id::ClassId;
 
 /// Where a stream lies: the sector or mini sector that it begins with, and how many bytes it has.
 #[derive(Clone, Copy)]

@@ -8,8 +8,8 @@ use cfb_directory::write::{EntryFields, write_entry, write_free_entry};
 use cfb_names::name::Name;
 use file_model::limit::CUTOFF;
 use std::alloc::{AllocError, Global};
-use storage_tree::bytes::Bytes;
 use storage_tree::storage::{Node, Storage};
+use stored_values::bytes::Bytes;
 
 /// How many entries a storage has below its own.
 #[cycle(count_entries)]

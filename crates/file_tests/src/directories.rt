@@ -5,7 +5,7 @@ use cfb_directory::entries::{Entries, EntryKind, NO_STREAM};
 use cfb_directory::links::{Links, balanced, build};
 use cfb_directory::write::{EntryFields, write_entry, write_free_entry};
 use cfb_names::fault::DirFault;
-use cfb_names::name::{LONGEST, Name, keys_agree};
+use cfb_names::name::{LONGEST, Name, key, keys_agree, named};
 use std::alloc::{AllocError, Global};
 use std::cmp::Ordering;
 use std::process::Abort;
@@ -36,7 +36,7 @@ const WRITTEN: &str =
 
 /// Whether bytes are a name, and copied as such, or refused so.
 fn name_is(bytes: &[u8], fault: &str) -> bool {
-    match Name::new(bytes) {
+    match named(bytes) {
         Ok(name) => fault.is_empty()
             && name.len() == bytes.len()
             && name.copy().as_bytes() == bytes,
@@ -53,12 +53,12 @@ fn ordering_text(order: Ordering) -> &'static str {
 }
 
 fn name(rt: &impl Abort, text: &str) -> Name {
-    Name::new(text.as_bytes()).expect(rt, "a name")
+    named(text.as_bytes()).expect(rt, "a name")
 }
 
 /// Whether two names stand so to one another, and their keys as well.
 fn stand_so(one: &Name, other: &Name, want: &str) -> bool {
-    ordering_text(one.cmp(other)) == want && ordering_text(one.key().cmp(&other.key())) == want
+    ordering_text(one.cmp(other)) == want && ordering_text(key(one).cmp(&key(other))) == want
 }
 
 fn order_is(rt: &impl Abort, row: &str) -> bool {

@@ -2,13 +2,13 @@
 //! `tests/cli`.
 
 use crate::texts::{are_all, spelled};
-use cfb_names::name::Name;
+use cfb_names::name::{Name, named};
 use file_outline::outline::{Outline, Part};
 use std::alloc::Global;
 use std::process::Abort;
-use storage_tree::class_id::ClassId;
 use storage_tree::storage::Found;
 use storage_tree::tree::Tree;
+use stored_values::class_id::ClassId;
 use stream_io::fault::{ReadFault, StreamFault};
 use stream_io::read::{is_file_of, read_file, read_outline, read_stream};
 
@@ -45,7 +45,7 @@ fn is_no_stream(answer: Result<Vec<u8>, StreamFault>) -> bool {
 }
 
 fn name(rt: &impl Abort, text: &str) -> Name {
-    Name::new(text.as_bytes()).expect(rt, "a name")
+    named(text.as_bytes()).expect(rt, "a name")
 }
 
 fn is_whole(rt: &impl Abort, alloc: Global, file: &[u8]) -> bool {

@@ -1,14 +1,15 @@
 //! Lists of streams, their bytes and their classes.
 
 use crate::texts::{number, word};
-use cfb_names::name::Name;
+use cfb_names::name::{Name, named};
 use std::alloc::Global;
 use std::process::Abort;
-use storage_tree::bytes::Bytes;
-use storage_tree::class_id::ClassId;
-use storage_tree::fault::{StreamsFault, TreeFault};
-use storage_tree::stored::Stored;
-use storage_tree::streams::{NamedStream, Streams};
+use storage_tree::fault::TreeFault;
+use stored_streams::fault::StreamsFault;
+use stored_streams::stored::Stored;
+use stored_streams::streams::{NamedStream, Streams};
+use stored_values::bytes::Bytes;
+use stored_values::class_id::ClassId;
 
 /// Four words a call: the call, a name, bytes, and what is told. A point stands for nothing.
 const PUSHES: &str = "len . 0 ok
@@ -67,7 +68,7 @@ fn carry_out(
 }
 
 fn name(rt: &impl Abort, text: &str) -> Name {
-    Name::new(text.as_bytes()).expect(rt, "a name")
+    named(text.as_bytes()).expect(rt, "a name")
 }
 
 /// Whether streams tell what a call wants.

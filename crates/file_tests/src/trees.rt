@@ -1,14 +1,14 @@
 //! Trees, as texts of calls with their answers.
 
 use crate::texts::{number, word};
-use cfb_names::name::Name;
+use cfb_names::name::{Name, named};
 use std::alloc::Global;
 use std::process::Abort;
-use storage_tree::bytes::Bytes;
-use storage_tree::class_id::ClassId;
 use storage_tree::fault::TreeFault;
 use storage_tree::storage::{Found, Storage};
 use storage_tree::tree::Tree;
+use stored_values::bytes::Bytes;
+use stored_values::class_id::ClassId;
 
 /// Four words a call: the call, a path, an argument and the answer. A point stands for nothing.
 const CALLS: &str = "begin . . ok
@@ -88,7 +88,7 @@ revert . . ok
 get 7 7 ok";
 
 fn name(rt: &impl Abort, text: &str) -> Name {
-    Name::new(text.as_bytes()).expect(rt, "a name")
+    named(text.as_bytes()).expect(rt, "a name")
 }
 
 /// A path of names with slashes between, or the empty one.

@@ -1,13 +1,13 @@
 //! Writing small files. What stands where is shown by the cases `make_*` of `tests/cli`.
 
 use crate::texts::{number, word};
-use cfb_names::name::Name;
+use cfb_names::name::{Name, named};
 use file_writer::write::{fits, write_file};
 use std::alloc::Global;
 use std::process::Abort;
-use storage_tree::bytes::Bytes;
-use storage_tree::class_id::ClassId;
 use storage_tree::tree::Tree;
+use stored_values::bytes::Bytes;
+use stored_values::class_id::ClassId;
 
 /// A stream is put with so many bytes, and the file has then this length, or none, and fits or why not.
 ///
@@ -48,7 +48,7 @@ fn bytes(rt: &impl Abort, alloc: Global, len: u32) -> Bytes {
 }
 
 fn name(rt: &impl Abort, text: &str) -> Name {
-    Name::new(text.as_bytes()).expect(rt, "a name")
+    named(text.as_bytes()).expect(rt, "a name")
 }
 
 fn put(rt: &impl Abort, tree: &mut Tree, name: Name, bytes: Bytes) {

@@ -4,7 +4,7 @@ ghost use Rattle.folder_packing.specs.Notes.{line_read, notes_read};
 ghost use Rattle.std.specs.Prelude.{◌≡◌};
 ghost use Rattle.uuid.specs.Text.{parsed};
 
-use storage_tree::class_id::ClassId;
+use stored_values::class_id::ClassId;
 use text_words::words::{Pieces, number};
 use uuid::Uuid;
 

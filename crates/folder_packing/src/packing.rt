@@ -11,9 +11,9 @@ use file_model::fault::WriteFault;
 use file_writer::write::write_file;
 use std::alloc::Global;
 use std::io::Write;
-use storage_tree::class_id::ClassId;
 use storage_tree::fault::TreeFault;
 use storage_tree::tree::Tree;
+use stored_values::class_id::ClassId;
 use texts::output::write_all;
 
 /// A storage or a stream that was found in a folder.

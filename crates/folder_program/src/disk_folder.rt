@@ -9,7 +9,7 @@ use std::fs::{self, OpenOptions};
 use std::io::{self, ErrorKind, Write};
 use std::path::PathBuf;
 use std::rt::Files;
-use storage_tree::class_id::ClassId;
+use stored_values::class_id::ClassId;
 
 /// A folder of a system in which entries are made. Each folder below it is made new, and each file too, so no link that
 /// stands in it is followed, unless what stands there is to be replaced: then a folder that is none by a link is taken as it

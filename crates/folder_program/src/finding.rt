@@ -1,6 +1,6 @@
 //! What stands in a folder of a system.
 
-use cfb_names::name::Name;
+use cfb_names::name::{Name, named};
 use file_folders::notes::NOTES;
 use file_folders::plan::Content;
 use folder_packing::names::read_component;
@@ -10,8 +10,8 @@ use std::alloc::{AllocError, Global};
 use std::fs::{self, DirEntry};
 use std::io::{self, ErrorKind};
 use std::rt::Runtime;
-use storage_tree::bytes::Bytes;
-use storage_tree::class_id::ClassId;
+use stored_values::bytes::Bytes;
+use stored_values::class_id::ClassId;
 use texts::input::read_all;
 
 /// How many folders are looked into.
@@ -172,7 +172,7 @@ fn path_of(alloc: Global, within: &[Name], text: &str) -> Result<Vec<Name>, &'st
 fn name_of(alloc: Global, text: &str) -> Result<Name, &'static str> {
     let mut buffer = Vec::new(alloc);
     match read_component(&mut buffer, text.as_bytes()) {
-        Ok(true) => match Name::new(&buffer) {
+        Ok(true) => match named(&buffer) {
             Ok(name) => Ok(name),
             Err(fault) => Err(fault.name()),
         },

@@ -1,12 +1,12 @@
 //! A folder in memory.
 
-use cfb_names::name::Name;
+use cfb_names::name::{Name, named};
 use file_folders::folder::{Folder, FolderFault};
 use file_folders::plan::{Content, Entry};
 use folder_packing::names::read_component;
 use folder_packing::packing::Found;
 use std::alloc::{AllocError, Global};
-use storage_tree::class_id::ClassId;
+use stored_values::class_id::ClassId;
 use text_words::words::Pieces;
 
 /// A folder in memory, which takes so many entries and then is full.
@@ -86,7 +86,7 @@ fn names_of(alloc: Global, path: &[u8]) -> Result<Vec<Name>, AllocError> {
             break;
         };
         let is_read = read_component(&mut buffer, part)?;
-        if let Ok(name) = Name::new(&buffer) {
+        if let Ok(name) = named(&buffer) {
             if is_read {
                 names.push(name)?;
             }

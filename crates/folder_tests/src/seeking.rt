@@ -1,6 +1,6 @@
 //! Streams that are read where they lie in a file.
 
-use cfb_names::name::Name;
+use cfb_names::name::{Name, named};
 use file_cleaning::cleaning::clean_source;
 use file_commands::fault::{CleanFault, GetFault};
 use file_listings::getting::get_source;
@@ -55,10 +55,10 @@ fn made(rt: &impl Abort, alloc: Global) -> Vec<u8> {
     file
 }
 
-fn named(rt: &impl Abort, alloc: Global, path: &str) -> Vec<Name> {
+fn names_of(rt: &impl Abort, alloc: Global, path: &str) -> Vec<Name> {
     let mut names = Vec::new(alloc);
     for word in path.split_whitespace() {
-        let name = Name::new(word.as_bytes()).expect(rt, "a name");
+        let name = named(word.as_bytes()).expect(rt, "a name");
         names.push(name).expect(rt, "room");
     }
     names
@@ -84,7 +84,7 @@ fn is_got(
     calls: usize,
     size: usize,
 ) -> bool {
-    let names = named(rt, alloc, path);
+    let names = names_of(rt, alloc, path);
     let mut out = Vec::new(alloc);
     match got(alloc, file, &names, calls, &mut out) {
         Ok(()) => out.len() == size,
@@ -101,7 +101,7 @@ fn is_cut(
     calls: usize,
     size: usize,
 ) -> bool {
-    let names = named(rt, alloc, path);
+    let names = names_of(rt, alloc, path);
     let mut out = Vec::new(alloc);
     match got(alloc, file, &names, calls, &mut out) {
         Err(GetFault::Input(InputFault::Unreadable)) => out.len() == size,
@@ -111,7 +111,7 @@ fn is_cut(
 
 /// Whether the tree has no stream at a path.
 fn is_missing(rt: &impl Abort, alloc: Global, file: &[u8], path: &str, fault: TreeFault) -> bool {
-    let names = named(rt, alloc, path);
+    let names = names_of(rt, alloc, path);
     let mut out = Vec::new(alloc);
     match got(alloc, file, &names, CALLS, &mut out) {
         Err(GetFault::Tree(told)) => told == fault,
@@ -121,7 +121,7 @@ fn is_missing(rt: &impl Abort, alloc: Global, file: &[u8], path: &str, fault: Tr
 
 /// Whether a file denotes no tree.
 fn is_no_tree(rt: &impl Abort, alloc: Global, file: &[u8], path: &str) -> bool {
-    let names = named(rt, alloc, path);
+    let names = names_of(rt, alloc, path);
     let mut out = Vec::new(alloc);
     match got(alloc, file, &names, CALLS, &mut out) {
         Err(GetFault::Read(_)) => out.is_empty(),

@@ -4,7 +4,7 @@ ghost use Rattle.grant_core.specs.Grants.{Ask, Granted, Revoked, Lost, IsApart};
 ghost use Rattle.grant_core.specs.Frames.{fresh, after, answer, has_room, menu_of, border_of, no_border};
 
 use crate::faults::GrantFault;
-use crate::grant_states::{Claim, GrantState, Tools};
+use crate::grant_states::{Claim, GrantState, Tools, asked, granted, lost, revoked};
 use object_state::{MenuText, Menus};
 use std::marker::Model;
 
@@ -55,7 +55,7 @@ impl FrameUi {
         ensures answer { result ≡ answer self.old (Ask (record { object = object; act = act; g = g })) }
         ensures refused { OnErr result (self.new ≡ self.old) }
     {
-        self.state = self.state.asked(Claim { object, act, g })?;
+        self.state = asked(self.state, Claim { object, act, g })?;
         Ok(())
     }
 
@@ -71,7 +71,7 @@ impl FrameUi {
         ensures refused { result ≡ Err GrantFault.NotHolder → self.new ≡ self.old }
         ensures no_space { result ≡ Err GrantFault.NoToolSpace → border_of self.new ≡ no_border }
     {
-        self.state = self.state.granted(g, Tools { menus, border })?;
+        self.state = granted(self.state, g, Tools { menus, border })?;
         if self.has_room(border) {
             Ok(())
         } else {
@@ -87,7 +87,7 @@ impl FrameUi {
         ensures answer { result ≡ answer self.old (Revoked g) }
         ensures refused { OnErr result (self.new ≡ self.old) }
     {
-        self.state = self.state.revoked(g)?;
+        self.state = revoked(self.state, g)?;
         Ok(())
     }
 
@@ -96,7 +96,7 @@ impl FrameUi {
     pub fn lost(&mut self, act: u32)
         ensures { self.new ≡ after self.old (Lost act) }
     {
-        self.state = self.state.lost(act);
+        self.state = lost(self.state, act);
     }
 
     /// The width of the frame, in cells.

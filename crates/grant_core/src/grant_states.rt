@@ -7,7 +7,7 @@ use crate::faults::GrantFault;
 use object_state::Menus;
 
 /// An object that holds the frame or asks for it: its number, its activation's, and that of the grant.
-#[derive(Clone, Copy, PartialEq, Eq)]
+#[derive(Clone, Copy)]
 pub struct Claim {
     /// The object.
     pub object: u32,
@@ -19,7 +19,7 @@ pub struct Claim {
 
 /// What a holder answers to its grant: the menus that it adds, and the widths of the border space that
 /// it asks for, in cells: left, top, right, bottom.
-#[derive(Clone, Copy, PartialEq, Eq)]
+#[derive(Clone, Copy)]
 pub struct Tools {
     /// The menus that it adds.
     pub menus: Menus,
@@ -28,7 +28,7 @@ pub struct Tools {
 }
 
 /// The state of a frame's grant.
-#[derive(Clone, Copy, PartialEq, Eq)]
+#[derive(Clone, Copy)]
 pub enum GrantState {
     /// No object has the frame or is to get it.
     Free,
@@ -48,22 +48,6 @@ pub enum GrantState {
         /// Who gets it then, if any.
         waiting: Option<Claim>,
     },
-}
-
-impl Claim {
-    // Whether the claim is the holder's own, by its activation and grant: it is to give the frame up.
-    fn is_own(self, holder: Claim) -> bool
-        ensures { result ≡ is_own holder self }
-    {
-        self.act == holder.act && self.g == holder.g
-    }
-
-    // Whether the claim is another object's, by an activation of its own.
-    fn is_another(self, holder: Claim) -> bool
-        ensures { result ≡ is_another holder self }
-    {
-        self.object != holder.object && self.act != holder.act
-    }
 }
 
 impl GrantState {
@@ -87,71 +71,86 @@ impl GrantState {
             _ => None,
         }
     }
+}
 
-    // The state after an object asked.
-    pub(crate) fn asked(self, claim: Claim) -> Result<GrantState, GrantFault>
-        ensures { result ≡ table self (Ask claim) }
-    {
-        match self {
-            GrantState::Free => Ok(GrantState::Granting(claim)),
-            GrantState::Held { holder, .. } => {
-                if claim.is_own(holder) {
-                    return Ok(GrantState::Revoking {
-                        holder,
-                        waiting: None,
-                    });
-                }
-                if claim.is_another(holder) {
-                    return Ok(GrantState::Revoking {
-                        holder,
-                        waiting: Some(claim),
-                    });
-                }
-                Err(GrantFault::Busy)
-            }
-            _ => Err(GrantFault::Busy),
-        }
-    }
+// What the frame alone calls is no method: a type is read with all of its methods by whoever holds a value of it.
+// Whether the claim is the holder's own, by its activation and grant: it is to give the frame up.
+fn is_own(claim: Claim, holder: Claim) -> bool
+    ensures { result ≡ is_own holder claim }
+{
+    claim.act == holder.act && claim.g == holder.g
+}
 
-    // The state after an object answered its grant.
-    pub(crate) fn granted(self, g: u32, tools: Tools) -> Result<GrantState, GrantFault>
-        ensures { result ≡ table self (Granted g tools) }
-    {
-        match self {
-            GrantState::Granting(holder) if g == holder.g => Ok(GrantState::Held { holder, tools }),
-            _ => Err(GrantFault::NotHolder),
-        }
-    }
+// Whether the claim is another object's, by an activation of its own.
+fn is_another(claim: Claim, holder: Claim) -> bool
+    ensures { result ≡ is_another holder claim }
+{
+    claim.object != holder.object && claim.act != holder.act
+}
 
-    // The state after a holder gave the frame up.
-    pub(crate) fn revoked(self, g: u32) -> Result<GrantState, GrantFault>
-        ensures { result ≡ table self (Revoked g) }
-    {
-        match self {
-            GrantState::Revoking { holder, waiting } if g == holder.g => Ok(passed_on(waiting)),
-            _ => Err(GrantFault::NotHolder),
-        }
-    }
-
-    // The state after an activation was lost.
-    pub(crate) fn lost(self, act: u32) -> GrantState
-        ensures { table self (Lost act) ≡ Ok result }
-    {
-        match self {
-            GrantState::Granting(holder) | GrantState::Held { holder, .. } if act == holder.act => {
-                GrantState::Free
-            }
-            GrantState::Revoking { holder, waiting } => {
-                if act == holder.act {
-                    return passed_on(waiting);
-                }
-                GrantState::Revoking {
+// The state after an object asked.
+pub(crate) fn asked(state: GrantState, claim: Claim) -> Result<GrantState, GrantFault>
+    ensures { result ≡ table state (Ask claim) }
+{
+    match state {
+        GrantState::Free => Ok(GrantState::Granting(claim)),
+        GrantState::Held { holder, .. } => {
+            if is_own(claim, holder) {
+                return Ok(GrantState::Revoking {
                     holder,
-                    waiting: but_for(act, waiting),
-                }
+                    waiting: None,
+                });
             }
-            _ => self,
+            if is_another(claim, holder) {
+                return Ok(GrantState::Revoking {
+                    holder,
+                    waiting: Some(claim),
+                });
+            }
+            Err(GrantFault::Busy)
         }
+        _ => Err(GrantFault::Busy),
+    }
+}
+
+// The state after an object answered its grant.
+pub(crate) fn granted(state: GrantState, g: u32, tools: Tools) -> Result<GrantState, GrantFault>
+    ensures { result ≡ table state (Granted g tools) }
+{
+    match state {
+        GrantState::Granting(holder) if g == holder.g => Ok(GrantState::Held { holder, tools }),
+        _ => Err(GrantFault::NotHolder),
+    }
+}
+
+// The state after a holder gave the frame up.
+pub(crate) fn revoked(state: GrantState, g: u32) -> Result<GrantState, GrantFault>
+    ensures { result ≡ table state (Revoked g) }
+{
+    match state {
+        GrantState::Revoking { holder, waiting } if g == holder.g => Ok(passed_on(waiting)),
+        _ => Err(GrantFault::NotHolder),
+    }
+}
+
+// The state after an activation was lost.
+pub(crate) fn lost(state: GrantState, act: u32) -> GrantState
+    ensures { table state (Lost act) ≡ Ok result }
+{
+    match state {
+        GrantState::Granting(holder) | GrantState::Held { holder, .. } if act == holder.act => {
+            GrantState::Free
+        }
+        GrantState::Revoking { holder, waiting } => {
+            if act == holder.act {
+                return passed_on(waiting);
+            }
+            GrantState::Revoking {
+                holder,
+                waiting: but_for(act, waiting),
+            }
+        }
+        _ => state,
     }
 }
 

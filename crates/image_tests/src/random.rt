@@ -1,13 +1,13 @@
 //! Random trees, and images updated from one to the next.
 
 use crate::trees::{empty, image_of, name, update};
-use cfb_names::name::Name;
+use cfb_names::name::named;
 use file_writer::write::write_file;
 use std::alloc::Global;
 use std::process::Abort;
-use storage_tree::bytes::Bytes;
-use storage_tree::class_id::ClassId;
 use storage_tree::tree::Tree;
+use stored_values::bytes::Bytes;
+use stored_values::class_id::ClassId;
 
 /// How many bytes a stream has.
 const SIZES: [usize; 12] = [0, 1, 63, 64, 65, 500, 2000, 4095, 4096, 4097, 5200, 9000];
@@ -40,7 +40,7 @@ fn put_some(rt: &impl Abort, alloc: Global, tree: &mut Tree, seed: &mut u64, inn
             let number = if changed { next(seed) } else { usual };
             let len = SIZES[number % 12];
             let stream = bytes(rt, alloc, len, next(seed) % 2);
-            let own = Name::new(&[letter]).expect(rt, "a name");
+            let own = named(&[letter]).expect(rt, "a name");
             match inner {
                 Some(text) => tree.put_stream(&[name(rt, text), own], stream),
                 None => tree.put_stream(&[own], stream),

@@ -1,17 +1,17 @@
 //! Trees and images that tests make, and what is asked of an update.
 
-use cfb_names::name::Name;
+use cfb_names::name::{Name, named};
 use file_image::image::Image;
 use file_writer::write::write_file;
 use std::alloc::Global;
 use std::process::Abort;
-use storage_tree::bytes::Bytes;
-use storage_tree::class_id::ClassId;
 use storage_tree::tree::Tree;
+use stored_values::bytes::Bytes;
+use stored_values::class_id::ClassId;
 use stream_io::read::read_file;
 
 pub(crate) fn name(rt: &impl Abort, text: &str) -> Name {
-    Name::new(text.as_bytes()).expect(rt, "a name")
+    named(text.as_bytes()).expect(rt, "a name")
 }
 
 /// So many equal bytes.

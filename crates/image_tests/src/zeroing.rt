@@ -2,12 +2,12 @@
 
 use crate::random::next;
 use crate::trees::{empty, filled, image_of, name, tree_of, update, update_zeroed};
-use cfb_names::name::Name;
+use cfb_names::name::{Name, named};
 use file_image::image::Image;
 use std::alloc::Global;
 use std::process::Abort;
-use storage_tree::class_id::ClassId;
 use storage_tree::tree::Tree;
+use stored_values::class_id::ClassId;
 
 /// How many bytes a stream has: where it has any, two at least in each of its sectors and mini sectors.
 const SIZES: [usize; 12] = [0, 2, 63, 64, 66, 500, 2000, 4095, 4096, 4098, 5200, 9000];
@@ -73,7 +73,7 @@ fn is_there(image: &Image, byte: u8) -> bool {
 fn lettered(rt: &impl Abort, alloc: Global, mark: Mark, letter: u8) -> Name {
     let mut text = Vec::from_slice(alloc, mark.word.as_bytes()).expect(rt, "memory");
     text.push(letter).expect(rt, "memory");
-    Name::new(&text).expect(rt, "a name")
+    named(&text).expect(rt, "a name")
 }
 
 /// Puts a stream into the root, or into a storage of this name.

@@ -12,7 +12,7 @@ use cfb_names::name::Name;
 use file_outline::outline::{Outline, Part, Place};
 use json::Writer;
 use std::alloc::{AllocError, Global};
-use storage_tree::class_id::ClassId;
+use stored_values::class_id::ClassId;
 use uuid::Uuid;
 
 /// One JSON value: an array of objects, one for the root and then one for each storage and stream, in the order of `list`.

@@ -12,7 +12,7 @@ use crate::stream_names::stream_meaning;
 use cfb_names::name::Name;
 use file_outline::outline::{Outline, Part};
 use std::alloc::{AllocError, Global};
-use storage_tree::class_id::ClassId;
+use stored_values::class_id::ClassId;
 use texts::writing::push_name;
 use uuid::Uuid;
 

@@ -1,7 +1,7 @@
 -- Parts of a body that are read one after another.
 use Rattle.std.proofs.Common.{◌≡◌, ℕ, suc, ◌-◌, ◌+◌, ◌<◌, ◌≤◌, true, cond, List, [], ◌∷◌, ◌++◌, length, sym, ap, ◌∙◌, arith}
-use Rattle.storage_tree.specs.declared.streams.NamedStream.{NamedStream}
-use Rattle.storage_tree.specs.declared.stored.Stored.{Stored}
+use Rattle.stored_streams.specs.declared.streams.NamedStream.{NamedStream}
+use Rattle.stored_streams.specs.declared.stored.Stored.{Stored}
 use Rattle.message_bodies.specs.declared.body.BodyFault.{BodyFault}
 use Rattle.message_bodies.specs.declared.body.BodyFault.TheVariants.{Bad, Memory}
 use Rattle.message_bodies.specs.Decoding.{Lacks, Stops}

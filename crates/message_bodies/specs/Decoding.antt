@@ -2,7 +2,7 @@
 use Rattle.std.specs.Prelude.{◌≡◌, ℕ, suc, List, Option, Some, None, Result, Ok, Err}
 use Rattle.message_bodies.specs.declared.body.BodyFault.{BodyFault}
 use Rattle.message_bodies.specs.declared.body.BodyFault.TheVariants.{Bad, Memory}
-use Rattle.storage_tree.specs.declared.streams.NamedStream.{NamedStream}
+use Rattle.stored_streams.specs.declared.streams.NamedStream.{NamedStream}
 use Rattle.message_model.specs.declared.frame.Frame.{Frame}
 use Rattle.message_model.specs.Reading.{Reader, more}
 

@@ -1,7 +1,7 @@
 //! Bodies of frames, read from left to right.
 
 ghost use Rattle.message_bodies.specs.Decoding.{Continues, Gives, Makes};
-ghost use Rattle.storage_tree.specs.declared.streams.NamedStream.{NamedStream};
+ghost use Rattle.stored_streams.specs.declared.streams.NamedStream.{NamedStream};
 ghost use Rattle.message_model.specs.declared.codes.OperationCode.TheVariants.{Close, Edit, InitNew, Load, Save, SaveCompleted, SaveDropped, UiActivate};
 ghost use Rattle.message_model.specs.declared.codes.Kind.TheVariants.{Ask, Call, Reply, Turn, Write};
 ghost use Rattle.message_model.specs.Frames.{number_in};
@@ -9,7 +9,7 @@ ghost use Rattle.object_parts.specs.Limits.{MOST_BYTES};
 ghost use Rattle.message_model.specs.Reading.{answer, blob, byte, bytes, flag_of, more, may_follow, name, number, operation, option_of, pictured, read_body, stored, text, tools, whole, width_in, widths_in};
 ghost use Rattle.std.specs.Prelude.{[], ◌∷◌, ◌++◌, ◌≡◌, ◌≤◌, ◌<◌, ◌-◌, ◌^◌, ℕ, List, None, IfOk, true, length, take, drop};
 
-use cfb_names::name::Name;
+use cfb_names::name::{Name, named};
 use message_model::codes::{
     AnswerCode, Kind, OperationCode, answer_code_of, operation_code_of, refusal_of,
 };
@@ -17,11 +17,11 @@ use message_model::frame::{Frame, MOST_EDIT};
 use object_parts::limits::{MOST_BYTES, MOST_STREAMS, is_ole_name};
 use object_state::{CloseOption, MenuText, Menus};
 use std::alloc::{AllocError, Global};
-use storage_tree::bytes::Bytes;
-use storage_tree::class_id::ClassId;
-use storage_tree::fault::StreamsFault;
-use storage_tree::stored::Stored;
-use storage_tree::streams::{NamedStream, Streams};
+use stored_streams::fault::StreamsFault;
+use stored_streams::stored::Stored;
+use stored_streams::streams::{NamedStream, Streams};
+use stored_values::bytes::Bytes;
+use stored_values::class_id::ClassId;
 use wire_msgs::answer::Answer;
 use wire_msgs::message::Message;
 use wire_msgs::operation::Operation;
@@ -139,7 +139,7 @@ fn take_name(xs: &[u8]) -> Result<(Name, &[u8]), BodyFault>
         return Err(BodyFault::Bad);
     }
     let (value, rest) = rest.split_at(n);
-    match Name::new(value) {
+    match named(value) {
         Ok(name) => Ok((name, rest)),
         Err(_) => Err(BodyFault::Bad),
     }

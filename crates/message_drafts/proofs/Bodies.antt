@@ -1,8 +1,8 @@
 -- Bodies before a step and after it.
 use Rattle.std.proofs.Common.{◌≡◌, ℕ, zero, suc, ◌-◌, ◌+◌, ◌<◌, ◌≤◌, Bool, true, false, ◌&&◌, nat_le, rules, List, [], ◌∷◌, ◌++◌, length, take, drop, Some, None, refl, sym, ap, subst, ◌∙◌, append_assoc, arith}
 use Rattle.std.proofs.lemmas.List.{append-nil, length-take, length-append}
-use Rattle.storage_tree.specs.Streams.{AreInOrder}
-use Rattle.storage_tree.specs.declared.streams.NamedStream.{NamedStream}
+use Rattle.stored_streams.specs.Streams.{AreInOrder}
+use Rattle.stored_streams.specs.declared.streams.NamedStream.{NamedStream}
 use Rattle.message_drafts.specs.declared.draft.Draft.{Draft}
 use Rattle.message_drafts.specs.declared.draft.Phase.{Phase}
 use Rattle.message_drafts.specs.declared.draft.Opening.{Opening}
@@ -12,8 +12,8 @@ use Rattle.message_model.specs.Reading.{may_follow}
 use Rattle.message_drafts.specs.Drafts.{Begins, Advances, IsField, IsFull, IsFullAt, IsOver, IsOverAt, IsPlanned, IsPlannedAt, IsStreamField, Keeps, Took, frame_of, lengthened, longer, need, read_on, resume}
 use Rattle.message_drafts.proofs.Streams.{order_lengthened, grew_same, grew_pushed, grew_lengthened}
 use Rattle.message_drafts.proofs.Plans.{range, stream_outside}
-use Rattle.storage_tree.specs.Streams.{is_next}
-use Rattle.storage_tree.proofs.Ordered.{in_order-last}
+use Rattle.stored_streams.specs.Streams.{is_next}
+use Rattle.stored_streams.proofs.Ordered.{in_order-last}
 use Rattle.message_drafts.proofs.Steps.{on_stream, on_picture, on_held, on_more, picture_begun, picture_above, picture_short, stream_none, stream_unfit, stream_above, stream_short, stream_begun}
 
 pub planned_at : (d : Draft) (p : Phase) → d.plan.phase ≡ p → IsPlanned d → IsPlannedAt p d.plan.left d.plan.missing d.plan.to_come (take d.plan.len d.plan.held) d.picture

@@ -4,7 +4,7 @@ use Rattle.std.proofs.lemmas.Bool.{cases_lt}
 use Rattle.std.proofs.lemmas.List.{append-nil, length-drop}
 use Rattle.cfb_names.specs.Names.{name_read}
 use Rattle.cfb_names.specs.declared.fault.DirFault.{DirFault}
-use Rattle.storage_tree.specs.declared.streams.NamedStream.{NamedStream}
+use Rattle.stored_streams.specs.declared.streams.NamedStream.{NamedStream}
 use Rattle.message_model.specs.Reading.{Reader, bad, blob, bytes, may_follow, more, name, name_of, named, whole}
 use Rattle.message_drafts.specs.declared.draft.Opening.{Opening}
 use Rattle.message_drafts.specs.Drafts.{last, need, frame_of}

@@ -1,10 +1,10 @@
 -- Bodies that grow in several steps, and what they keep meanwhile.
 use Rattle.std.proofs.Common.{◌≡◌, ℕ, zero, suc, ◌-◌, ◌+◌, ◌<◌, ◌≤◌, List, [], ◌∷◌, ◌++◌, length, take, drop, Option, refl, sym, ap, subst, ◌∙◌, append_assoc, arith}
 use Rattle.std.proofs.lemmas.List.{append-nil, length-take, length-append, take_at, take-append-le}
-use Rattle.storage_tree.specs.declared.streams.NamedStream.{NamedStream}
+use Rattle.stored_streams.specs.declared.streams.NamedStream.{NamedStream}
 use Rattle.message_drafts.specs.declared.draft.Draft.{Draft}
 use Rattle.message_drafts.specs.declared.back.Mark.{Mark}
-use Rattle.storage_tree.specs.Streams.{AreInOrder}
+use Rattle.stored_streams.specs.Streams.{AreInOrder}
 use Rattle.message_model.specs.declared.frame.Frame.{Frame}
 use Rattle.message_drafts.specs.declared.draft.Plan.{Plan}
 use Rattle.message_drafts.specs.Drafts.{Alike, Advances, Grew, IsMark, IsPlanned, IsPlannedAt, Keeps, cut_last, last_len, read_on, resume}

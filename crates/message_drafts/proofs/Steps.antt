@@ -1,7 +1,7 @@
 -- What is read of a body before a step and after it.
 use Rattle.std.proofs.Common.{◌≡◌, ℕ, zero, suc, ◌-◌, ◌+◌, ◌<◌, ◌≤◌, Bool, true, false, cond, List, [], ◌∷◌, ◌++◌, length, take, drop, Some, None, refl, sym, ap, subst, ◌∙◌, append_assoc, arith}
 use Rattle.std.proofs.lemmas.List.{append-nil, length-take}
-use Rattle.storage_tree.specs.declared.streams.NamedStream.{NamedStream}
+use Rattle.stored_streams.specs.declared.streams.NamedStream.{NamedStream}
 use Rattle.message_model.specs.Frames.{number_in}
 use Rattle.message_model.specs.Reading.{Reader, bad, blob, may_follow, more, name, sized, whole}
 use Rattle.message_drafts.specs.declared.draft.Opening.{Opening}

@@ -2,8 +2,8 @@
 use Rattle.std.proofs.Common.{◌≡◌, ℕ, zero, suc, ◌-◌, ◌+◌, ◌<◌, ◌≤◌, List, [], ◌∷◌, ◌++◌, length, take, refl, sym, ap, subst, ◌∙◌, append_assoc, arith, slice_set, slice_get, slice_index_or, Some, Result, Ok, Err}
 use Rattle.std.specs.Prelude.{OnOk}
 use Rattle.std.proofs.lemmas.List.{append-nil}
-use Rattle.storage_tree.specs.Streams.{AreAfter, AreInOrder}
-use Rattle.storage_tree.specs.declared.streams.NamedStream.{NamedStream}
+use Rattle.stored_streams.specs.Streams.{AreAfter, AreInOrder}
+use Rattle.stored_streams.specs.declared.streams.NamedStream.{NamedStream}
 use Rattle.message_drafts.specs.Drafts.{lengthened, longer, cut_last, last_len, Grew}
 
 pub lengthened_nil : (ss : List NamedStream) → lengthened ss [] ≡ ss

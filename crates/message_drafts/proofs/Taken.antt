@@ -1,9 +1,9 @@
 -- Bodies of which more bytes came, and what they keep.
 use Rattle.std.proofs.Common.{◌≡◌, ◌⊎◌, ℕ, zero, suc, ◌-◌, ◌+◌, ◌<◌, ◌≤◌, Bool, true, false, ◌&&◌, List, [], ◌∷◌, ◌++◌, length, take, drop, Some, None, refl, sym, ap, subst, ◌∙◌, append_assoc, arith, inl, inr}
 use Rattle.std.proofs.lemmas.List.{append-nil, length-take, length-append, take_at}
-use Rattle.storage_tree.specs.Streams.{AreInOrder, is_next}
-use Rattle.storage_tree.specs.declared.streams.NamedStream.{NamedStream}
-use Rattle.storage_tree.proofs.Ordered.{in_order-last}
+use Rattle.stored_streams.specs.Streams.{AreInOrder, is_next}
+use Rattle.stored_streams.specs.declared.streams.NamedStream.{NamedStream}
+use Rattle.stored_streams.proofs.Ordered.{in_order-last}
 use Rattle.object_parts.specs.Limits.{is_ole_name}
 use Rattle.std.specs.Prelude.{not}
 use Rattle.message_model.specs.Reading.{may_follow}

@@ -1,7 +1,7 @@
 -- A body of which some bytes came, and what is read of it with those that are to come.
 use Rattle.std.specs.Prelude.{◌≡◌, ◌⊎◌, ◌<◌, ◌≤◌, ◌+◌, ℕ, zero, suc, Bool, cond, List, [], ◌∷◌, ◌++◌, length, take, drop, Option, Some, None}
-use Rattle.storage_tree.specs.Streams.{AreInOrder}
-use Rattle.storage_tree.specs.declared.streams.NamedStream.{NamedStream}
+use Rattle.stored_streams.specs.Streams.{AreInOrder}
+use Rattle.stored_streams.specs.declared.streams.NamedStream.{NamedStream}
 use Rattle.message_drafts.specs.declared.draft.Draft.{Draft}
 use Rattle.message_drafts.specs.declared.draft.Plan.{Plan}
 use Rattle.message_drafts.specs.declared.back.Mark.{Mark}

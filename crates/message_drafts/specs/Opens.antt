@@ -1,8 +1,8 @@
 -- The first fields of a body, and the bytes behind them, whatever comes.
 use Rattle.std.specs.Prelude.{◌≡◌, ◌<◌, ◌+◌, ℕ, List, [], ◌++◌, length, take, Option, Some, None}
 use Rattle.object_parts.specs.Limits.{MOST_BYTES}
-use Rattle.storage_tree.specs.declared.stored.Stored.{Stored}
-use Rattle.storage_tree.specs.declared.streams.NamedStream.{NamedStream}
+use Rattle.stored_streams.specs.declared.stored.Stored.{Stored}
+use Rattle.stored_streams.specs.declared.streams.NamedStream.{NamedStream}
 use Rattle.message_drafts.specs.declared.draft.Phase.{Phase}
 use Rattle.wire_msgs.specs.declared.operation.Operation.TheVariants.{Load}
 use Rattle.message_model.specs.declared.frame.Frame.{Frame}

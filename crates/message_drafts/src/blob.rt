@@ -1,14 +1,14 @@
 //! The bytes of a blob, as they come.
 
 ghost use Rattle.message_drafts.specs.Drafts.{longer};
-ghost use Rattle.storage_tree.specs.declared.streams.NamedStream.{NamedStream};
+ghost use Rattle.stored_streams.specs.declared.streams.NamedStream.{NamedStream};
 ghost use Rattle.std.specs.Prelude.{[], ◌++◌, ◌≡◌, ◌≤◌, IfOk, OnErr, OnOk, length, take};
 
 use cfb_names::name::Name;
 use std::alloc::{AllocError, Global};
 use std::marker::Model;
-use storage_tree::bytes::Bytes;
-use storage_tree::streams::NamedStream;
+use stored_streams::streams::NamedStream;
+use stored_values::bytes::Bytes;
 
 /// The bytes of a blob, as they come.
 #[derive(Drop)]
@@ -123,7 +123,7 @@ pub struct Growing {
 }
 
 impl Model for Growing {
-    ghost use Rattle.storage_tree.specs.declared.streams.NamedStream.{NamedStream};
+    ghost use Rattle.stored_streams.specs.declared.streams.NamedStream.{NamedStream};
 
     ghost Value = { NamedStream };
 

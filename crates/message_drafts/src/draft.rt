@@ -3,7 +3,7 @@
 ghost use Rattle.message_drafts.specs.Drafts.{Begins, Advances, IsFull, IsLong, IsOver, IsPlanned, Keeps, Took, lengthened};
 ghost use Rattle.message_drafts.specs.declared.draft.Phase.TheVariants.{Fields, Picture};
 ghost use Rattle.message_model.specs.Reading.{may_follow};
-ghost use Rattle.storage_tree.specs.Streams.{is_next};
+ghost use Rattle.stored_streams.specs.Streams.{is_next};
 ghost use Rattle.std.specs.Prelude.{[], ◌∷◌, ◌≡◌, ◌≤◌, ◌<◌, IfOk, OnErr, OnOk, length, take};
 
 use crate::blob::{Blob, Growing};
@@ -12,7 +12,7 @@ use cfb_names::name::Name;
 use message_bodies::body::number_in;
 use object_parts::limits::is_ole_name;
 use std::alloc::{AllocError, Global};
-use storage_tree::class_id::ClassId;
+use stored_values::class_id::ClassId;
 
 /// What a body says before its first blob.
 #[derive(Drop)]

@@ -3,7 +3,7 @@
 ghost use Rattle.message_drafts.specs.Drafts.{IsField, IsLong, IsStreamField, need};
 ghost use Rattle.std.specs.Prelude.{◌++◌, ◌≡◌, ◌≤◌, ◌<◌, ◌+◌, length, take};
 
-use cfb_names::name::Name;
+use cfb_names::name::{Name, named};
 use message_bodies::body::number_in;
 
 /// How many bytes a field has, of which these came: a stream's name and length, or where none is to come, the picture's length.
@@ -41,7 +41,7 @@ fn stream_in(n: usize, rest: &[u8]) -> Option<(Name, usize)>
     }
     let (front, cells) = rest.split_at(n);
     let len = number_in(cells) as usize;
-    match Name::new(front) {
+    match named(front) {
         Ok(name) => Some((name, len)),
         Err(_) => None,
     }

@@ -13,7 +13,7 @@ use message_model::codes::{AnswerCode, Kind, OperationCode, answer_code_of, oper
 use message_model::frame::MOST_EDIT;
 use object_parts::limits::{MOST_BYTES, MOST_STREAMS};
 use std::alloc::Global;
-use storage_tree::class_id::ClassId;
+use stored_values::class_id::ClassId;
 
 // A number that isn't 0.
 fn take_number(xs: &[u8]) -> Option<(u32, &[u8])>

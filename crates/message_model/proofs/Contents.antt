@@ -7,10 +7,10 @@ use Rattle.std.proofs.lemmas.Bool.{ltb-false, le-ltb, ne_eqb}
 use Rattle.std.proofs.lemmas.List.{append-nil}
 use Rattle.cfb_names.specs.Names.{IsName, name_read, is_forbidden}
 use Rattle.object_parts.specs.Limits.{is_within, is_ole_name, has_ole_name, total}
-use Rattle.storage_tree.specs.Streams.{AreInOrder, is_next}
-use Rattle.storage_tree.specs.declared.streams.NamedStream.{NamedStream}
-use Rattle.storage_tree.specs.declared.stored.Stored.{Stored}
-use Rattle.storage_tree.proofs.Ordered.{in_order-last}
+use Rattle.stored_streams.specs.Streams.{AreInOrder, is_next}
+use Rattle.stored_streams.specs.declared.streams.NamedStream.{NamedStream}
+use Rattle.stored_streams.specs.declared.stored.Stored.{Stored}
+use Rattle.stored_streams.proofs.Ordered.{in_order-last}
 use Rattle.message_model.specs.declared.frame.Frame.{Frame}
 use Rattle.message_model.specs.Spelling as spelling
 use Rattle.message_model.specs.Spelling.{text, streams}

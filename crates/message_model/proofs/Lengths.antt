@@ -6,8 +6,8 @@ use Rattle.std.proofs.lemmas.List.{length-append}
 use Rattle.object_parts.specs.Limits.{is_within, has_ole_name, total}
 use Rattle.object_state.specs.MenuTexts.{is_menu_text}
 use Rattle.object_state.specs.Printable.{is_printable}
-use Rattle.storage_tree.specs.declared.streams.NamedStream.{NamedStream}
-use Rattle.storage_tree.specs.declared.stored.Stored.{Stored}
+use Rattle.stored_streams.specs.declared.streams.NamedStream.{NamedStream}
+use Rattle.stored_streams.specs.declared.stored.Stored.{Stored}
 use Rattle.wire_msgs.specs.declared.operation.Operation.{Operation}
 use Rattle.wire_msgs.specs.declared.operation.Operation.TheVariants as op
 use Rattle.wire_msgs.specs.declared.answer.Answer.{Answer}

@@ -5,9 +5,9 @@ use Rattle.std.specs.List.{AllByRecursion}
 use Rattle.cfb_names.specs.Names.{IsName}
 use Rattle.object_parts.specs.Limits.{is_within}
 use Rattle.object_state.specs.MenuTexts.{is_menu_text}
-use Rattle.storage_tree.specs.Streams.{AreInOrder}
-use Rattle.storage_tree.specs.declared.streams.NamedStream.{NamedStream}
-use Rattle.storage_tree.specs.declared.stored.Stored.{Stored}
+use Rattle.stored_streams.specs.Streams.{AreInOrder}
+use Rattle.stored_streams.specs.declared.streams.NamedStream.{NamedStream}
+use Rattle.stored_streams.specs.declared.stored.Stored.{Stored}
 use Rattle.wire_msgs.specs.declared.operation.Operation.{Operation}
 use Rattle.wire_msgs.specs.declared.operation.Operation.TheVariants.{InitNew, Load, UiActivate, Edit, Save, SaveCompleted, SaveDropped}
 use Rattle.wire_msgs.specs.declared.answer.Answer.{Answer}

@@ -7,9 +7,9 @@ use Rattle.object_parts.specs.Limits.{MOST_BYTES, MOST_STREAMS, is_ole_name}
 use Rattle.object_state.specs.MenuTexts.{is_menu_text}
 use Rattle.object_state.specs.declared.operations.CloseOption.{CloseOption}
 use Rattle.object_state.specs.declared.operations.CloseOption.TheVariants.{SaveIfDirty, NoSave}
-use Rattle.storage_tree.specs.Streams.{is_next}
-use Rattle.storage_tree.specs.declared.streams.NamedStream.{NamedStream}
-use Rattle.storage_tree.specs.declared.stored.Stored.{Stored}
+use Rattle.stored_streams.specs.Streams.{is_next}
+use Rattle.stored_streams.specs.declared.streams.NamedStream.{NamedStream}
+use Rattle.stored_streams.specs.declared.stored.Stored.{Stored}
 use Rattle.wire_msgs.specs.declared.operation.Operation.{Operation}
 use Rattle.wire_msgs.specs.declared.operation.Operation.TheVariants as op
 use Rattle.wire_msgs.specs.declared.answer.Answer.{Answer}

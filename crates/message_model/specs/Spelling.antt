@@ -5,8 +5,8 @@ use Rattle.std.specs.Int.{w16, w32, to_le_bytes}
 use Rattle.object_state.specs.declared.operations.CloseOption.{CloseOption}
 use Rattle.object_state.specs.declared.operations.CloseOption.TheVariants.{SaveIfDirty, NoSave}
 use Rattle.object_state.specs.declared.menu_texts.Menus.{Menus}
-use Rattle.storage_tree.specs.declared.streams.NamedStream.{NamedStream}
-use Rattle.storage_tree.specs.declared.stored.Stored.{Stored}
+use Rattle.stored_streams.specs.declared.streams.NamedStream.{NamedStream}
+use Rattle.stored_streams.specs.declared.stored.Stored.{Stored}
 use Rattle.wire_msgs.specs.Refusals.{code_of}
 use Rattle.wire_msgs.specs.declared.operation.Operation.{Operation}
 use Rattle.wire_msgs.specs.declared.operation.Operation.TheVariants.{InitNew, Load, InPlace, UiActivate, UiDeactivate, InPlaceDeactivate, OpenWindow, Edit, Save, HandsOff, SaveCompleted, SaveDropped, Close}

@@ -1,11 +1,11 @@
 //! Bytes and streams.
 
-use cfb_names::name::Name;
+use cfb_names::name::{Name, named};
 use std::alloc::Global;
 use std::process::Abort;
-use storage_tree::bytes::Bytes;
-use storage_tree::stored::Stored;
-use storage_tree::streams::NamedStream;
+use stored_streams::stored::Stored;
+use stored_streams::streams::NamedStream;
+use stored_values::bytes::Bytes;
 
 /// The bytes of a text.
 pub(crate) fn bytes_of(rt: &impl Abort, alloc: Global, text: &str) -> Bytes {
@@ -19,7 +19,7 @@ pub(crate) fn bytes(rt: &impl Abort, alloc: Global, count: usize) -> Bytes {
 }
 
 pub(crate) fn name(rt: &impl Abort, text: &str) -> Name {
-    Name::new(text.as_bytes()).expect(rt, "a name")
+    named(text.as_bytes()).expect(rt, "a name")
 }
 
 /// One stream more.

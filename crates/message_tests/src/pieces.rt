@@ -10,8 +10,8 @@ use message_bytes::fault::WireFault;
 use message_bytes::frame::Frame;
 use std::alloc::Global;
 use std::process::Abort;
-use storage_tree::stored::Stored;
-use storage_tree::streams::Streams;
+use stored_streams::stored::Stored;
+use stored_streams::streams::Streams;
 use wire_msgs::message::Message;
 use wire_msgs::operation::Operation;
 

@@ -5,10 +5,10 @@ use crate::texts::{number, word};
 use object_state::{CloseOption, Menus, Op, StateFault};
 use std::alloc::Global;
 use std::process::Abort;
-use storage_tree::bytes::Bytes;
-use storage_tree::class_id::ClassId;
-use storage_tree::stored::Stored;
-use storage_tree::streams::{NamedStream, Streams};
+use stored_streams::stored::Stored;
+use stored_streams::streams::{NamedStream, Streams};
+use stored_values::bytes::Bytes;
+use stored_values::class_id::ClassId;
 use wire_msgs::answer::Answer;
 use wire_msgs::items::Items;
 use wire_msgs::message::Message;
@@ -50,7 +50,12 @@ fn refusals_stand_by_their_codes(rt: HostRuntime) {
     for row in CODES.split('\n') {
         assert!(rt; has_code(row), "{row}");
     }
-    assert!(rt; Refusal::of_state(StateFault::NeedsStorage) == Refusal::NeedsStorage);
+    assert!(rt;
+        matches!(
+            Refusal::of_state(StateFault::NeedsStorage),
+            Refusal::NeedsStorage
+        )
+    );
 }
 
 fn two(rt: &impl Abort, alloc: Global) -> Items<u32> {
@@ -101,16 +106,19 @@ fn row_of_completed() -> Op {
     .op()
 }
 
+fn is_completed(op: Op) -> bool {
+    match op {
+        Op::SaveCompleted { save, storage } => save == 6 && !storage,
+        _ => false,
+    }
+}
+
 #[test]
 fn operations_have_their_rows(rt: HostRuntime) {
-    assert!(rt; row_of_load(rt.alloc()) == Op::Load);
-    let row = Op::SaveCompleted {
-        save: 6,
-        storage: false,
-    };
-    assert!(rt; row_of_completed() == row);
+    assert!(rt; matches!(row_of_load(rt.alloc()), Op::Load));
+    assert!(rt; is_completed(row_of_completed()));
     let close = Operation::Close(CloseOption::NoSave);
-    assert!(rt; close.op() == Op::Close(CloseOption::NoSave));
+    assert!(rt; matches!(close.op(), Op::Close(CloseOption::NoSave)));
 }
 
 /// Whether an operation is an edit of these bytes.

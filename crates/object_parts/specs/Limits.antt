@@ -2,8 +2,8 @@
 use Rattle.std.specs.Prelude.{ℕ, Bool, false, ◌+◌, ◌&&◌, ◌||◌, not, List, [], ◌∷◌, length, nat_le}
 use Rattle.std.specs.Ordering.{is_eq}
 use Rattle.cfb_names.specs.Names.{name_cmp}
-use Rattle.storage_tree.specs.declared.streams.NamedStream.{NamedStream}
-use Rattle.storage_tree.specs.declared.stored.Stored.{Stored}
+use Rattle.stored_streams.specs.declared.streams.NamedStream.{NamedStream}
+use Rattle.stored_streams.specs.declared.stored.Stored.{Stored}
 
 -- an object has at most so many streams of its own, and so many bytes in them and its picture together
 abbrev pub MOST_STREAMS : ℕ

@@ -3,9 +3,9 @@
 ghost use Rattle.std.specs.Prelude.{◌≡◌, ◌+◌, false, nat_le};
 ghost use Rattle.object_parts.specs.Limits.{COMP_OBJ, OLE, OLE_PRES, has_ole_name, is_ole_name, is_within, total};
 
-use cfb_names::name::Name;
-use storage_tree::stored::Stored;
-use storage_tree::streams::NamedStream;
+use cfb_names::name::{Name, named};
+use stored_streams::stored::Stored;
+use stored_streams::streams::NamedStream;
 
 /// The greatest number of streams of an object's own.
 pub const MOST_STREAMS: usize = 8;
@@ -17,7 +17,7 @@ pub const MOST_BYTES: usize = 262_144;
 pub fn ole() -> Name
     ensures { result ≡ OLE }
 {
-    match Name::new(b"\x01Ole") {
+    match named(b"\x01Ole") {
         Ok(name) => name,
         Err(_) => unreachable!(),
     }
@@ -27,7 +27,7 @@ pub fn ole() -> Name
 pub fn comp_obj() -> Name
     ensures { result ≡ COMP_OBJ }
 {
-    match Name::new(b"\x01CompObj") {
+    match named(b"\x01CompObj") {
         Ok(name) => name,
         Err(_) => unreachable!(),
     }
@@ -37,7 +37,7 @@ pub fn comp_obj() -> Name
 pub fn ole_pres() -> Name
     ensures { result ≡ OLE_PRES }
 {
-    match Name::new(b"\x02OlePres000") {
+    match named(b"\x02OlePres000") {
         Ok(name) => name,
         Err(_) => unreachable!(),
     }

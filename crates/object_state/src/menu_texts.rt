@@ -10,7 +10,7 @@ use std::marker::Model;
 pub const MENU_TEXT_MAX: usize = 16;
 
 /// A menu text: at most 16 bytes of printable ASCII (32 to 126), kept inline.
-#[derive(Clone, Copy, PartialEq, Eq)]
+#[derive(Clone, Copy)]
 pub struct MenuText {
     bytes: [u8; MENU_TEXT_MAX],
     len: u8,
@@ -59,7 +59,7 @@ impl MenuText {
 
 /// The menus that an object adds to its frame's menu bar while it holds the frame: a text for each
 /// of the groups Edit, Object and Help (IOleInPlaceFrame::InsertMenus).
-#[derive(Clone, Copy, PartialEq, Eq)]
+#[derive(Clone, Copy)]
 pub struct Menus {
     /// Group 1, Edit.
     pub edit: MenuText,

@@ -1,7 +1,7 @@
 //! The operations that a container asks of an object, as far as the states tell them apart.
 
 /// What becomes of the content of an object that closes (OLECLOSE of IOleObject::Close).
-#[derive(Clone, Copy, PartialEq, Eq)]
+#[derive(Clone, Copy)]
 pub enum CloseOption {
     /// The content is handed over (OLECLOSE_SAVEIFDIRTY).
     SaveIfDirty,
@@ -11,7 +11,7 @@ pub enum CloseOption {
 
 /// An operation without what it carries: no class, no content and no edit. Its numbers stay, since
 /// the states look at them.
-#[derive(Clone, Copy, PartialEq, Eq)]
+#[derive(Clone, Copy)]
 pub enum Op {
     /// Begins with an empty storage (IPersistStorage::InitNew).
     InitNew,

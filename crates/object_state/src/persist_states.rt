@@ -33,28 +33,28 @@ impl PersistState {
     {
         matches!(self, PersistState::Normal)
     }
+}
 
-    // The table's entry for an operation.
-    fn entry(self, op: Op) -> Result<PersistState, StateFault>
-        ensures { result ≡ persist.table op self }
-    {
-        match (self, op) {
-            (PersistState::Unset, Op::InitNew | Op::Load) => Ok(PersistState::Normal),
-            (PersistState::Unset, _) => Err(StateFault::NotInitialized),
-            (_, Op::InitNew | Op::Load) => Err(StateFault::AlreadyInitialized),
-            (PersistState::Normal, Op::Save(_)) => Ok(PersistState::NoScribble),
-            (PersistState::NoScribble, Op::Save(_)) => Err(StateFault::Scribble),
-            (PersistState::HandsOff, Op::Save(_) | Op::HandsOff) => Err(StateFault::HandsOff),
-            (_, Op::HandsOff) => Ok(PersistState::HandsOff),
-            (PersistState::Normal, Op::SaveCompleted { .. } | Op::SaveDropped(_)) => {
-                Err(StateFault::WrongState)
-            }
-            (PersistState::HandsOff, Op::SaveCompleted { storage: false, .. }) => {
-                Err(StateFault::NeedsStorage)
-            }
-            (_, Op::SaveCompleted { .. } | Op::SaveDropped(_)) => Ok(PersistState::Normal),
-            (state, _) => Ok(state),
+// The table's entry for an operation.
+fn entry(from: PersistState, op: Op) -> Result<PersistState, StateFault>
+    ensures { result ≡ persist.table op from }
+{
+    match (from, op) {
+        (PersistState::Unset, Op::InitNew | Op::Load) => Ok(PersistState::Normal),
+        (PersistState::Unset, _) => Err(StateFault::NotInitialized),
+        (_, Op::InitNew | Op::Load) => Err(StateFault::AlreadyInitialized),
+        (PersistState::Normal, Op::Save(_)) => Ok(PersistState::NoScribble),
+        (PersistState::NoScribble, Op::Save(_)) => Err(StateFault::Scribble),
+        (PersistState::HandsOff, Op::Save(_) | Op::HandsOff) => Err(StateFault::HandsOff),
+        (_, Op::HandsOff) => Ok(PersistState::HandsOff),
+        (PersistState::Normal, Op::SaveCompleted { .. } | Op::SaveDropped(_)) => {
+            Err(StateFault::WrongState)
         }
+        (PersistState::HandsOff, Op::SaveCompleted { storage: false, .. }) => {
+            Err(StateFault::NeedsStorage)
+        }
+        (_, Op::SaveCompleted { .. } | Op::SaveDropped(_)) => Ok(PersistState::Normal),
+        (state, _) => Ok(state),
     }
 }
 
@@ -91,8 +91,8 @@ impl Persist {
     pub fn step(self, op: Op) -> Result<Persist, StateFault>
         ensures { result ≡ persist.step self op }
     {
-        let state = self.state.entry(op)?;
-        if !self.may_end(op) {
+        let state = entry(self.state, op)?;
+        if !may_end(self, op) {
             return Err(StateFault::WrongState);
         }
         let last_save = match op {
@@ -101,17 +101,17 @@ impl Persist {
         };
         Ok(Persist { state, last_save })
     }
+}
 
-    // Whether the operation ends no save, or the last one.
-    fn may_end(self, op: Op) -> bool
-        ensures { result ≡ persist.ends_last (persist.ended_save op) self.last_save }
-    {
-        match op {
-            Op::SaveCompleted { save, .. } | Op::SaveDropped(save) => match self.last_save {
-                Some(last) => save == last,
-                None => false,
-            },
-            _ => true,
-        }
+// Whether the operation ends no save, or the last one.
+fn may_end(kept: Persist, op: Op) -> bool
+    ensures { result ≡ persist.ends_last (persist.ended_save op) kept.last_save }
+{
+    match op {
+        Op::SaveCompleted { save, .. } | Op::SaveDropped(save) => match kept.last_save {
+            Some(last) => save == last,
+            None => false,
+        },
+        _ => true,
     }
 }

@@ -78,6 +78,20 @@ fn op(name: &str) -> Op {
     }
 }
 
+/// Whether an operation of a step is the one of this name.
+fn is_op(op: Op, name: &str) -> bool {
+    match op {
+        Op::InPlace => name == "InPlace",
+        Op::UiActivate(9) => name == "UiActivate",
+        Op::UiDeactivate => name == "UiDeactivate",
+        Op::InPlaceDeactivate => name == "InPlaceDeactivate",
+        Op::OpenWindow => name == "OpenWindow",
+        Op::Close(CloseOption::SaveIfDirty) => name == "SaveIfDirty",
+        Op::Close(CloseOption::NoSave) => name == "NoSave",
+        _ => false,
+    }
+}
+
 fn completed(save: u32, storage: bool) -> Op {
     Op::SaveCompleted { save, storage }
 }
@@ -225,7 +239,7 @@ fn are_in_turn(steps: &[Step], words: &mut SplitWhitespace<'_>) -> bool {
 }
 
 fn is_step(step: Step, name: &str) -> bool {
-    step_name(step) == name && step.op(9) == op(name)
+    step_name(step) == name && is_op(step.op(9), name)
 }
 
 fn verb_has_its_steps(row: &str) -> bool {
@@ -250,7 +264,7 @@ fn verb(number: &str) -> Option<Verb> {
 
 fn close_has_its_steps(option: CloseOption, row: &str) -> bool {
     let mut words = row.split_whitespace();
-    if Op::Close(option) != op(word(&mut words)) {
+    if !is_op(Op::Close(option), word(&mut words)) {
         return false;
     }
     for state in WINDOWS.split_whitespace() {

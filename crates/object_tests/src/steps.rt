@@ -2,13 +2,13 @@
 //! it looks like), and the answer, each behind ` => `. Tables are texts, and the functions have no contracts: so the tests are quick to prove.
 
 use crate::texts::{halves, spelled};
-use cfb_names::name::Name;
+use cfb_names::name::named;
 use embed_core::embedded::Embedded;
 use embed_core::fault::EmbedFault;
 use embed_core::{Bytes, Streams};
 use std::alloc::Global;
 use std::process::Abort;
-use storage_tree::streams::NamedStream;
+use stored_streams::streams::NamedStream;
 
 /// The object answers each call as its line says, and is stored in a stream of this name.
 pub(crate) fn play(
@@ -116,7 +116,7 @@ fn streams_of(rt: &impl Abort, alloc: Global, text: &str) -> Streams {
 
 fn push(rt: &impl Abort, alloc: Global, streams: &mut Streams, text: &str) {
     let (name, bytes) = halves(text, "=");
-    let name = Name::new(name.as_bytes()).expect(rt, "a name");
+    let name = named(name.as_bytes()).expect(rt, "a name");
     let bytes = Bytes::from_vec(alloc, spelled(rt, alloc, bytes)).expect(rt, "memory");
     streams
         .push(NamedStream { name, bytes })

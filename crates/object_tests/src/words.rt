@@ -1,7 +1,7 @@
 //! Words, numbers and streams, as the kinds read and write them.
 
 use crate::texts::halves;
-use cfb_names::name::Name;
+use cfb_names::name::{Name, named};
 use embed_core::{Streams, picture, sole_stream, stream_names};
 use std::alloc::Global;
 use std::process::Abort;
@@ -24,7 +24,7 @@ fn a_sole_stream_is_found(rt: HostRuntime) {
     let streams = sole_stream::streams(rt.alloc(), stream_names::note(), bytes).expect(
         &rt, "memory",
     );
-    let name = Name::new(b"TEXT").expect(&rt, "a name");
+    let name = named(b"TEXT").expect(&rt, "a name");
     assert!(rt; is_found(&streams, &name, b"ab"));
     assert!(rt; is_missed(&streams, &stream_names::table()));
     assert!(rt; is_missed(&Streams::new(rt.alloc()), &stream_names::note()));

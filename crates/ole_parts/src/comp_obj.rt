@@ -8,8 +8,8 @@ ghost use Rattle.ole_parts.specs.declared.fault.OleFault.TheVariants.{NoMemory};
 use crate::fault::OleFault;
 use crate::fields::{format, push_number, push_string, string};
 use std::alloc::{AllocError, Global};
-use storage_tree::bytes::Bytes;
-use storage_tree::class_id::ClassId;
+use stored_values::bytes::Bytes;
+use stored_values::class_id::ClassId;
 
 /// The first bytes of the header, before the class id.
 const HEADER: [u8; 12] = [

@@ -7,7 +7,7 @@ ghost use Rattle.ole_parts.specs.Presentations.{PAST_DATA, are_lines, front, hei
 
 use crate::fields::push_number;
 use std::alloc::{AllocError, Global};
-use storage_tree::bytes::Bytes;
+use stored_values::bytes::Bytes;
 
 /// The fields before the advise flags: the clipboard format `OleCon Text`, no target device, the aspect for content, the
 /// index -1.

@@ -13,8 +13,8 @@ use Rattle.object_parts.specs.Limits.{OLE, COMP_OBJ, OLE_PRES, has_ole_name, is_
 use Rattle.object_parts.specs.declared.area.Area.{Area}
 use Rattle.storage_tree.specs.Tree.{Children, tree, none, stream, storage}
 use Rattle.storage_tree.specs.Change.{Seen, bytes, inner, child, find, place, without}
-use Rattle.storage_tree.specs.Streams.{AreAfter, AreInOrder, is_next}
-use Rattle.storage_tree.specs.declared.streams.NamedStream.{NamedStream}
+use Rattle.stored_streams.specs.Streams.{AreAfter, AreInOrder, is_next}
+use Rattle.stored_streams.specs.declared.streams.NamedStream.{NamedStream}
 use Rattle.storage_tree.proofs.Entries.{find-child, key_eq-flip, place-child, reflexive, without-child}
 use Rattle.storage_tree.proofs.Lawful.{find-place, find-place-other}
 use Rattle.storage_tree.proofs.Wholes.{tied}

@@ -2,7 +2,7 @@
 use Rattle.std.proofs.Common.{◌≡◌, ◌≤◌, ◌<◌, ◌+◌, ◌-◌, ◌++◌, ◌∷◌, ◌∙◌, ℕ, suc, List, [], true, Result, Ok, Err, length, take, drop, refl, sym, ap, arith, append_assoc}
 use Rattle.storage_tree.specs.Tree.{Children}
 use Rattle.storage_tree.specs.Change.{bytes, inner}
-use Rattle.storage_tree.specs.declared.streams.NamedStream.{NamedStream}
+use Rattle.stored_streams.specs.declared.streams.NamedStream.{NamedStream}
 use Rattle.object_parts.specs.declared.area.Area.{Area}
 use Rattle.document_model.specs.DocOf.{is_object}
 use Rattle.document_model.specs.DocTree.{object_name, object_tree, placed, with_objects, with_streams}

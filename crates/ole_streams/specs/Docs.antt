@@ -1,7 +1,7 @@
 -- Documents as values.
 use Rattle.std.specs.Prelude.{◌≡◌, ◌<◌, ◌≤◌, ◌^◌, List, [], ◌∷◌, true, length, Result, Ok, Err, IsOk}
 use Rattle.object_parts.specs.declared.area.Area.{Area}
-use Rattle.storage_tree.specs.Streams.{AreInOrder}
+use Rattle.stored_streams.specs.Streams.{AreInOrder}
 use Rattle.ole_parts.specs.CompObjs.{CLASS_BYTES}
 use Rattle.document_model.specs.DocOf.{is_object}
 use Rattle.document_model.specs.Layouts.{MOST_OBJECTS}

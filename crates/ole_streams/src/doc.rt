@@ -4,7 +4,7 @@ ghost use Rattle.std.specs.Prelude.{[], ◌≡◌, ◌<◌, ◌^◌, ◌↔◌, 
 ghost use Rattle.document_model.specs.DocOf.{pushed};
 ghost use Rattle.ole_parts.specs.CompObjs.{CLASS_BYTES};
 ghost use Rattle.ole_streams.specs.Docs.{IsArea, Pushes};
-ghost use Rattle.storage_tree.specs.Streams.{AreInOrder};
+ghost use Rattle.stored_streams.specs.Streams.{AreInOrder};
 
 pub use document_model::object::DocObject;
 use object_parts::area::Area;

@@ -20,7 +20,7 @@ use crate::doc::{Doc, DocObject};
 use crate::layout::read_layout;
 use crate::names;
 use cfb_names::key::Key;
-use cfb_names::name::Name;
+use cfb_names::name::{Name, key};
 use object_parts::area::Area;
 use object_parts::limits::{comp_obj, ole, ole_pres};
 use ole_parts::comp_obj::CompObj;
@@ -28,13 +28,13 @@ use ole_parts::fault::OleFault;
 use ole_parts::ole_stream::OleStream;
 use std::alloc::Global;
 use std::collections::BTreeMap;
-use storage_tree::bytes::Bytes;
-use storage_tree::class_id::ClassId;
-use storage_tree::fault::StreamsFault;
 use storage_tree::storage::{Node, Storage};
-use storage_tree::stored::Stored;
-use storage_tree::streams::{NamedStream, Streams};
 use storage_tree::tree::Tree;
+use stored_streams::fault::StreamsFault;
+use stored_streams::stored::Stored;
+use stored_streams::streams::{NamedStream, Streams};
+use stored_values::bytes::Bytes;
+use stored_values::class_id::ClassId;
 
 /// The children of a storage.
 type Entries = BTreeMap<Key, (Name, Node)>;
@@ -44,7 +44,7 @@ fn take(entries: &mut Entries, name: &Name) -> Option<(Name, Node)>
     ensures value { option_map shown result ≡ find (key name.now) (children entries.old.entries) }
     ensures rest { children entries.new.entries ≡ without (key name.now) (children entries.old.entries) }
 {
-    entries.remove(&name.key())
+    entries.remove(&key(name))
 }
 
 /// Takes away the stream of a name.

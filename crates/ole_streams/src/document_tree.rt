@@ -17,18 +17,18 @@ use crate::doc::{Doc, DocObject};
 use crate::layout::write_layout;
 use crate::names;
 use cfb_names::key::Key;
-use cfb_names::name::Name;
+use cfb_names::name::{Name, key};
 use object_parts::limits::{comp_obj, ole, ole_pres};
 use ole_parts::comp_obj::write_stream;
 use ole_parts::ole_stream::OleStream;
 use std::alloc::{AllocError, Global};
 use std::collections::BTreeMap;
-use storage_tree::bytes::Bytes;
-use storage_tree::class_id::ClassId;
 use storage_tree::storage::{Node, Storage};
-use storage_tree::stored::Stored;
-use storage_tree::streams::NamedStream;
 use storage_tree::tree::Tree;
+use stored_streams::stored::Stored;
+use stored_streams::streams::NamedStream;
+use stored_values::bytes::Bytes;
+use stored_values::class_id::ClassId;
 
 /// The children of a storage.
 type Entries = BTreeMap<Key, (Name, Node)>;
@@ -40,7 +40,7 @@ fn place(entries: &mut Entries, name: Name, node: Node) -> Result<(), AllocError
 {
     // The characters are read for what is promised of them: that the name is valid.
     let _ = name.as_bytes();
-    entries.insert(name.key(), (name, node))?;
+    entries.insert(key(&name), (name, node))?;
     Ok(())
 }
 

@@ -12,7 +12,7 @@ use object_parts::area::Area;
 use ole_parts::fault::OleFault;
 use ole_parts::fields::push_number;
 use std::alloc::{AllocError, Global};
-use storage_tree::bytes::Bytes;
+use stored_values::bytes::Bytes;
 
 /// The version of the stream.
 const VERSION: u32 = 1;

@@ -3,8 +3,8 @@
 ghost use Rattle.std.specs.Prelude.{◌≡◌, ◌<◌, ◌^◌};
 ghost use Rattle.document_model.specs.DocTree.{LAYOUT, ROOT_CLASS, decimal, object_name};
 
-use cfb_names::name::Name;
-use storage_tree::class_id::ClassId;
+use cfb_names::name::{Name, named};
+use stored_values::class_id::ClassId;
 
 /// The class id of a document's root.
 pub fn root_class() -> ClassId
@@ -20,7 +20,7 @@ pub fn root_class() -> ClassId
 pub fn layout() -> Name
     ensures { result ≡ LAYOUT }
 {
-    match Name::new(b"Layout") {
+    match named(b"Layout") {
         Ok(name) => name,
         Err(_) => unreachable!(),
     }
@@ -33,9 +33,9 @@ pub fn object(number: usize) -> Name
 {
     let digit = number as u8;
     let name = if digit < 10 {
-        Name::new(&[b'O', b'b', b'j', b'0' + digit])
+        named(&[b'O', b'b', b'j', b'0' + digit])
     } else {
-        Name::new(&[b'O', b'b', b'j', b'0' + digit / 10, b'0' + digit % 10])
+        named(&[b'O', b'b', b'j', b'0' + digit / 10, b'0' + digit % 10])
     };
     match name {
         Ok(name) => name,

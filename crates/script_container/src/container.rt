@@ -26,8 +26,8 @@ use ole_streams::doc::Doc;
 use script_model::host::Host;
 use script_model::step::Step;
 use std::alloc::Global;
-use storage_tree::bytes::Bytes;
 use store_model::disk::Disk;
+use stored_values::bytes::Bytes;
 use wire_msgs::items::Items;
 use wire_msgs::message::Message;
 

@@ -2,7 +2,7 @@
 
 use container_model::command::Command;
 use document_model::object::DocObject;
-use storage_tree::bytes::Bytes;
+use stored_values::bytes::Bytes;
 use wire_msgs::items::Items;
 use wire_msgs::message::Message;
 

@@ -22,9 +22,9 @@ use script_model::answer::Told;
 use script_model::host::Host;
 use script_texts::answers::opened_by;
 use std::alloc::Global;
-use storage_tree::bytes::Bytes;
 use store_model::disk::Disk;
 use store_model::fault::StoreFault;
+use stored_values::bytes::Bytes;
 
 /// The document of a disk, once its open journal is carried out, and the disk.
 fn document_on<D: Disk + Drop>(alloc: Global, disk: D) -> (Result<Vec<u8>, StoreFault>, D)

@@ -1,7 +1,7 @@
 -- What a server keeps of an activation beside its number and its object.
 use Rattle.std.specs.Prelude.{ℕ, List, Option}
 use Rattle.object_state.specs.declared.both_states.States.{States}
-use Rattle.storage_tree.specs.declared.stored.Stored.{Stored}
+use Rattle.stored_streams.specs.declared.stored.Stored.{Stored}
 use Rattle.wire_msgs.specs.declared.answer.Answer.{Answer}
 use Rattle.embed_core.specs.Content.{Content}
 use Rattle.server_model.specs.Server.{Activation}

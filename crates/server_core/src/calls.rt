@@ -20,7 +20,7 @@ use embed_core::fault::EmbedFault;
 use object_state::States;
 use server_model::fault::ServerFault;
 use std::alloc::{AllocError, Global};
-use storage_tree::class_id::ClassId;
+use stored_values::class_id::ClassId;
 use wire_msgs::answer::Answer;
 use wire_msgs::message::Message;
 use wire_msgs::operation::Operation;
@@ -151,6 +151,7 @@ impl ServerCore {
     {
         let inc = self.inc;
         let told = self.known(alloc, i, act, n, &operation);
+        // In one call: at each way out of a function an operation that it still has is let go of as a match over its kinds.
         drop(operation);
         match told {
             Ok(answered) => Ok(Reaction {

@@ -6,7 +6,7 @@ ghost use Rattle.std.specs.Prelude.{◌≡◌, ◌<◌, IfOk, length, true};
 
 use ole_parts::presentation::Presentation;
 use std::alloc::{AllocError, Global};
-use storage_tree::bytes::Bytes;
+use stored_values::bytes::Bytes;
 
 /// The stream of a picture of these lines, empty for a picture without lines.
 ///

@@ -19,8 +19,8 @@ use embed_core::fault::EmbedFault;
 use indexmap::IndexMap;
 use server_model::activation_view::ActivationView;
 use std::alloc::{AllocError, Global};
-use storage_tree::bytes::Bytes;
-use storage_tree::stored::Stored;
+use stored_streams::stored::Stored;
+use stored_values::bytes::Bytes;
 use wire_msgs::message::Message;
 use wire_msgs::operation::Operation;
 

@@ -11,7 +11,7 @@ use embed_drawing::drawing::Drawing;
 use embed_note::note::Note;
 use embed_table::table::Table;
 use std::alloc::{AllocError, Global};
-use storage_tree::class_id::ClassId;
+use stored_values::class_id::ClassId;
 
 /// The kinds of objects.
 #[derive(Clone, Copy)]

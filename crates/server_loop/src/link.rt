@@ -9,7 +9,7 @@ use crate::serving::{Advance, End, Serving};
 use embed_core::embedded::Embedded;
 use std::alloc::{AllocError, Global};
 use std::io::{Read, Write};
-use storage_tree::class_id::ClassId;
+use stored_values::class_id::ClassId;
 
 /// Why a link is left for now.
 #[derive(Clone, Copy)]

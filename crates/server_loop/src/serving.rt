@@ -24,7 +24,7 @@ use server_core::server::ServerCore;
 use server_model::fault::ServerFault;
 use std::alloc::{AllocError, Global};
 use std::io::{Read, Write};
-use storage_tree::class_id::ClassId;
+use stored_values::class_id::ClassId;
 use wire_msgs::answer::Answer;
 use wire_msgs::message::Message;
 use wire_msgs::operation::Operation;

@@ -7,7 +7,7 @@ use Rattle.object_state.specs.declared.faults.StateFault.{StateFault}
 use Rattle.object_state.specs.declared.operations.CloseOption.{CloseOption}
 use Rattle.object_state.specs.declared.operations.CloseOption.TheVariants.{SaveIfDirty, NoSave}
 use Rattle.object_state.specs.Persists.{may_write}
-use Rattle.storage_tree.specs.declared.stored.Stored.{Stored}
+use Rattle.stored_streams.specs.declared.stored.Stored.{Stored}
 use Rattle.embed_core.specs.Content.{Content, stored}
 use Rattle.embed_core.specs.Kinds.{Kind, kind_of, class_of, empty, menus_of, border_of}
 use Rattle.embed_core.specs.Objects as object

@@ -1,6 +1,6 @@
 //! Saves that a server counts.
 
-use storage_tree::stored::Stored;
+use stored_streams::stored::Stored;
 
 /// A save that a server counts, as it is told that it is completed.
 #[derive(Drop)]

@@ -1,13 +1,13 @@
 //! Calls, as rows spell them.
 
 use crate::words::{halves, number};
-use cfb_names::name::Name;
+use cfb_names::name::named;
 use embed_core::{Bytes, Stored, Streams, classes};
 use object_state::CloseOption;
 use std::alloc::Global;
 use std::process::Abort;
-use storage_tree::class_id::ClassId;
-use storage_tree::streams::NamedStream;
+use stored_streams::streams::NamedStream;
+use stored_values::class_id::ClassId;
 use wire_msgs::message::Message;
 use wire_msgs::operation::Operation;
 
@@ -16,7 +16,7 @@ fn bytes_of(rt: &impl Abort, alloc: Global, text: &str) -> Bytes {
 }
 
 fn push(rt: &impl Abort, streams: &mut Streams, bytes: Bytes) {
-    let name = Name::new(b"Text").expect(rt, "a name");
+    let name = named(b"Text").expect(rt, "a name");
     streams
         .push(NamedStream { name, bytes })
         .expect(rt, "the first stream");

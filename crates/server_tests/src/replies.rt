@@ -9,7 +9,7 @@ use server_model::activation_view::ActivationView;
 use server_model::counted::Counted;
 use server_model::hold::Hold;
 use std::str::SplitWhitespace;
-use storage_tree::class_id::ClassId;
+use stored_values::class_id::ClassId;
 use wire_msgs::answer::Answer;
 use wire_msgs::message::Message;
 use wire_msgs::refusal::Refusal as Why;

@@ -10,13 +10,13 @@ ghost use Rattle.storage_tree.specs.Tree.{child_names, none, tree};
 ghost use Rattle.storage_tree.specs.Change.{Changes, Outcome, inner, look, map_ok, put_seen};
 ghost use Rattle.storage_tree.specs.View.{found_seen, moved, seen, view};
 
-use crate::bytes::Bytes;
-use crate::class_id::ClassId;
 use crate::fault::TreeFault;
 use cfb_names::key::Key;
-use cfb_names::name::Name;
+use cfb_names::name::{Name, key};
 use std::alloc::{AllocError, Global};
 use std::collections::BTreeMap;
+use stored_values::bytes::Bytes;
+use stored_values::class_id::ClassId;
 
 /// A storage: its class id, its state bits and its children.
 #[cycle(storage)]
@@ -71,7 +71,7 @@ fn key_of(name: &Name) -> Key
 {
     // The characters are read for what is promised of them: that the name is valid.
     let _ = name.as_bytes();
-    name.key()
+    key(name)
 }
 
 impl Storage {
@@ -96,7 +96,7 @@ impl Storage {
     {
         match path {
             [] => Ok(Found::Storage(self)),
-            [name, rest @ ..] => match self.children.get(&name.key()) {
+            [name, rest @ ..] => match self.children.get(&key(name)) {
                 Some(child) => child.1.get(rest),
                 None => Err(TreeFault::NotFound),
             },
@@ -171,7 +171,7 @@ impl Storage {
         match path {
             [] => Err(TreeFault::WrongKind),
             [name] => self.edit_child(alloc, name, edit),
-            [name, rest @ ..] => match self.children.get_mut(&name.key()) {
+            [name, rest @ ..] => match self.children.get_mut(&key(name)) {
                 Some(child) => child.1.edit(alloc, rest, edit),
                 None => Err(TreeFault::NotFound),
             },
@@ -272,7 +272,7 @@ impl Storage {
         ensures names { IsName new }
         ensures change { Changes result (Edit.Rename new) (name.now ∷ []) (inner (view self.old)) (inner (view self.new)) }
     {
-        let key = name.key();
+        let key = key(name);
         let new_key = key_of(&new);
         if new_key.cmp(&key).is_eq() {
             return match self.children.get_mut(&key) {
@@ -317,7 +317,7 @@ impl Storage {
         ensures no_memory { result ≢ Err NoMemory }
         ensures change { Changes result Edit.Remove (name.now ∷ []) (inner (view self.old)) (inner (view self.new)) }
     {
-        if self.children.remove(&name.key()).is_none() {
+        if self.children.remove(&key(name)).is_none() {
             return Err(TreeFault::NotFound);
         }
         Ok(())

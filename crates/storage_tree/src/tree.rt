@@ -11,12 +11,12 @@ ghost use Rattle.storage_tree.specs.View.{found_seen};
 ghost use Rattle.storage_tree.specs.Whole.{AreWhole, IsTree};
 ghost use Rattle.storage_tree.specs.View.{view};
 
-use crate::bytes::Bytes;
-use crate::class_id::ClassId;
 use crate::fault::TreeFault;
 use crate::storage::{Edit, Found, Storage};
 use cfb_names::name::Name;
 use std::alloc::Global;
+use stored_values::bytes::Bytes;
+use stored_values::class_id::ClassId;
 
 /// How many storages may stand inside one another below the root.
 const DEEPEST: usize = 32;

@@ -38,8 +38,8 @@ use file_outline::filling::{bytes_at, storage_at};
 use file_outline::finding::place_at;
 use file_outline::outline::{Outline, Part, Place, is_short};
 use std::alloc::Global;
-use storage_tree::class_id::ClassId;
 use storage_tree::tree::Tree;
+use stored_values::class_id::ClassId;
 
 /// How many storages may stand inside one another below the root.
 const DEEPEST: u32 = 32;

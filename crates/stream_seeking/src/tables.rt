@@ -21,7 +21,7 @@ use cfb_places::places::Places;
 use file_outline::outline::{Place, is_short};
 use file_places::source::Source;
 use std::alloc::{AllocError, Global};
-use storage_tree::bytes::Bytes;
+use stored_values::bytes::Bytes;
 
 /// What finds the streams of a file.
 #[derive(Drop)]

@@ -9,7 +9,7 @@ ghost use Rattle.texts.specs.Words.{onto};
 
 use crate::words::{is_hidden, lower_digit};
 use cfb_names::fault::DirFault;
-use cfb_names::name::Name;
+use cfb_names::name::{Name, named};
 use std::alloc::{AllocError, Global};
 use std::marker::Model;
 use text_words::words::Pieces;
@@ -115,7 +115,7 @@ fn add_name(names: &mut Vec<Name>, bytes: &[u8]) -> Result<Result<(), DirFault>,
     ensures refused { IfOk result (λ r. IfErr r (λ fault. taken_name bytes.now ≡ Err fault)) }
     ensures within { IfErr result (λ _. IsOk (taken_name bytes.now)) }
 {
-    match Name::new(bytes) {
+    match named(bytes) {
         Ok(name) => {
             names.push(name)?;
             Ok(Ok(()))

@@ -5,7 +5,7 @@ ghost use Rattle.text_model.specs.Spelled.{byte_hex, byte_text, class_text, digi
 
 use crate::words::is_hidden;
 use std::alloc::{AllocError, Global};
-use storage_tree::class_id::ClassId;
+use stored_values::class_id::ClassId;
 use uuid::Uuid;
 
 /// The lower-case hexadecimal digit of a number below 16.

@@ -10,10 +10,10 @@ use crate::fault::LineFault;
 use cfb_names::name::Name;
 use file_model::limit::MOST_BYTES;
 use std::alloc::{AllocError, Global};
-use storage_tree::bytes::Bytes;
-use storage_tree::class_id::ClassId;
 use storage_tree::fault::TreeFault;
 use storage_tree::tree::Tree;
+use stored_values::bytes::Bytes;
+use stored_values::class_id::ClassId;
 
 /// A tree that is built, and how many bytes its streams have together. Once these are more than a file has, its streams
 /// are kept without their bytes, as nothing can come of it but a refusal.

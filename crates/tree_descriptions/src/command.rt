@@ -6,7 +6,7 @@ ghost use Rattle.texts.specs.Paths.{path_read};
 ghost use Rattle.texts.specs.Words.{content_read};
 
 use std::alloc::{AllocError, Global};
-use storage_tree::bytes::Bytes;
+use stored_values::bytes::Bytes;
 use text_words::words::{Pieces, number};
 use texts::path::{Path, is_path};
 use texts::words::{byte, content, is_content};

@@ -10,7 +10,7 @@ ghost use Rattle.storage_tree.specs.Whole.{IsTree, IsWhole};
 ghost use Rattle.stream_seeking.specs.Tables.{read_by};
 
 use cfb_names::key::Key;
-use cfb_names::name::Name;
+use cfb_names::name::{Name, key};
 use file_outline::outline::{Outline, Part};
 use file_places::source::Source;
 use std::alloc::{AllocError, Global};
@@ -27,7 +27,7 @@ fn push_child(
 ) -> Result<(), AllocError>
     ensures { OnOk result (pairs.new.items ≡ pairs.old.items ++ (key name, (name, node)) ∷ []) }
 {
-    Ok(pairs.push((name.key(), (name, node)))?)
+    Ok(pairs.push((key(&name), (name, node)))?)
 }
 
 /// The map of children whose keys ascend, made at once.

@@ -5,7 +5,7 @@ ghost use Rattle.std.specs.Prelude.{◌≡◌, IfOk};
 use crate::refusal::Refusal;
 use object_state::Menus;
 use std::alloc::{AllocError, Global};
-use storage_tree::stored::Stored;
+use stored_streams::stored::Stored;
 
 /// What a server answers to a call.
 #[derive(Drop)]

@@ -5,7 +5,7 @@ ghost use Rattle.std.specs.Prelude.{◌≡◌, IfOk};
 use crate::answer::Answer;
 use crate::operation::Operation;
 use std::alloc::{AllocError, Global};
-use storage_tree::stored::Stored;
+use stored_streams::stored::Stored;
 
 /// A message. Every number in it is at least 1.
 #[derive(Drop)]

@@ -5,9 +5,9 @@ ghost use Rattle.wire_msgs.specs.Operations.{op_of};
 
 use object_state::{CloseOption, Op};
 use std::alloc::{AllocError, Global};
-use storage_tree::bytes::Bytes;
-use storage_tree::class_id::ClassId;
-use storage_tree::stored::Stored;
+use stored_streams::stored::Stored;
+use stored_values::bytes::Bytes;
+use stored_values::class_id::ClassId;
 
 /// What a call asks of an object.
 #[derive(Drop)]

@@ -6,7 +6,7 @@ ghost use Rattle.wire_msgs.specs.Refusals.{code_of, of_state};
 use object_state::StateFault;
 
 /// Why a server refuses an operation: by the object, or by the tables of states.
-#[derive(Clone, Copy, PartialEq, Eq)]
+#[derive(Clone, Copy)]
 pub enum Refusal {
     /// The object doesn't know the edit.
     BadEdit,

@@ -12,7 +12,7 @@ use Rattle.wire_msgs.specs.declared.answer.Answer.TheVariants as told
 use Rattle.object_state.specs.Both as both
 use Rattle.object_state.specs.declared.both_states.States.{States}
 use Rattle.object_state.specs.declared.operations.CloseOption.TheVariants.{SaveIfDirty, NoSave}
-use Rattle.storage_tree.specs.declared.stored.Stored.{Stored}
+use Rattle.stored_streams.specs.declared.stored.Stored.{Stored}
 use Rattle.server_model.specs.Server.{Activation}
 use Rattle.container_model.specs.Messages.{next_s}
 use Rattle.container_model.specs.declared.record.Link.{Link}

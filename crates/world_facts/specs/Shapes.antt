@@ -11,7 +11,7 @@ use Rattle.server_model.specs.Server.{Activation}
 use Rattle.server_model.specs.declared.counted.Counted.{Counted}
 use Rattle.wire_msgs.specs.declared.operation.Operation.{Operation}
 use Rattle.wire_msgs.specs.declared.operation.Operation.TheVariants.{InitNew, Load, UiActivate, UiDeactivate, Save, SaveCompleted}
-use Rattle.storage_tree.specs.declared.stored.Stored.{Stored}
+use Rattle.stored_streams.specs.declared.stored.Stored.{Stored}
 use Rattle.container_model.specs.Commands.{begun_link}
 use Rattle.container_model.specs.declared.record.Link.{Link}
 use Rattle.world_model.specs.declared.life.Life.{Life}

@@ -10,7 +10,7 @@ use Rattle.object_parts.specs.Limits.{is_within}
 use Rattle.grant_core.specs.Grants.{Ask}
 use Rattle.grant_core.specs.Grants as grant
 use Rattle.object_state.specs.declared.verbs.Step.{Step}
-use Rattle.storage_tree.specs.declared.stored.Stored.{Stored}
+use Rattle.stored_streams.specs.declared.stored.Stored.{Stored}
 use Rattle.container_model.specs.declared.record.Link.{Link}
 use Rattle.container_model.specs.declared.record.Object.{Object}
 use Rattle.container_model.specs.declared.record.Frame.{Frame}

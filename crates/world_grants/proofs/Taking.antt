@@ -5,7 +5,7 @@ use Rattle.wire_msgs.specs.declared.message.Message.{Message}
 use Rattle.wire_msgs.specs.declared.message.Message.TheVariants.{Call, Reply, Write, Ask}
 use Rattle.object_parts.specs.Limits.{is_within}
 use Rattle.document_model.specs.declared.object.DocObject.{DocObject}
-use Rattle.storage_tree.specs.declared.stored.Stored.{Stored}
+use Rattle.stored_streams.specs.declared.stored.Stored.{Stored}
 use Rattle.container_model.specs.declared.record.Link.{Link}
 use Rattle.container_model.specs.declared.record.Object.{Object}
 use Rattle.container_model.specs.declared.command.Command.{Command}

@@ -20,7 +20,7 @@ use container_model::answer::{Done, Part};
 use container_model::fault::ContainerFault;
 use container_model::record::{Frame, Phase};
 use std::alloc::{AllocError, Global};
-use storage_tree::bytes::Bytes;
+use stored_values::bytes::Bytes;
 use wire_msgs::items::Items;
 use world_model::event::Stop;
 use world_model::logs::{Document, File};

@@ -16,7 +16,7 @@ use container_model::answer::Part;
 use container_model::fault::ContainerFault;
 use container_model::record::Phase;
 use std::alloc::{AllocError, Global};
-use storage_tree::bytes::Bytes;
+use stored_values::bytes::Bytes;
 use wire_msgs::items::Items;
 use world_model::event::Stop;
 use world_model::logs::Document;

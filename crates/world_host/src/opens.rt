@@ -12,7 +12,7 @@ use crate::commits::file_place;
 use crate::host::{Host, Servers};
 use container_model::fault::ContainerFault;
 use std::alloc::{AllocError, Global};
-use storage_tree::bytes::Bytes;
+use stored_values::bytes::Bytes;
 use world_model::logs::File;
 
 // The bytes of the file of this name.

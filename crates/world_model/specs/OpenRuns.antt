@@ -2,7 +2,7 @@
 use Rattle.std.specs.Prelude.{◌≡◌, ◌++◌, ℕ, List, [], ◌∷◌, map, Some, Result, Ok, Err, codes}
 use Rattle.std.specs.List.{range_with_len}
 use Rattle.embed_core.specs.Kinds.{Note, class_of, class_with}
-use Rattle.storage_tree.specs.declared.stored.Stored.{Stored}
+use Rattle.stored_streams.specs.declared.stored.Stored.{Stored}
 use Rattle.document_model.specs.declared.object.DocObject.{DocObject}
 use Rattle.container_model.specs.Opens.{Given}
 use Rattle.container_model.specs.declared.command.Command.TheVariants.{Run, Edit}

@@ -11,7 +11,7 @@ use Rattle.object_state.specs.declared.persist_states.PersistState.TheVariants.{
 use Rattle.grant_core.specs.declared.grant_states.GrantState.{GrantState}
 use Rattle.grant_core.specs.declared.grant_states.GrantState.TheVariants.{Free, Granting, Held, Revoking}
 use Rattle.embed_core.specs.Kinds.{Note, Table, Drawing, class_of}
-use Rattle.storage_tree.specs.declared.streams.NamedStream.{NamedStream}
+use Rattle.stored_streams.specs.declared.streams.NamedStream.{NamedStream}
 use Rattle.container_model.specs.Record.{is_doubtful}
 use Rattle.container_model.specs.Commands.{user_type}
 use Rattle.container_model.specs.declared.record.Frame.{Frame}

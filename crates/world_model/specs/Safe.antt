@@ -15,7 +15,7 @@ use Rattle.grant_core.specs.declared.grant_states.Tools.{Tools}
 use Rattle.grant_core.specs.declared.grant_states.GrantState.TheVariants.{Held}
 use Rattle.grant_core.specs.Grants.{waiting, who}
 use Rattle.object_state.specs.declared.persist_states.PersistState.TheVariants.{Normal}
-use Rattle.storage_tree.specs.declared.stored.Stored.{Stored}
+use Rattle.stored_streams.specs.declared.stored.Stored.{Stored}
 use Rattle.file_model.specs.Denotes.{Denotes}
 use Rattle.server_model.specs.Server.{Activation, is_act}
 use Rattle.container_model.specs.Record.{is_doubtful, is_object}

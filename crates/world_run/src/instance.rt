@@ -7,7 +7,7 @@ ghost use Rattle.world_run.specs.View.{seen_stocked};
 
 use embed_core::embedded::Embedded;
 use server_core::server::ServerCore;
-use storage_tree::class_id::ClassId;
+use stored_values::class_id::ClassId;
 use world_model::life::Life;
 
 /// A server of a world.

@@ -17,7 +17,7 @@ use container_model::command::Command;
 use embed_core::embedded::Embedded;
 use server_core::server::ServerCore;
 use std::alloc::Global;
-use storage_tree::bytes::Bytes;
+use stored_values::bytes::Bytes;
 use wire_msgs::message::Message;
 use world_host::container::Limits;
 use world_host::host::{Host, Servers, add};

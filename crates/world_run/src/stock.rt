@@ -11,7 +11,7 @@ ghost use Rattle.world_model.specs.World.{is_of};
 use crate::instance::Stocked;
 use embed_core::embedded::Embedded;
 use std::alloc::Global;
-use storage_tree::class_id::ClassId;
+use stored_values::class_id::ClassId;
 
 /// Fresh objects, of which a call that makes an activation takes one.
 #[derive(Drop)]

@@ -10,7 +10,7 @@ use Rattle.object_state.specs.declared.both_states.States.{States}
 use Rattle.object_state.specs.declared.faults.StateFault.{StateFault}
 use Rattle.object_state.specs.declared.operations.CloseOption.{CloseOption}
 use Rattle.object_state.specs.declared.operations.CloseOption.TheVariants.{SaveIfDirty, NoSave}
-use Rattle.storage_tree.specs.declared.stored.Stored.{Stored}
+use Rattle.stored_streams.specs.declared.stored.Stored.{Stored}
 use Rattle.server_model.specs.Server.{Activation}
 use Rattle.container_model.specs.declared.record.Link.{Link}
 use Rattle.container_model.specs.declared.grants.Tells.{Tells}

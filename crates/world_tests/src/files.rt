@@ -1,6 +1,6 @@
 //! The files of a world.
 
-use cfb_names::name::Name;
+use cfb_names::name::{Name, named};
 use ole_streams::doc::{Doc, DocObject};
 use ole_streams::document_of::document_of;
 use std::alloc::Global;
@@ -30,7 +30,7 @@ fn text_of_one(doc: &Doc, name: &Name) -> &'static str {
 }
 
 fn text_in(rt: &impl Abort, doc: &Doc) -> &'static str {
-    text_of_one(doc, &Name::new(b"Text").expect(rt, "a name"))
+    text_of_one(doc, &named(b"Text").expect(rt, "a name"))
 }
 
 /// The text of the one note in the document of the file of a frame.

@@ -1,7 +1,7 @@
 use Rattle.std.proofs.Common.{◌≡◌, refl}
-use Rattle.storage_tree.specs.declared.bytes.Bytes.{Bytes}
-use Rattle.storage_tree.specs.declared.class_id.ClassId.{ClassId}
-use Rattle.storage_tree.specs.declared.stored.Stored.{Stored}
+use Rattle.stored_values.specs.declared.bytes.Bytes.{Bytes}
+use Rattle.stored_values.specs.declared.class_id.ClassId.{ClassId}
+use Rattle.stored_streams.specs.declared.stored.Stored.{Stored}
 use Rattle.wire_msgs.specs.declared.operation.Operation.{Operation}
 use Rattle.wire_msgs.specs.declared.operation.Operation.TheVariants.{InitNew, Load, InPlace, UiActivate, UiDeactivate, InPlaceDeactivate, OpenWindow, Edit, Save, HandsOff, SaveCompleted, SaveDropped, Close}
 use Rattle.container_links.specs.Answered.{when_refused}

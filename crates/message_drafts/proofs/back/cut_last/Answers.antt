@@ -1,6 +1,6 @@
 use Rattle.std.proofs.Common.{◌≡◌, ◌-◌, ◌<◌, length, ap, ◌∙◌, slice_set, slice_index_or, List, ℕ, rules}
 use Rattle.std.specs.Vec.{vec_len}
-use Rattle.storage_tree.specs.declared.streams.NamedStream.{NamedStream}
+use Rattle.stored_streams.specs.declared.streams.NamedStream.{NamedStream}
 use Rattle.message_drafts.proofs.Streams.{set_cut}
 use Rattle.message_drafts.proofs.back.cut_last.Goals as goal
 

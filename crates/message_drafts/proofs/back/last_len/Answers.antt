@@ -1,5 +1,5 @@
 use Rattle.std.proofs.Common.{◌≡◌, ◌-◌, length, Some, slice_get, sym, ap, ◌∙◌}
-use Rattle.storage_tree.specs.declared.streams.NamedStream.{NamedStream}
+use Rattle.stored_streams.specs.declared.streams.NamedStream.{NamedStream}
 use Rattle.message_drafts.proofs.Streams.{last_of}
 use Rattle.message_drafts.proofs.back.last_len.Goals as goal
 

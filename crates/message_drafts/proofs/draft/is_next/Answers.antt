@@ -1,7 +1,7 @@
 use Rattle.std.proofs.Common.{◌≡◌, length, ◌-◌, Some, List, ℕ, slice_get, sym, ap, ◌∙◌}
 use Rattle.std.specs.Ordering.{is_lt}
 use Rattle.cfb_names.specs.Names.{name_cmp}
-use Rattle.storage_tree.proofs.Ordered.{last-next}
+use Rattle.stored_streams.proofs.Ordered.{last-next}
 use Rattle.message_drafts.proofs.draft.is_next.Goals as goal
 
 pub returns-in-Some : goal.returns-in-Some

@@ -1,6 +1,6 @@
 use Rattle.std.proofs.Common.{◌≡◌, ◌-◌, ◌<◌, length, sym, ap, ◌∙◌, slice_set, slice_index_or, List, ℕ, rules, arith}
 use Rattle.std.specs.Vec.{vec_len}
-use Rattle.storage_tree.specs.declared.streams.NamedStream.{NamedStream}
+use Rattle.stored_streams.specs.declared.streams.NamedStream.{NamedStream}
 use Rattle.message_drafts.specs.Drafts.{longer}
 use Rattle.message_drafts.proofs.Streams.{set_last, on_ok_then}
 use Rattle.message_drafts.proofs.draft.lengthen_last.Goals as goal

@@ -1,5 +1,5 @@
 use Rattle.std.proofs.Common.{◌≡◌, ◌+◌, ◌∙◌, length, min, refl, sym, ap, arith}
-use Rattle.storage_tree.specs.declared.stored.Stored.{Stored}
+use Rattle.stored_streams.specs.declared.stored.Stored.{Stored}
 use Rattle.file_model.specs.Limits.{MANY}
 use Rattle.file_model.specs.Need.{long_pieces, short_pieces}
 use Rattle.ole_parts.specs.CompObjs.{comp_obj_bytes}

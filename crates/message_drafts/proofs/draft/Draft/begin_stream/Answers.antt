@@ -1,5 +1,5 @@
 use Rattle.std.proofs.Common.{refl, sym, ap, ◌∙◌, [], ◌∷◌, ◌++◌, ◌≡◌, List, ℕ, true, false, rules}
-use Rattle.storage_tree.specs.declared.streams.NamedStream.{NamedStream}
+use Rattle.stored_streams.specs.declared.streams.NamedStream.{NamedStream}
 use Rattle.message_model.specs.Reading.{may_follow}
 use Rattle.message_drafts.proofs.Begun.{none_of, unfit_of, above_of, short_of, begun_of}
 use Rattle.message_drafts.proofs.Taken.{keeps_alike, keeps_pushed}
