@@ -6,3 +6,4 @@ pub use Rattle.chain_model.proofs.Results
 pub use Rattle.chain_model.proofs.Tables
 pub use Rattle.chain_model.proofs.Followed
 pub use Rattle.chain_model.proofs.Runs
+mod Entries

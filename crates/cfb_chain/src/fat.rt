@@ -18,6 +18,7 @@ use cfb_header::fault::ChainFault;
 use cfb_header::header::{END_OF_CHAIN, Header, NAMED};
 use cfb_places::places::Places;
 pub use chain_model::sector::FREE_SECTOR;
+use packed_entries::packed::PackedEntries;
 use std::alloc::{AllocError, Global};
 use std::marker::Model;
 
@@ -81,6 +82,16 @@ impl<'a> Pieces<'a> {
             Pieces::MiniRun(stream) => run_of(MINI_SECTOR, stream, 0, numbers),
             Pieces::MiniSectors(_) => None,
             Pieces::MiniPlaced(_, _) => None,
+        }
+    }
+
+    /// The bytes of some, one after another, where they are held as the entries of a directory.
+    fn entries(&self, numbers: &[u32]) -> Option<&'a PackedEntries>
+        ensures { IfSome result (λ entries. entries.now ≡ joined (λ n. block (width_of self.now) (bytes_of self.now) (start_of self.now + width_of self.now * n)) numbers.now) }
+    {
+        match self {
+            Pieces::Sectors(file) => file.entries(numbers),
+            _ => None,
         }
     }
 
@@ -244,6 +255,13 @@ impl<'a> Fat<'a> {
         ensures { IfSome result (λ bytes. bytes.now ≡ joined (store_of self.now).piece sectors.now) }
     {
         self.pieces.run(sectors)
+    }
+
+    /// The bytes of the sectors, one after another, where they are held as the entries of a directory.
+    pub fn entries(&self, sectors: &[u32]) -> Option<&'a PackedEntries>
+        ensures { IfSome result (λ entries. entries.now ≡ joined (store_of self.now).piece sectors.now) }
+    {
+        self.pieces.entries(sectors)
     }
 
     /// Marks the sectors of the chain from a sector on, which is to have room for `len` bytes. Where `len` is 0 there is no

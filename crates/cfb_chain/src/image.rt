@@ -6,8 +6,9 @@ ghost use Rattle.cfb_chain.specs.Fat.{sectors_in};
 ghost use Rattle.cfb_chain.specs.View.{image_bytes};
 ghost use Rattle.std.specs.Prelude.{◌≡◌, IfOk, IfSome, length};
 
-use crate::sectors::{SECTOR, are_consecutive, join_blocks, push_block, run_of};
+use crate::sectors::{SECTOR, are_consecutive, join_blocks, run_of};
 use cfb_places::places::Places;
+use packed_entries::packed::PackedEntries;
 use std::alloc::{AllocError, Global};
 
 /// The bytes of a file.
@@ -29,7 +30,7 @@ pub(crate) fn join_placed(
 {
     let mut out = Vec::with_capacity(alloc, SECTOR.saturating_mul(sectors.len()))?;
     for n in sectors {
-        push_block(&mut out, SECTOR, file.part(*n as usize + 1), 0)?;
+        file.push_block(&mut out, *n as usize + 1)?;
     }
     Ok(out)
 }
@@ -44,6 +45,14 @@ fn run_placed<'a>(file: &'a Places, sectors: &[u32]) -> Option<&'a [u8]>
     }
     let run = file.run(first as usize + 1, sectors.len())?;
     Some(run)
+}
+
+/// The bytes of sectors of a file of which some blocks were read, where they were read as all entries of a directory.
+fn entries_placed<'a>(file: &'a Places, sectors: &[u32]) -> Option<&'a PackedEntries>
+    ensures { IfSome result (λ entries. entries.now ≡ joined (sector file.now) sectors.now) }
+{
+    let entries = file.entries(sectors)?;
+    Some(entries)
 }
 
 impl<'a> Image<'a> {
@@ -81,6 +90,16 @@ impl<'a> Image<'a> {
         match self {
             Image::Whole(file) => run_of(SECTOR, file, SECTOR, sectors),
             Image::Placed(file) => run_placed(file, sectors),
+        }
+    }
+
+    /// The bytes of sectors, where they are held as the entries of a directory.
+    pub(crate) fn entries(&self, sectors: &[u32]) -> Option<&'a PackedEntries>
+        ensures { IfSome result (λ entries. entries.now ≡ joined (sector (image_bytes self.now)) sectors.now) }
+    {
+        match self {
+            Image::Whole(_) => None,
+            Image::Placed(file) => entries_placed(file, sectors),
         }
     }
 }

@@ -4,12 +4,13 @@ ghost use Rattle.cfb_directory.specs.Entries.{AreFree, AreLinked, IsEntry, IsFre
 ghost use Rattle.cfb_bytes.specs.Marks.{set_all};
 ghost use Rattle.cfb_bytes.specs.Bytes.{u16_at};
 ghost use Rattle.cfb_names.specs.Names.{IsName, is_forbidden};
+ghost use Rattle.cfb_directory.specs.Held.{held};
 ghost use Rattle.cfb_directory.specs.Walk.{IsTaken, MayRefuseName, unmarked};
 ghost use Rattle.cfb_names.specs.declared.fault.DirFault.TheVariants.{BadEntry, NoMemory};
 ghost use Rattle.std.specs.List.{All};
 ghost use Rattle.std.specs.Prelude.{◌≡◌, ◌<◌, ◌≤◌, ◌*◌, ◌/◌, ◌-◌, ◌∷◌, ◌++◌, [], false, true, replicate, length, vec_capacity, vec_len, IfErr, IfOk, OnErr, OnOk};
 
-use crate::bytes::{ENTRY_LEN, entry_bytes, entry_u32, whole_entry};
+use crate::held::Directory;
 use cfb_bytes::numbers::{read_u16, read_u32};
 use cfb_names::fault::DirFault;
 use cfb_names::name::{Name, is_forbidden};
@@ -23,7 +24,7 @@ pub const NO_STREAM: u32 = 0xffff_ffff;
 /// The entries of a directory, of which some are marked.
 #[derive(Drop)]
 struct Table<'a> {
-    directory: &'a [u8],
+    directory: Directory<'a>,
     used: Vec<bool>,
 }
 
@@ -144,24 +145,25 @@ fn push_within(list: &mut Vec<u32>, id: u32)
 impl<'a> Model for Table<'a> {
     ghost use Rattle.std.specs.Prelude.{◌≡◌, ◌/◌, length};
     ghost use Rattle.cfb_directory.specs.Entries.{EntriesValue};
+    ghost use Rattle.cfb_directory.specs.Held.{held};
 
     ghost Value = { EntriesValue };
 
-    ghost view = { λ t. record { directory = t.directory.now; used = t.used.items } };
+    ghost view = { λ t. record { directory = held t.directory; used = t.used.items } };
 
-    ghost invariant = { λ t. length t.used.items ≡ length t.directory.now / 128 };
+    ghost invariant = { λ t. length t.used.items ≡ length (held t.directory) / 128 };
 }
 
 impl<'a> Table<'a> {
     /// The entries of a directory that has some, of which the root alone is marked.
     ///
     /// Refused for want of memory alone.
-    fn load(alloc: Global, directory: &'a [u8]) -> Result<Table<'a>, DirFault>
-        requires some { 128 ≤ length directory.now }
-        ensures loaded { IfOk result (λ e. e ≡ record { directory = directory.now; used = set_all (replicate (length directory.now / 128) false) (0 ∷ []) }) }
+    fn load(alloc: Global, directory: Directory<'a>) -> Result<Table<'a>, DirFault>
+        requires some { 128 ≤ length (held directory) }
+        ensures loaded { IfOk result (λ e. e ≡ record { directory = held directory.entry; used = set_all (replicate (length (held directory.entry) / 128) false) (0 ∷ []) }) }
         ensures refused { IfErr result (λ e. e ≡ NoMemory) }
     {
-        let mut used = vec![in alloc; false; directory.len() / ENTRY_LEN]?;
+        let mut used = vec![in alloc; false; directory.count()]?;
         used[0] = true;
         Ok(Table { directory, used })
     }
@@ -172,12 +174,12 @@ impl<'a> Table<'a> {
         ensures valid { IfOk result (λ e. IsName e.name) }
         ensures refused { IfErr result (MayRefuseEntry self.now.directory id) }
     {
-        if self.directory.len() <= ENTRY_LEN * id as usize {
+        if !self.directory.has(id) {
             return Err(DirFault::BadEntry);
         }
-        match whole_entry(self.directory, id) {
+        match self.directory.whole_entry(id) {
             Some(entry) => self.read(id, entry),
-            None => self.read(id, &entry_bytes(self.directory, id)),
+            None => self.read(id, &self.directory.entry_bytes(id)),
         }
     }
 
@@ -187,12 +189,12 @@ impl<'a> Table<'a> {
         ensures valid { IfOk result IsName }
         ensures refused { IfErr result (MayRefuseEntry self.now.directory id) }
     {
-        if self.directory.len() <= ENTRY_LEN * id as usize {
+        if !self.directory.has(id) {
             return Err(DirFault::BadEntry);
         }
-        match whole_entry(self.directory, id) {
+        match self.directory.whole_entry(id) {
             Some(entry) => self.read_name(id, entry),
-            None => self.read_name(id, &entry_bytes(self.directory, id)),
+            None => self.read_name(id, &self.directory.entry_bytes(id)),
         }
     }
 
@@ -284,10 +286,10 @@ impl<'a> Table<'a> {
         ensures read { IfOk result (λ top. (128 * id < length self.now.directory) × (top ≡ child (entry_at self.now.directory id))) }
         ensures refused { IfErr result (λ e. (length self.now.directory ≤ 128 * id) × (e ≡ BadEntry)) }
     {
-        if self.directory.len() <= ENTRY_LEN * id as usize {
+        if !self.directory.has(id) {
             return Err(DirFault::BadEntry);
         }
-        Ok(entry_u32(self.directory, id, 76))
+        Ok(self.directory.entry_u32(id, 76))
     }
 
     /// The left and right link of an entry.
@@ -297,8 +299,8 @@ impl<'a> Table<'a> {
         ensures right { result.1 ≡ right (entry_at self.now.directory id) }
     {
         (
-            entry_u32(self.directory, id, 68),
-            entry_u32(self.directory, id, 72),
+            self.directory.entry_u32(id, 68),
+            self.directory.entry_u32(id, 72),
         )
     }
 
@@ -307,7 +309,7 @@ impl<'a> Table<'a> {
         ensures free { OnOk result (IsFree self.now id) }
         ensures refused { IfErr result (IsTaken self.now id) }
     {
-        if self.directory.len() <= ENTRY_LEN * id as usize {
+        if !self.directory.has(id) {
             return Err(DirFault::BadEntry);
         }
         match self.used.get(id as usize) {
@@ -345,12 +347,21 @@ impl<'a> Entries<'a> {
         ensures loaded { IfOk result (λ e. e ≡ record { directory = directory.now; used = set_all (replicate (length directory.now / 128) false) (0 ∷ []) }) }
         ensures refused { IfErr result (MayRefuseLoad directory.now) }
     {
-        let count = directory.len() / ENTRY_LEN;
+        Entries::over(alloc, Directory::Bytes(directory))
+    }
+
+    /// The same of a directory, however it is held.
+    pub fn over(alloc: Global, directory: Directory<'a>) -> Result<Entries<'a>, DirFault>
+        ensures loaded { IfOk result (λ e. e ≡ record { directory = held directory.entry; used = set_all (replicate (length (held directory.entry) / 128) false) (0 ∷ []) }) }
+        ensures refused { IfErr result (MayRefuseLoad (held directory.entry)) }
+    {
+        let count = directory.count();
         if count == 0 {
             return Err(DirFault::BadEntry);
         }
         let table = Table::load(alloc, directory)?;
-        let waiting = Vec::with_capacity(alloc, 2 * count + 1)?;
+        let room = count.saturating_add(count).saturating_add(1);
+        let waiting = Vec::with_capacity(alloc, room)?;
         let found = Vec::with_capacity(alloc, count)?;
         Ok(Entries {
             table,

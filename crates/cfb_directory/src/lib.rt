@@ -3,6 +3,7 @@
 
 mod bytes;
 pub mod entries;
+pub mod held;
 pub mod links;
 pub mod write;
 

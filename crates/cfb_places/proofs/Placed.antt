@@ -1,12 +1,12 @@
 -- The blocks of a file of which only some were read.
 use Rattle.std.proofs.Common.{◌≡◌, ◌≢◌, inl, inr, ◌<◌, ◌≤◌, ◌+◌, ◌-◌, ◌*◌, ◌/◌, ℕ, zero, suc, List, [], ◌∷◌, ◌++◌, length, take, drop, replicate, get_or, set, min, refl, sym, ap, subst, ◌∙◌, arith, append_assoc, drop-drop, length-append, length-drop, length-set}
-use Rattle.std.proofs.lemmas.List.{append-nil, drop_all, drop-append-le, get_or-set_other, get_or-set_same, get_or_default, length-replicate, length-take, same_lists, take-append-le, take_all, take_at, take-take}
+use Rattle.std.proofs.lemmas.List.{append-nil, drop_all, drop-append-le, get_or-set_other, get_or-set_same, get_or_default, get_or_past, length-replicate, length-take, same_lists, take-append-le, take_all, take_at, take-take}
 use Rattle.std.proofs.lemmas.Bool.{cases_lt}
 use Rattle.std.proofs.Math.Seq.{drop-append_seam, drop-append-add}
 use Rattle.std.proofs.lemmas.List.Elements.{All-replicate, All-set}
 use Rattle.std.specs.List.{All, flat_map, slice_range}
 use Rattle.cfb_bytes.specs.Bytes.{block}
-use Rattle.cfb_places.specs.Places.{IsPlaced, filled, placed}
+use Rattle.cfb_places.specs.Places.{IsPlaced, filled, placed, whole}
 
 -- ---- places behind which no block was read
 get_zeros : (n k : ℕ) → let zero_there : ℕ = get_or (replicate n 0) k 0 in zero_there ≡ 0
@@ -212,9 +212,6 @@ module _ (len : ℕ) (pool places bytes : List ℕ) (n : ℕ) (h : IsPlaced len 
       ]
 
 -- what the file has of the block, and zeros
-abbrev pub whole : List ℕ → List ℕ
-whole bytes = bytes ++ replicate (512 - length bytes) 0
-
 whole_length : (bytes : List ℕ) (m : ℕ) → length bytes ≡ min 512 m → length (whole bytes) ≡ 512
 whole_length bytes m e = length-append bytes (replicate (512 - length bytes) 0) ∙ omega (arith, length-replicate {A = ℕ} (512 - length bytes) 0, e)
 
@@ -259,15 +256,6 @@ module _ (len : ℕ) (pool places bytes new old : List ℕ) (n at : ℕ) (h : Is
 pub has_place : (len : ℕ) (pool places old : List ℕ) (n : ℕ) → IsPlaced len pool places → placed len pool places ≡ old → 512 * n < length old → n < len / 512 + 1
 has_place len pool places old n h is inside = omega (arith, ap length is, length_placed len pool places h, inside)
 
--- bytes, and then zeros up to a block
-pub filled_up : (n end at count : ℕ) (pool bytes mid new : List ℕ) → at ≡ length pool → end ≡ at + 512 → length bytes ≡ min 512 n → mid ≡ pool ++ bytes
-    → count ≡ length mid → new ≡ take end mid ++ replicate (end - count) 0 → new ≡ pool ++ whole bytes
-filled_up n end at count pool bytes mid new at_is end_is few mid_is count_is new_is =
-    let long : length mid ≡ length pool + length bytes = ap length mid_is ∙ length-append pool bytes in
-    let all : take end mid ≡ pool ++ bytes = take_all end mid (omega (arith, long, few)) ∙ mid_is in
-    let left : end - count ≡ 512 - length bytes = omega (arith, long) in
-    new_is ∙ (λ i. all i ++ replicate (left i) 0) ∙ append_assoc pool bytes (replicate (512 - length bytes) 0)
-
 -- the file has as many bytes, where only the pool grew
 pub pool_grown : (len : ℕ) (pool places bytes new : List ℕ) → IsPlaced len pool places → new ≡ pool ++ bytes → IsPlaced len new places
 pool_grown len pool places bytes new h e = record {
@@ -308,28 +296,58 @@ block_again pool at m all =
     let long : length a ≡ 512 = length_block 512 pool at in
     ap (λ xs. block 512 xs 0) (take_all m a (omega (arith, long, all))) ∙ whole_front a long
 
-module _ (len : ℕ) (pool places bytes mem table rest run : List ℕ) (first count at : ℕ) (mem_is : mem ≡ pool) (table_is : (k : ℕ) → get_or places k 0 ≡ get_or table k 0) (h : IsPlaced len pool places) (is : placed len pool places ≡ bytes)
-    (some : 0 < count) (inside : first + count ≤ len / 512) (turns : (k : ℕ) → k < count → get_or table (first + k) 0 ≡ at + 512 * k)
-    (rest_is : rest ≡ slice_range mem at (length mem)) (run_is : run ≡ slice_range rest 0 (512 * count)) where
-  in_turn : (k : ℕ) → k < count → get_or places (first + k) 0 ≡ at + 512 * k
-  in_turn k l = table_is (first + k) ∙ turns k l
+-- Blocks that stand one after another in the pool: block `place k` of the file is the k-th of them.
+module _ (len : ℕ) (pool places bytes run : List ℕ) (place : ℕ → ℕ) (count at : ℕ) (h : IsPlaced len pool places) (is : placed len pool places ≡ bytes)
+    (inside : (k : ℕ) → k < count → place k < len / 512) (turns : (k : ℕ) → k < count → get_or places (place k) 0 ≡ at + 512 * k)
+    (run_is : run ≡ take (512 * count) (drop at pool)) where
+  in_pool : (k : ℕ) → k < count → at + 512 * k + 512 ≤ length pool
+  in_pool k l = omega (arith, turns k l, h.inside (place k) 0 (omega (arith, inside k l, h.enough)))
 
-  in_pool : at + 512 * count ≤ length pool
-  in_pool =
-      let l : first + (count - 1) < length places = omega (arith, inside, some, h.enough) in
-      omega (arith, h.inside (first + (count - 1)) 0 l, in_turn (count - 1) (omega (arith, some)), some)
-
-  rest_whole : rest ≡ drop at pool
-  rest_whole = rest_is ∙ ap (λ xs. slice_range xs at (length xs)) mem_is ∙ take_all (length pool - at) (drop at pool) (omega (arith, length-drop at pool))
-
-  run_cut : run ≡ take (512 * count) (drop at pool)
-  run_cut = let none : 512 * count - 0 ≡ 512 * count = omega arith in run_is ∙ (λ i. take (none i) (rest_whole i))
-
-  pub run_each : (k : ℕ) → k < count → block 512 run (512 * k) ≡ block 512 bytes (512 * (first + k))
+  pub run_each : (k : ℕ) → k < count → block 512 run (512 * k) ≡ block 512 bytes (512 * place k)
   run_each k l =
-      let there : first + k < length places = omega (arith, inside, l, h.enough) in
-      run_block pool run at count (512 * count) k run_cut (omega (arith, in_pool)) (omega (arith, in_pool)) (omega (arith, l))
-      ∙ ap (block 512 pool) (sym (in_turn k l))
-      ∙ sym (block_again pool (get_or places (first + k) 0) (len - 512 * (first + k)) (omega (arith, inside, l)))
-      ∙ sym (block_placed len pool places (first + k) there)
-      ∙ ap (λ xs. block 512 xs (512 * (first + k))) is
+      let there : place k < length places = omega (arith, inside k l, h.enough) in
+      let last : at + 512 * (count - 1) + 512 ≤ length pool = in_pool (count - 1) (omega (arith, l)) in
+      run_block pool run at count (512 * count) k run_is (omega (arith, last, l)) (omega (arith, last)) (omega (arith, l))
+      ∙ ap (block 512 pool) (sym (turns k l))
+      ∙ sym (block_again pool (get_or places (place k) 0) (len - 512 * place k) (omega (arith, inside k l)))
+      ∙ sym (block_placed len pool places (place k) there)
+      ∙ ap (λ xs. block 512 xs (512 * place k)) is
+
+-- ---- a block that is added to others
+-- the first bytes of a block with zeros behind them
+pub block_cut : (xs : List ℕ) (size : ℕ) → length xs ≡ size → size ≤ 512 → xs ++ replicate (512 - size) 0 ≡ block 512 xs 0
+unfolding block
+block_cut xs size long few =
+    (λ i. sym (take_all 512 xs (omega (arith, long, few))) i ++ replicate (512 - sym long i) 0)
+
+-- what was pushed, and zeros up to a block
+pub pushed : (out mid new part : List ℕ) (size end count : ℕ) → mid ≡ out ++ part → length part ≡ size → size ≤ 512 → end ≡ length out + 512
+    → count ≡ length mid → new ≡ take end mid ++ replicate (end - count) 0 → new ≡ out ++ block 512 part 0
+pushed out mid new part size end count mid_is part_long few end_is count_is new_is =
+    let long : length mid ≡ length out + size = omega (arith, ap length mid_is, length-append out part, part_long) in
+    let all : take end mid ≡ out ++ part = take_all end mid (omega (arith, long, end_is, few)) ∙ mid_is in
+    let left : end - count ≡ 512 - size = omega (arith, long, end_is, count_is) in
+    new_is ∙ (λ i. all i ++ replicate (left i) 0) ∙ append_assoc out part (replicate (512 - size) 0) ∙ ap (λ xs. out ++ xs) (block_cut part size part_long few)
+
+-- a block that is looked at, where the file has it and where not
+pub part_at : (len : ℕ) (pool places bytes : List ℕ) (n at size : ℕ) → IsPlaced len pool places → placed len pool places ≡ bytes
+    → at ≡ get_or places n 0 → size ≡ min (len - 512 * n) 512 → block 512 (take size (drop at pool)) 0 ≡ block 512 bytes (512 * n)
+part_at len pool places bytes n at size h is at_is size_is =
+    elim (cases_lt (512 * n) len) [
+      | inl inside ↦
+          let e : size ≡ at + size - at = omega arith in
+          ap (λ c. block 512 (take c (drop at pool)) 0) e
+          ∙ part_here len pool places bytes n at size h is (omega (arith, inside, h.enough)) at_is size_is
+      | inr past ↦
+          let e : size ≡ 0 = omega (arith, size_is, past) in
+          ap (λ c. block 512 (take c (drop at pool)) 0) e ∙ part_past len pool places bytes n h is past
+    ]
+
+-- so many bytes are there
+pub part_fits : (len : ℕ) (pool places : List ℕ) (n at size : ℕ) → IsPlaced len pool places → at ≡ get_or places n 0 → size ≡ min (len - 512 * n) 512
+    → at + size ≤ length pool
+part_fits len pool places n at size h at_is size_is =
+    elim (cases_lt n (length places)) [
+      | inl l ↦ omega (arith, at_is, size_is, h.inside n 0 l)
+      | inr past ↦ omega (arith, at_is, size_is, h.enough, past, get_or_past places n 0 past)
+    ]

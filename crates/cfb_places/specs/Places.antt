@@ -7,6 +7,10 @@ use Rattle.cfb_bytes.specs.Bytes.{block}
 abbrev pub placed : ℕ → List ℕ → List ℕ → List ℕ
 placed len pool places = take len (flat_map (block 512 pool) places)
 
+-- a block of which these are the first bytes, zero bytes standing for the others
+abbrev pub whole : List ℕ → List ℕ
+whole bytes = bytes ++ replicate (512 - length bytes) 0
+
 -- the places of so many blocks, the first of which begin at these; the others begin where the pool does, at zero bytes
 abbrev pub filled : ℕ → List ℕ → List ℕ
 filled count places = places ++ replicate (count - length places) 0

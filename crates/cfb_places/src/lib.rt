@@ -2,3 +2,4 @@
 #![tactic(auto)]
 
 pub mod places;
+pub mod pool;

@@ -11,7 +11,7 @@ use crate::source::Source;
 use cfb_chain::difat::{FatSectors, fat_sectors, next_difat};
 use cfb_chain::image::Image;
 use cfb_header::header::Header;
-use cfb_places::places::Places;
+use cfb_places::places::{Held, Places};
 use std::alloc::Global;
 
 /// Reads the sectors of the DIFAT, each of which names the next.
@@ -29,7 +29,7 @@ fn read_difat<S: Source>(
 {
     let mut at = header.first_difat();
     for _ in 0..header.difat_count() {
-        read_sectors(alloc, source, file, &[at])?;
+        read_sectors(alloc, source, file, &[at], Held::Plain)?;
         at = next_difat(alloc, &Image::Placed(file), at)?;
     }
     Ok(())
@@ -51,6 +51,6 @@ pub(crate) fn read_lists<S: Source>(
 {
     read_difat(alloc, source, file, header)?;
     let sectors = fat_sectors(alloc, header, &Image::Placed(file))?;
-    read_sectors(alloc, source, file, &sectors.fat)?;
+    read_sectors(alloc, source, file, &sectors.fat, Held::Plain)?;
     Ok(sectors)
 }

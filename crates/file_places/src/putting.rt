@@ -3,15 +3,17 @@
 ghost use Rattle.cfb_bytes.specs.Bytes.{block};
 ghost use Rattle.std.specs.Prelude.{◌*◌, ◌+◌, ◌-◌, ◌<◌, ◌≡◌, ◌≤◌, ◌^◌, OnOk, length, min, ℕ};
 
-use cfb_places::places::{BLOCK, Places};
-use std::alloc::AllocError;
+use cfb_places::places::{BLOCK, Held, Places};
+use std::alloc::{AllocError, Global};
 
-/// Puts the bytes of blocks from one on in their places: so many blocks, or as many as the file has.
+/// Puts the bytes of blocks from one on in their places, held as is asked: so many blocks, or as many as the file has.
 pub(crate) fn put_run(
+    alloc: Global,
     file: &mut Places,
     first: usize,
     count: usize,
     bytes: &[u8],
+    held: Held,
 ) -> Result<(), AllocError>
     requires near { first ≤ 2 ^ 40 }
     requires whole { length bytes.now ≡ min (512 * count) (length file.old - 512 * first) }
@@ -24,7 +26,7 @@ pub(crate) fn put_run(
     for k in 0..blocks {
         let at = BLOCK * k;
         let end = BLOCK.min(bytes.len() - at) + at;
-        file.put(first + k, &bytes[at..end])?;
+        file.put(alloc, first + k, &bytes[at..end], held)?;
     }
     Ok(())
 }

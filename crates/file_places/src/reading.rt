@@ -11,7 +11,7 @@ use crate::listing::read_lists;
 use crate::sectors::{read_bytes, read_sectors};
 use crate::source::Source;
 use cfb_header::header::Header;
-use cfb_places::places::{BLOCK, Places};
+use cfb_places::places::{BLOCK, Held, Places};
 use std::alloc::Global;
 
 /// The most bytes that a file may have.
@@ -22,7 +22,7 @@ const MOST: u64 = 134_217_728;
 pub struct Catalog {
     /// What its header says.
     pub header: Header,
-    /// Its bytes, zero bytes standing for those that weren't read.
+    /// Its bytes, zero bytes standing for those that weren't read. Those of the directory are held as entries.
     pub file: Places,
 }
 
@@ -61,10 +61,10 @@ pub fn read_catalog<S: Source>(alloc: Global, source: &mut S) -> Result<Catalog,
         Err(fault) => return Err(PlacesFault::Header(fault)),
     };
     let mut file = Places::new(alloc, len)?;
-    file.put(0, &front)?;
+    file.put(alloc, 0, &front, Held::Plain)?;
     let sectors = read_lists(alloc, source, &mut file, &header)?;
     let chains = find_chains(alloc, &file, &sectors.fat, &header)?;
-    read_sectors(alloc, source, &mut file, &chains.directory)?;
-    read_sectors(alloc, source, &mut file, &chains.mini_fat)?;
+    read_sectors(alloc, source, &mut file, &chains.directory, Held::Entries)?;
+    read_sectors(alloc, source, &mut file, &chains.mini_fat, Held::Plain)?;
     Ok(Catalog { header, file })
 }

@@ -8,7 +8,7 @@ use crate::fault::PlacesFault;
 use crate::putting::put_run;
 use crate::runs::run_length;
 use crate::source::Source;
-use cfb_places::places::{BLOCK, Places};
+use cfb_places::places::{BLOCK, Held, Places};
 use std::alloc::Global;
 
 /// So many bytes from a place on.
@@ -30,13 +30,14 @@ pub(crate) fn read_bytes<S: Source>(
     }
 }
 
-/// Reads sectors that stand one after another, so many from one on, as far as the file goes.
+/// Reads sectors that stand one after another, so many from one on, as far as the file goes, to be held as is asked.
 fn read_run<S: Source>(
     alloc: Global,
     source: &mut S,
     file: &mut Places,
     first: u32,
     count: usize,
+    held: Held,
 ) -> Result<(), PlacesFault>
     ensures len { length file.new ≡ length file.old }
     ensures front { OnOk result (block 512 file.new 0 ≡ block 512 file.old 0) }
@@ -50,16 +51,17 @@ fn read_run<S: Source>(
     }
     let size = BLOCK.saturating_mul(count).min(file.len() - start);
     let bytes = read_bytes(alloc, source, start, size)?;
-    put_run(file, first as usize + 1, count, &bytes)?;
+    put_run(alloc, file, first as usize + 1, count, &bytes, held)?;
     Ok(())
 }
 
-/// Reads sectors, neighbours at once.
+/// Reads sectors, neighbours at once, to be held as is asked.
 pub(crate) fn read_sectors<S: Source>(
     alloc: Global,
     source: &mut S,
     file: &mut Places,
     sectors: &[u32],
+    held: Held,
 ) -> Result<(), PlacesFault>
     ensures len { length file.new ≡ length file.old }
     ensures front { OnOk result (block 512 file.new 0 ≡ block 512 file.old 0) }
@@ -70,7 +72,7 @@ pub(crate) fn read_sectors<S: Source>(
     let mut at = 0;
     while at < sectors.len() {
         let count = run_length(sectors, at);
-        read_run(alloc, source, file, sectors[at], count)?;
+        read_run(alloc, source, file, sectors[at], count, held)?;
         at += count;
     }
     Ok(())

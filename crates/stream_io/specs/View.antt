@@ -1,8 +1,9 @@
 -- The bytes of a directory that is read.
 use Rattle.std.specs.Prelude.{ℕ, List}
-use Rattle.stream_io.specs.declared.read.Directory.{Directory}
-use Rattle.stream_io.specs.declared.read.Directory.TheVariants.{Run, Joined}
+use Rattle.cfb_directory.specs.Held.{held}
+use Rattle.stream_io.specs.declared.read.FoundDirectory.{FoundDirectory}
+use Rattle.stream_io.specs.declared.read.FoundDirectory.TheVariants.{Lent, Joined}
 
-abbrev pub directory_bytes : Directory → List ℕ
-directory_bytes (Run run) = run.now
+abbrev pub directory_bytes : FoundDirectory → List ℕ
+directory_bytes (Lent directory) = held directory
 directory_bytes (Joined whole) = whole.items

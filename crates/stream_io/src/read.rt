@@ -6,6 +6,7 @@ ghost use Rattle.cfb_header.specs.Header.{IsHeader, header_read};
 ghost use Rattle.cfb_chain.specs.View.{image_bytes};
 ghost use Rattle.cfb_header.specs.declared.fault.ChainFault.{ChainFault};
 ghost use Rattle.cfb_directory.specs.Entries.{IsEntry};
+ghost use Rattle.cfb_directory.specs.Held.{held};
 ghost use Rattle.cfb_names.specs.Names.{key};
 ghost use Rattle.std.specs.List.{All};
 ghost use Rattle.std.specs.Prelude.{[], ◌*◌, ◌<◌, ◌≡◌, ◌≢◌, ◌↔◌, IfErr, IfOk, IsTrue, List, OnOk, length, slice_index_or, suc, take, true, ℕ};
@@ -28,6 +29,7 @@ use crate::fault::{ReadFault, StreamFault};
 use cfb_chain::fat::Fat;
 use cfb_chain::image::Image;
 use cfb_directory::entries::{Entries, Entry, EntryKind};
+use cfb_directory::held::Directory;
 use cfb_header::header::Header;
 use cfb_names::fault::DirFault;
 use cfb_names::name::Name;
@@ -199,21 +201,21 @@ struct Layout<'a> {
 
 /// The bytes of a directory.
 #[derive(Drop)]
-enum Directory<'a> {
-    /// Its sectors stand one after another in the file.
-    Run(&'a [u8]),
+enum FoundDirectory<'a> {
+    /// They stand in memory as they are read.
+    Lent(Directory<'a>),
     /// They were joined.
     Joined(Vec<u8>),
 }
 
-impl<'a> Directory<'a> {
+impl<'a> FoundDirectory<'a> {
     /// Its bytes.
-    fn bytes(&self) -> &[u8]
-        ensures { result.now ≡ directory_bytes self.now }
+    fn lent(&self) -> Directory<'_>
+        ensures { held result ≡ directory_bytes self.now }
     {
         match self {
-            Directory::Run(run) => run,
-            Directory::Joined(bytes) => bytes.as_slice(),
+            FoundDirectory::Lent(directory) => *directory,
+            FoundDirectory::Joined(bytes) => Directory::Bytes(bytes.as_slice()),
         }
     }
 }
@@ -223,18 +225,19 @@ fn directory_of<'a>(
     alloc: Global,
     fat: &Fat<'a>,
     sectors: &[u32],
-) -> Result<Directory<'a>, ReadFault>
+) -> Result<FoundDirectory<'a>, ReadFault>
     requires { All (λ n. n < length fat.now.table) sectors.now }
     ensures bytes { IfOk result (λ d. directory_bytes d ≡ joined (store_of fat.now).piece sectors.now) }
     ensures refused { IfErr result (λ e. e ≡ NoMemory) }
 {
-    match fat.run(sectors) {
-        Some(run) => Ok(Directory::Run(run)),
-        None => {
-            let bytes = fat.join(alloc, sectors)?;
-            Ok(Directory::Joined(bytes))
-        }
+    if let Some(entries) = fat.entries(sectors) {
+        return Ok(FoundDirectory::Lent(Directory::Packed(entries)));
     }
+    if let Some(run) = fat.run(sectors) {
+        return Ok(FoundDirectory::Lent(Directory::Bytes(run)));
+    }
+    let bytes = fat.join(alloc, sectors)?;
+    Ok(FoundDirectory::Joined(bytes))
 }
 
 /// The tables and the outline of a compound file whose header was read (MS-CFB 2). Each chain of sectors is walked once,
@@ -253,7 +256,7 @@ fn walk<'a>(alloc: Global, header: &Header, file: Image<'a>) -> Result<Layout<'a
     let mut fat = Fat::load(alloc, header, file)?;
     let chain = fat.chain(alloc, header.first_directory())?;
     let directory = directory_of(alloc, &fat, &chain)?;
-    let entries = Entries::load(alloc, directory.bytes())?;
+    let entries = Entries::over(alloc, directory.lent())?;
     let root = entries.entry(0)?;
     let mini = fat.mini(alloc, header, root.first, root.size)?;
     let mut reader = Reader { fat, mini, entries };

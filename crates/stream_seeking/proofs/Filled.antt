@@ -111,13 +111,6 @@ run_block a first (n ∷ ns) each =
     ∙ sym (block_plus 512 (512 * length ns) a (512 * (first + 1)))
     ∙ ap (λ k. block k a (512 * (first + 1))) long
 
--- a sector is added: what there is of its bytes, and zeros
-pub sector_pushed : (k n : ℕ) (out mid new bytes : List ℕ) → n ≡ length out → k ≡ min (length bytes) 512 → mid ≡ out ++ take k bytes
-    → new ≡ take (n + 512) mid ++ replicate (n + 512 - length mid) 0 → new ≡ out ++ block 512 bytes 0
-sector_pushed k n out mid new bytes en ek emid enew =
-    let all : take (length bytes - 0) (drop 0 bytes) ≡ bytes = take_all (length bytes - 0) bytes (omega arith) in
-    block_pushed 512 0 0 k n out mid new bytes en (omega arith) (omega (arith, ek, ap (λ (xs : List ℕ). length xs) all)) (emid ∙ ap (λ xs. out ++ take k xs) (sym all)) enew
-
 -- ---- the mini sectors of a mini stream
 pub mini_at : (a ms : List ℕ) (q r : ℕ) → q < length ms → r < 8 → block 64 (joined (sector a) ms) (64 * (8 * q + r)) ≡ block 64 a (512 * (get_or ms q 0 + 1) + 64 * r)
 mini_at a [] q r lq lr = absurd (omega (arith, lq))

@@ -28,23 +28,13 @@ pub(crate) fn follow(
     Ok(sectors)
 }
 
-/// Adds the bytes of a sector, of which there are these, zero bytes standing for the others.
-fn push_sector(out: &mut Vec<u8>, bytes: &[u8]) -> Result<(), AllocError>
-    ensures { OnOk result (out.new.items ≡ out.old.items ++ block 512 bytes.now 0) }
-{
-    let end = out.len() + 512;
-    out.extend_from_slice(&bytes[..bytes.len().min(512)])?;
-    out.resize(end, 0)?;
-    Ok(())
-}
-
 /// The bytes of sectors, one after another.
 pub(crate) fn join(alloc: Global, file: &Places, sectors: &[u32]) -> Result<Vec<u8>, AllocError>
     ensures { IfOk result (λ v. v.items ≡ joined (sector file.now) sectors.now) }
 {
     let mut out = Vec::with_capacity(alloc, 512usize.saturating_mul(sectors.len()))?;
     for n in sectors {
-        push_sector(&mut out, file.part(*n as usize + 1))?;
+        file.push_block(&mut out, *n as usize + 1)?;
     }
     Ok(out)
 }

@@ -5,6 +5,7 @@ use Rattle.cfb_chain.specs.Chain.{IsChain}
 use Rattle.cfb_chain.specs.Fat.{AreFree, FatValue, set_all, store_of}
 use Rattle.cfb_header.specs.Header.{HeaderValue, IsHeader, difat, header_of, listed}
 use Rattle.cfb_chain.specs.View.{image_bytes}
+use Rattle.cfb_directory.specs.Held.{held}
 use Rattle.cfb_directory.specs.Entries.{EntriesValue}
 use Rattle.storage_tree.specs.Tree.{Tree}
 use Rattle.file_model.specs.Denotes.{Denotes, Layout, directory_of}
@@ -40,12 +41,12 @@ returns-in_err-entries-clause-reads c = λ t d.
     let file : List ℕ = image_bytes c.args.file in
     let h : HeaderValue = c.args.header.now in
     let is : h ≡ header_of file = read_header file h d.header (sym c.requires.read) in
-    let o : IsOpened file c.chain.new.self c.in_ok-chain.chain.items c.bytes.result.now =
+    let o : IsOpened file c.chain.new.self c.in_ok-chain.chain.items (held c.lent.result) =
     opened_at file h c.in_ok-fat.fat c.chain.new.self c.first_directory.result c.in_ok-chain.chain.items c.deref.result.now (directory_bytes c.in_ok-directory.directory)
-    c.bytes.result.now is c.in_ok-fat.ensures.table c.first_directory.ensures c.in_ok-chain.ensures.linked c.in_ok-chain.ensures.free c.in_ok-chain.ensures.marks
-    c.deref.ensures.value c.in_ok-directory.ensures.bytes c.bytes.ensures in
+    (held c.lent.result) is c.in_ok-fat.ensures.table c.first_directory.ensures c.in_ok-chain.ensures.linked c.in_ok-chain.ensures.free c.in_ok-chain.ensures.marks
+    c.deref.ensures.value c.in_ok-directory.ensures.bytes c.lent.ensures in
     directory_memory c.from_residual-in_err-entries.result c.in_err-entries.field-0.0 c.from_residual-in_err-entries.ensures.1
-    (load_not_refused file t d c.chain.new.self c.in_ok-chain.chain.items c.bytes.result.now o c.in_err-entries.field-0.0 c.in_err-entries.ensures.refused)
+    (load_not_refused file t d c.chain.new.self c.in_ok-chain.chain.items (held c.lent.result) o c.in_err-entries.field-0.0 c.in_err-entries.ensures.refused)
 
 pub returns-in_err-root-clause-reads : goal.returns-in_err-root-clause-reads
 returns-in_err-root-clause-reads c = λ t d.
@@ -56,7 +57,7 @@ returns-in_err-root-clause-reads c = λ t d.
     let o : IsOpened file c.chain.new.self c.in_ok-chain.chain.items e.directory =
     opened_at file h c.in_ok-fat.fat c.chain.new.self c.first_directory.result c.in_ok-chain.chain.items c.deref.result.now (directory_bytes c.in_ok-directory.directory)
     e.directory is c.in_ok-fat.ensures.table c.first_directory.ensures c.in_ok-chain.ensures.linked c.in_ok-chain.ensures.free c.in_ok-chain.ensures.marks
-    c.deref.ensures.value c.in_ok-directory.ensures.bytes (ap (λ (x : EntriesValue). x.directory) c.in_ok-entries.ensures.loaded ∙ c.bytes.ensures) in
+    c.deref.ensures.value c.in_ok-directory.ensures.bytes (ap (λ (x : EntriesValue). x.directory) c.in_ok-entries.ensures.loaded ∙ c.lent.ensures) in
     absurd (root_not_refused file t d c.chain.new.self c.in_ok-chain.chain.items e.directory o c.in_err-root.field-0.0 c.in_err-root.ensures.refused)
 
 pub returns-in_err-mini-clause-reads : goal.returns-in_err-mini-clause-reads
@@ -68,7 +69,7 @@ returns-in_err-mini-clause-reads c = λ t d.
     let o : IsOpened file c.chain.new.self c.in_ok-chain.chain.items e.directory =
     opened_at file h c.in_ok-fat.fat c.chain.new.self c.first_directory.result c.in_ok-chain.chain.items c.deref.result.now (directory_bytes c.in_ok-directory.directory)
     e.directory is c.in_ok-fat.ensures.table c.first_directory.ensures c.in_ok-chain.ensures.linked c.in_ok-chain.ensures.free c.in_ok-chain.ensures.marks
-    c.deref.ensures.value c.in_ok-directory.ensures.bytes (ap (λ (x : EntriesValue). x.directory) c.in_ok-entries.ensures.loaded ∙ c.bytes.ensures) in
+    c.deref.ensures.value c.in_ok-directory.ensures.bytes (ap (λ (x : EntriesValue). x.directory) c.in_ok-entries.ensures.loaded ∙ c.lent.ensures) in
     chain_memory c.from_residual-in_err-mini.result c.in_err-mini.field-0.0 c.from_residual-in_err-mini.ensures.1
     (c.in_err-mini.ensures.there d.layout.mini_fat d.layout.mini_stream
     (mini_there file t d c.chain.new.self c.in_ok-chain.chain.items e.directory o h c.in_ok-root.root.first c.in_ok-root.root.size is
@@ -79,7 +80,7 @@ storage_outline-requires-clause-storage c = inl c.in_ok-root.ensures.read.allowe
 
 pub storage_outline-requires-clause-root_marked : goal.storage_outline-requires-clause-root_marked
 storage_outline-requires-clause-root_marked c =
-    root_marked c.in_ok-entries.entries (length c.bytes.result.now / 128) (ap (λ (x : EntriesValue). x.used) c.in_ok-entries.ensures.loaded)
+    root_marked c.in_ok-entries.entries (length (held c.lent.result) / 128) (ap (λ (x : EntriesValue). x.used) c.in_ok-entries.ensures.loaded)
 
 pub returns-in_err-outline-clause-reads : goal.returns-in_err-outline-clause-reads
 returns-in_err-outline-clause-reads c = λ t d.
@@ -91,7 +92,7 @@ returns-in_err-outline-clause-reads c = λ t d.
     let o : IsOpened file c.chain.new.self c.in_ok-chain.chain.items e.directory =
     opened_at file h c.in_ok-fat.fat c.chain.new.self c.first_directory.result c.in_ok-chain.chain.items c.deref.result.now (directory_bytes c.in_ok-directory.directory)
     e.directory is c.in_ok-fat.ensures.table c.first_directory.ensures c.in_ok-chain.ensures.linked c.in_ok-chain.ensures.free c.in_ok-chain.ensures.marks
-    c.deref.ensures.value c.in_ok-directory.ensures.bytes (ap (λ (x : EntriesValue). x.directory) c.in_ok-entries.ensures.loaded ∙ c.bytes.ensures) in
+    c.deref.ensures.value c.in_ok-directory.ensures.bytes (ap (λ (x : EntriesValue). x.directory) c.in_ok-entries.ensures.loaded ∙ c.lent.ensures) in
     let mini_fat : List ℕ = c.in_ok-mini.ensures.found.0 in
     let mini_stream : List ℕ = c.in_ok-mini.ensures.found.1 in
     let l : Layout = record { fat = listed file; difat = difat file; directory = c.in_ok-chain.chain.items; mini_fat = mini_fat; mini_stream = mini_stream } in
@@ -117,7 +118,7 @@ returns c =
     let o : IsOpened file c.chain.new.self c.in_ok-chain.chain.items e.directory =
     opened_at file h c.in_ok-fat.fat c.chain.new.self c.first_directory.result c.in_ok-chain.chain.items c.deref.result.now (directory_bytes c.in_ok-directory.directory)
     e.directory is c.in_ok-fat.ensures.table c.first_directory.ensures c.in_ok-chain.ensures.linked c.in_ok-chain.ensures.free c.in_ok-chain.ensures.marks
-    c.deref.ensures.value c.in_ok-directory.ensures.bytes (ap (λ (x : EntriesValue). x.directory) c.in_ok-entries.ensures.loaded ∙ c.bytes.ensures) in
+    c.deref.ensures.value c.in_ok-directory.ensures.bytes (ap (λ (x : EntriesValue). x.directory) c.in_ok-entries.ensures.loaded ∙ c.lent.ensures) in
     let mini_fat : List ℕ = c.in_ok-mini.ensures.found.0 in
     let mini_stream : List ℕ = c.in_ok-mini.ensures.found.1 in
     let l : Layout = record { fat = listed file; difat = difat file; directory = c.in_ok-chain.chain.items; mini_fat = mini_fat; mini_stream = mini_stream } in
@@ -126,7 +127,7 @@ returns c =
     mini_fat mini_stream is o c.in_ok-root.ensures.read.first c.in_ok-root.ensures.read.size
     c.in_ok-mini.ensures.found.2 c.in_ok-mini.ensures.found.3 c.in_ok-mini.ensures.found.4 in
     let start : Reader = record { fat = c.mini.new.self; mini = c.in_ok-mini.mini; entries = e } in
-    let marked : get_or e.used 0 true ≡ true = root_marked e (length c.bytes.result.now / 128) (ap (λ (x : EntriesValue). x.used) c.in_ok-entries.ensures.loaded) in
+    let marked : get_or e.used 0 true ≡ true = root_marked e (length (held c.lent.result) / 128) (ap (λ (x : EntriesValue). x.used) c.in_ok-entries.ensures.loaded) in
     let before : Place → List ℕ = contents c.mini.new.self c.in_ok-mini.mini in
     let t : Tree = shown before c.in_ok-outline.outline in
     let kept : contents c.storage_outline.new.self.fat c.storage_outline.new.self.mini ≡ before =
@@ -175,12 +176,12 @@ returns-in_err-entries-clause-refused c =
     let h : HeaderValue = c.args.header.now in
     let is_header : IsHeader file = c.requires.whole in
     let is : h ≡ header_of file = read_header file h is_header (sym c.requires.read) in
-    let o : IsOpened file c.chain.new.self c.in_ok-chain.chain.items c.bytes.result.now =
+    let o : IsOpened file c.chain.new.self c.in_ok-chain.chain.items (held c.lent.result) =
     opened_at file h c.in_ok-fat.fat c.chain.new.self c.first_directory.result c.in_ok-chain.chain.items c.deref.result.now (directory_bytes c.in_ok-directory.directory)
-    c.bytes.result.now is c.in_ok-fat.ensures.table c.first_directory.ensures c.in_ok-chain.ensures.linked c.in_ok-chain.ensures.free c.in_ok-chain.ensures.marks
-    c.deref.ensures.value c.in_ok-directory.ensures.bytes c.bytes.ensures in
+    (held c.lent.result) is c.in_ok-fat.ensures.table c.first_directory.ensures c.in_ok-chain.ensures.linked c.in_ok-chain.ensures.free c.in_ok-chain.ensures.marks
+    c.deref.ensures.value c.in_ok-directory.ensures.bytes c.lent.ensures in
     refused_with c.from_residual-in_err-entries.result (directory_fault c.in_err-entries.field-0.0) (MayRefuseFile file) c.from_residual-in_err-entries.ensures.1
-    (file_load file c.bytes.result.now c.in_err-entries.field-0.0 (directory_is file c.chain.new.self c.in_ok-chain.chain.items c.bytes.result.now o) c.in_err-entries.ensures.refused)
+    (file_load file (held c.lent.result) c.in_err-entries.field-0.0 (directory_is file c.chain.new.self c.in_ok-chain.chain.items (held c.lent.result) o) c.in_err-entries.ensures.refused)
 
 pub returns-in_err-root-clause-refused : goal.returns-in_err-root-clause-refused
 returns-in_err-root-clause-refused c =
@@ -192,7 +193,7 @@ returns-in_err-root-clause-refused c =
     let o : IsOpened file c.chain.new.self c.in_ok-chain.chain.items e.directory =
     opened_at file h c.in_ok-fat.fat c.chain.new.self c.first_directory.result c.in_ok-chain.chain.items c.deref.result.now (directory_bytes c.in_ok-directory.directory)
     e.directory is c.in_ok-fat.ensures.table c.first_directory.ensures c.in_ok-chain.ensures.linked c.in_ok-chain.ensures.free c.in_ok-chain.ensures.marks
-    c.deref.ensures.value c.in_ok-directory.ensures.bytes (ap (λ (x : EntriesValue). x.directory) c.in_ok-entries.ensures.loaded ∙ c.bytes.ensures) in
+    c.deref.ensures.value c.in_ok-directory.ensures.bytes (ap (λ (x : EntriesValue). x.directory) c.in_ok-entries.ensures.loaded ∙ c.lent.ensures) in
     refused_with c.from_residual-in_err-root.result (directory_fault c.in_err-root.field-0.0) (MayRefuseFile file) c.from_residual-in_err-root.ensures.1
     (file_root file e.directory c.in_err-root.field-0.0 (directory_is file c.chain.new.self c.in_ok-chain.chain.items e.directory o) c.in_err-root.ensures.refused)
 
@@ -206,7 +207,7 @@ returns-in_err-mini-clause-refused c =
     let o : IsOpened file c.chain.new.self c.in_ok-chain.chain.items e.directory =
     opened_at file h c.in_ok-fat.fat c.chain.new.self c.first_directory.result c.in_ok-chain.chain.items c.deref.result.now (directory_bytes c.in_ok-directory.directory)
     e.directory is c.in_ok-fat.ensures.table c.first_directory.ensures c.in_ok-chain.ensures.linked c.in_ok-chain.ensures.free c.in_ok-chain.ensures.marks
-    c.deref.ensures.value c.in_ok-directory.ensures.bytes (ap (λ (x : EntriesValue). x.directory) c.in_ok-entries.ensures.loaded ∙ c.bytes.ensures) in
+    c.deref.ensures.value c.in_ok-directory.ensures.bytes (ap (λ (x : EntriesValue). x.directory) c.in_ok-entries.ensures.loaded ∙ c.lent.ensures) in
     refused_with c.from_residual-in_err-mini.result (chain_fault c.in_err-mini.field-0.0) (MayRefuseFile file) c.from_residual-in_err-mini.ensures.1
     (file_chain file c.in_err-mini.field-0.0
     (mini_refused file h c.chain.new.self e.directory is (directory_is file c.chain.new.self c.in_ok-chain.chain.items e.directory o) o.same o.marks
@@ -223,7 +224,7 @@ returns-in_err-outline-clause-refused c =
     let o : IsOpened file c.chain.new.self c.in_ok-chain.chain.items e.directory =
     opened_at file h c.in_ok-fat.fat c.chain.new.self c.first_directory.result c.in_ok-chain.chain.items c.deref.result.now (directory_bytes c.in_ok-directory.directory)
     e.directory is c.in_ok-fat.ensures.table c.first_directory.ensures c.in_ok-chain.ensures.linked c.in_ok-chain.ensures.free c.in_ok-chain.ensures.marks
-    c.deref.ensures.value c.in_ok-directory.ensures.bytes (ap (λ (x : EntriesValue). x.directory) c.in_ok-entries.ensures.loaded ∙ c.bytes.ensures) in
+    c.deref.ensures.value c.in_ok-directory.ensures.bytes (ap (λ (x : EntriesValue). x.directory) c.in_ok-entries.ensures.loaded ∙ c.lent.ensures) in
     let mini_fat : List ℕ = c.in_ok-mini.ensures.found.0 in
     let mini_stream : List ℕ = c.in_ok-mini.ensures.found.1 in
     let l : Layout = record { fat = listed file; difat = difat file; directory = c.in_ok-chain.chain.items; mini_fat = mini_fat; mini_stream = mini_stream } in

@@ -5,11 +5,11 @@ use Rattle.cfb_places.proofs.places.Places.new.Goals as goal
 
 pub invariant_of-result : goal.invariant_of-result
 invariant_of-result c =
-    new_placed c.args.len (c.args.len / 512 + 1) c.in_ok-pool.pool.items c.in_ok-places.places.items
-    (c.in_ok-pool.ensures.items_if_clones_equal (λ y e. e)) c.in_ok-places.ensures.items (omega arith)
+    new_placed c.args.len (c.args.len / 512 + 1) c.in_ok-pool.pool c.in_ok-places.places.items
+    c.in_ok-pool.ensures c.in_ok-places.ensures.items (omega arith)
 
 pub returns : goal.returns
 returns c =
-    length_placed c.args.len c.in_ok-pool.pool.items (filled (c.args.len / 512 + 1) c.in_ok-places.places.items)
-    (new_placed c.args.len (c.args.len / 512 + 1) c.in_ok-pool.pool.items c.in_ok-places.places.items
-    (c.in_ok-pool.ensures.items_if_clones_equal (λ y e. e)) c.in_ok-places.ensures.items (omega arith))
+    length_placed c.args.len c.in_ok-pool.pool (filled (c.args.len / 512 + 1) c.in_ok-places.places.items)
+    (new_placed c.args.len (c.args.len / 512 + 1) c.in_ok-pool.pool c.in_ok-places.places.items
+    c.in_ok-pool.ensures c.in_ok-places.ensures.items (omega arith))

@@ -1,0 +1,85 @@
+//! The bytes of a directory, however they are held in memory.
+
+ghost use Rattle.cfb_bytes.specs.Bytes.{u32_at};
+ghost use Rattle.cfb_directory.specs.Entries.{entry_at};
+ghost use Rattle.cfb_directory.specs.Held.{held};
+ghost use Rattle.std.specs.Prelude.{◌*◌, ◌+◌, ◌/◌, ◌<◌, ◌≡◌, ◌≤◌, IfSome, false, length, true};
+
+use crate::bytes::{ENTRY_LEN, entry_bytes, entry_u32, whole_entry};
+use cfb_bytes::numbers::read_u32;
+use packed_entries::packed::PackedEntries;
+
+/// The bytes of a directory.
+#[derive(Clone, Copy)]
+pub enum Directory<'a> {
+    /// As they stand in the file.
+    Bytes(&'a [u8]),
+    /// As entries that take less memory.
+    Packed(&'a PackedEntries),
+}
+
+/// The number in four bytes of an entry.
+fn packed_u32(entries: &PackedEntries, id: u32, at: usize) -> u32
+    requires there { 128 * id < length entries.now }
+    requires within { at + 4 ≤ 128 }
+    ensures { result ≡ u32_at (entry_at entries.now id) at }
+{
+    let entry = entries.entry(id as usize);
+    read_u32(&entry, at)
+}
+
+impl<'a> Directory<'a> {
+    /// How many whole entries there are.
+    pub(crate) fn count(&self) -> usize
+        ensures { result ≡ length (held self.now) / 128 }
+    {
+        match self {
+            Directory::Bytes(bytes) => bytes.len() / ENTRY_LEN,
+            Directory::Packed(entries) => entries.count(),
+        }
+    }
+
+    /// Whether an entry begins in it.
+    pub(crate) fn has(&self, id: u32) -> bool
+        ensures there { result ≡ true → 128 * id < length (held self.now) }
+        ensures past { result ≡ false → length (held self.now) ≤ 128 * id }
+    {
+        match self {
+            Directory::Bytes(bytes) => ENTRY_LEN * (id as usize) < bytes.len(),
+            Directory::Packed(entries) => (id as usize) < entries.count(),
+        }
+    }
+
+    /// The bytes of an entry, with zeros past the end.
+    pub(crate) fn entry_bytes(&self, id: u32) -> [u8; 128]
+        requires { 128 * id < length (held self.now) }
+        ensures { result ≡ entry_at (held self.now) id }
+    {
+        match self {
+            Directory::Bytes(bytes) => entry_bytes(bytes, id),
+            Directory::Packed(entries) => entries.entry(id as usize),
+        }
+    }
+
+    /// The bytes of an entry where they stand, if all of them stand there.
+    pub(crate) fn whole_entry(&self, id: u32) -> Option<&'a [u8; 128]>
+        ensures { IfSome result (λ entry. entry.now ≡ entry_at (held self.now) id) }
+    {
+        match self {
+            Directory::Bytes(bytes) => whole_entry(bytes, id),
+            Directory::Packed(_) => None,
+        }
+    }
+
+    /// The number in four bytes of an entry.
+    pub(crate) fn entry_u32(&self, id: u32, at: usize) -> u32
+        requires there { 128 * id < length (held self.now) }
+        requires within { at + 4 ≤ 128 }
+        ensures { result ≡ u32_at (entry_at (held self.now) id) at }
+    {
+        match self {
+            Directory::Bytes(bytes) => entry_u32(bytes, id, at),
+            Directory::Packed(entries) => packed_u32(entries, id, at),
+        }
+    }
+}

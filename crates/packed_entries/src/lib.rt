@@ -1,0 +1,4 @@
+//! The entries of a directory in less memory than they take in a file.
+#![tactic(auto)]
+
+pub mod packed;
