@@ -4,7 +4,7 @@ use Rattle.std.proofs.lemmas.List.{append-nil, drop_all, drop-append-le, get_or-
 use Rattle.std.proofs.lemmas.Bool.{cases_lt}
 use Rattle.std.proofs.Math.Seq.{drop-append_seam, drop-append-add}
 use Rattle.std.proofs.lemmas.List.Elements.{All-replicate, All-set}
-use Rattle.std.specs.List.{All, flat_map, slice_range}
+use Rattle.std.specs.List.{All, flat_map}
 use Rattle.cfb_bytes.specs.Bytes.{block}
 use Rattle.cfb_places.specs.Places.{IsPlaced, filled, placed, whole}
 

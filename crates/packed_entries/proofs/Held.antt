@@ -1,5 +1,5 @@
 -- The bytes of entries that are held in less memory.
-use Rattle.std.proofs.Common.{◌≡◌, ◌<◌, ◌≤◌, ◌+◌, ◌-◌, ◌*◌, ◌/◌, ◌%◌, inl, inr, min, ℕ, zero, suc, List, [], ◌∷◌, ◌++◌, length, take, drop, replicate, get_or, refl, sym, ◌∙◌, ap, arith, append_assoc, drop-drop, length-append, length-drop}
+use Rattle.std.proofs.Common.{◌≡◌, ◌<◌, ◌≤◌, ◌+◌, ◌-◌, ◌*◌, ◌/◌, inl, inr, min, ℕ, zero, suc, List, [], ◌∷◌, ◌++◌, length, take, drop, replicate, get_or, refl, sym, ◌∙◌, ap, arith, append_assoc, drop-drop, length-append, length-drop}
 use Rattle.std.proofs.lemmas.List.{append-nil, drop-replicate, get_or-drop, get_or-take, length-replicate, length-take, length-take-le, take-append-drop, take-append-le, take_all, take_more}
 use Rattle.std.proofs.Math.ListN.{get_or-append}
 use Rattle.std.proofs.Math.Seq.{drop-append-add, take-append-add}
@@ -9,7 +9,6 @@ use Rattle.std.specs.Prelude.{slice_set}
 use Rattle.std.specs.List.{flat_map}
 use Rattle.cfb_bytes.specs.Bytes.{block}
 use Rattle.packed_entries.specs.Packed.{entry_of, spelled, unit}
-use Rattle.packed_entries.specs.declared.packed.Short.{Short}
 use Rattle.packed_entries.specs.declared.packed.Slot.{Slot}
 use Rattle.packed_entries.specs.declared.packed.Slot.TheVariants.{Packed, Whole}
 

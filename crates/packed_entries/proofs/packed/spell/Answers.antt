@@ -1,4 +1,3 @@
-use Rattle.std.proofs.Common.{◌∙◌, arith}
 use Rattle.packed_entries.specs.Packed.{spelled}
 use Rattle.packed_entries.proofs.Held.{placed}
 use Rattle.packed_entries.proofs.packed.spell.Goals as goal

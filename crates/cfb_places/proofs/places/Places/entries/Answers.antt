@@ -1,4 +1,4 @@
-use Rattle.std.proofs.Common.{◌<◌, ◌≤◌, ◌+◌, ◌*◌, ◌/◌, ◌∙◌, ℕ, List, ap, arith, drop, get_or, length, sym, take}
+use Rattle.std.proofs.Common.{◌+◌, ◌/◌, ◌∙◌, ℕ, List, ap, arith, drop, get_or, length, sym, take}
 use Rattle.cfb_places.specs.Places.{filled}
 use Rattle.cfb_places.proofs.Placed.{get_filled, run_each}
 use Rattle.cfb_places.proofs.places.Places.entries.Goals as goal

@@ -1,6 +1,5 @@
 use Rattle.std.proofs.Common.{◌≡◌, ◌≤◌, ◌+◌, ◌-◌, ◌*◌, ◌/◌, ◌++◌, ◌∙◌, ℕ, List, ap, arith, drop, get_or, length, length-drop, min, sym, take}
 use Rattle.std.proofs.lemmas.List.{length-take}
-use Rattle.cfb_bytes.specs.Bytes.{block}
 use Rattle.cfb_places.specs.Places.{filled}
 use Rattle.cfb_places.proofs.Placed.{get_filled, part_at, part_fits, pushed}
 use Rattle.cfb_places.proofs.places.Places.push_block.Goals as goal

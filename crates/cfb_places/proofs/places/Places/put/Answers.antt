@@ -1,4 +1,4 @@
-use Rattle.std.proofs.Common.{◌≡◌, ◌∙◌, ◌++◌, ◌+◌, ◌-◌, ◌*◌, ◌/◌, ap, arith, length, set, subst, sym}
+use Rattle.std.proofs.Common.{◌≡◌, ◌∙◌, ◌+◌, ◌*◌, ◌/◌, ap, arith, length, set, subst, sym}
 use Rattle.cfb_bytes.specs.Bytes.{block}
 use Rattle.cfb_places.specs.Places.{IsPlaced, filled, placed, whole}
 use Rattle.cfb_places.proofs.Placed.{has_place, length_placed, pool_grown, put_elsewhere, put_len, put_placed, put_there}

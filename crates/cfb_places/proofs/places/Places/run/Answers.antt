@@ -1,4 +1,4 @@
-use Rattle.std.proofs.Common.{◌<◌, ◌≤◌, ◌+◌, ◌*◌, ◌/◌, ◌∙◌, ℕ, List, ap, arith, get_or, sym}
+use Rattle.std.proofs.Common.{◌≤◌, ◌+◌, ◌/◌, ◌∙◌, ℕ, List, ap, arith, get_or, sym}
 use Rattle.cfb_places.specs.Places.{filled}
 use Rattle.std.proofs.lemmas.Grind.{common_steps}
 use Rattle.cfb_places.proofs.Placed.{get_filled, run_each}

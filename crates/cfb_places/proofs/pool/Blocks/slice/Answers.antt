@@ -1,4 +1,4 @@
-use Rattle.std.proofs.Common.{◌∙◌, ◌++◌, ap, arith, drop, length, sym, take}
+use Rattle.std.proofs.Common.{◌∙◌, ap, arith, drop, take}
 use Rattle.cfb_places.proofs.Held.{behind}
 use Rattle.cfb_places.proofs.pool.Blocks.slice.Goals as goal
 

@@ -1,4 +1,4 @@
-use Rattle.std.proofs.Common.{◌++◌, ◌*◌, ◌∙◌, ap, arith, length, sym, take}
+use Rattle.std.proofs.Common.{◌++◌, ◌*◌, ◌∙◌, ap, arith, length, take}
 use Rattle.std.specs.List.{flat_map}
 use Rattle.packed_entries.specs.Packed.{entry_of}
 use Rattle.packed_entries.proofs.Held.{back, entry_more, length_entries}

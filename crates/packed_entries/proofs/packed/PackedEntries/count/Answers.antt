@@ -1,4 +1,4 @@
-use Rattle.std.proofs.Common.{◌∙◌, ◌*◌, ap, arith, length, sym}
+use Rattle.std.proofs.Common.{ap, arith, length}
 use Rattle.packed_entries.proofs.Held.{length_entries}
 use Rattle.packed_entries.proofs.packed.PackedEntries.count.Goals as goal
 

@@ -1,4 +1,4 @@
-use Rattle.std.proofs.Common.{◌≡◌, ◌<◌, ◌*◌, ◌∙◌, ap, arith, length, sym}
+use Rattle.std.proofs.Common.{◌<◌, ◌*◌, ◌∙◌, ap, arith, length, sym}
 use Rattle.cfb_bytes.specs.Bytes.{block}
 use Rattle.packed_entries.proofs.Held.{entry_there, length_entries}
 use Rattle.packed_entries.proofs.packed.PackedEntries.entry.Goals as goal

@@ -1,4 +1,4 @@
-use Rattle.std.proofs.Common.{◌∙◌, ap, arith, length, sym}
+use Rattle.std.proofs.Common.{◌∙◌, ap, arith, sym}
 use Rattle.cfb_bytes.specs.Bytes.{block}
 use Rattle.packed_entries.proofs.Held.{block_whole}
 use Rattle.packed_entries.proofs.packed.Slot.of.Goals as goal
