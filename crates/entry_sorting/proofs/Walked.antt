@@ -4,53 +4,16 @@ use Rattle.std.proofs.lemmas.Bool.Decides.{Decides-eqb, eqb_tells}
 use Rattle.std.proofs.lemmas.List.{get_or_default, get_or-map, length-map, take-append-le, take_all}
 use Rattle.std.proofs.lemmas.Map.Made.{Contains-tail, is_member-Decides, length-le_from_is_member}
 use Rattle.std.specs.Cmp.{nat_eq_equiv}
-use Rattle.std.specs.List.{All, AllByRecursion, Contains, IsDistinct, list_any}
+use Rattle.std.specs.List.{AllByRecursion, Contains, IsDistinct, list_any}
 use Rattle.std.specs.List.Sorted.{IsPermutation, IsStrictlySortedBy}
-use Rattle.std.specs.Map.{keys_of}
 use Rattle.std.specs.Set.{is_member}
 use Rattle.std.specs.declared.cmp.Ordering.TheVariants.{Less}
 use Rattle.cfb_names.specs.Names.{key_cmp}
 use Rattle.cfb_names.proofs.Keys.{slice_cmp-same}
 use Rattle.file_faults.specs.Faults.{key_at}
-use Rattle.entry_sorting.specs.Sorting.{AreInOrder, at_each, keyed, places}
-use Rattle.entry_sorting.proofs.SortedNames.{IsKeyed, as_keyed, as_many, each_keyed, key_and_id, keys_are, same_entries, sorted}
-
-abbrev entry_of : List (List ℕ × ℕ) → ℕ → List ℕ × ℕ
-entry_of list n = get_or list n ([], 0)
-
--- the places of entries, as they are put in one by one
-abbrev pub named : List (List ℕ × ℕ) → List ℕ → List ℕ
-named list order = map (λ n. (entry_of list n).1) order
-
-pub named_are : (list : List (List ℕ × ℕ)) (order : List ℕ) → named list order ≡ places (at_each list order)
-named_are list [] = refl
-named_are list (n ∷ order) = ap (λ ns. (entry_of list n).1 ∷ ns) (named_are list order)
-
--- keys that rise from one to the next are in order
-pub at_each_sorted : (list : List (List ℕ × ℕ)) (order : List ℕ)
-    → ((k : ℕ) → k + 1 < length order → key_cmp (entry_of list (get_or order k 0)).0 (entry_of list (get_or order (k + 1) 0)).0 ≡ Less)
-    → IsStrictlySortedBy key_cmp (keys_of (at_each list order))
-at_each_sorted list order up =
-    let long : length (at_each list order) ≡ length order = length-map order (entry_of list) in
-    let is = λ (k : ℕ) (d : List ℕ × ℕ) (lt : k < length order). get_or-map (entry_of list) order k 0 d lt in
-    sorted (λ e. e.0) (at_each list order) (λ n d lt.
-    let l : n + 1 < length order = omega (arith, lt, long) in
-    (λ t. key_cmp (is n d (omega (arith, l)) t).0 (is (n + 1) d l t).0) ∙ up n l)
-
--- indices whose entries rise name entries in order
-pub in_order : (list : List (List ℕ × ℕ)) (order : List ℕ) → length order ≡ length list → All (λ n. n < length list) order
-    → IsStrictlySortedBy key_cmp (keys_of (at_each list order)) → AreInOrder list (places (at_each list order))
-in_order list order same below rise =
-    let long : length (at_each list order) ≡ length order = length-map order (entry_of list) in record {
-      entries = at_each list order;
-      held = λ k d lt.
-          let l : k < length order = omega (arith, lt, long) in
-          let n : ℕ = get_or order k 0 in
-          (n, below k 0 l, get_or_default list n _ ([], 0) (below k 0 l) ∙ sym (get_or-map (entry_of list) order k 0 d l));
-      rise = rise;
-      count = long ∙ same;
-      are = refl;
-    }
+use Rattle.entry_sorting.specs.Sorting.{AreFronts, AreInOrder, front_at, keyed, places}
+use Rattle.entry_sorting.proofs.Fronts.{less_by_front}
+use Rattle.entry_sorting.proofs.SortedNames.{as_many, same_entries, sorted}
 
 -- numbers whose keys are in strict order are distinct
 apart : (f : ℕ → List ℕ) (x : ℕ) (v : List ℕ) → AllByRecursion (λ q. key_cmp (f x) q ≡ Less) (map f v) → AllByRecursion (λ y. eqb x y ≡ false) v
@@ -95,27 +58,38 @@ onto ids v same once into n inside =
           absurd (omega (arith, more, same))
     ] refl
 
-module _ (dir ids v : List ℕ) (ordered : AreInOrder (keyed dir ids) v) where
-  each : All (IsKeyed dir) ordered.entries
-  each = λ k d lt.
-      let h : Contains (keyed dir ids) (get_or ordered.entries k d) = ordered.held k d lt in
-      subst (IsKeyed dir) h.2 (each_keyed dir ids h.0 (get_or ordered.entries k d) h.1)
+module _ (dir ids fronts v : List ℕ) (are : AreFronts dir ids fronts) (ordered : AreInOrder fronts ids v) where
+  as_long : length v ≡ length ids
+  as_long = ap length ordered.are ∙ length-map ordered.order (λ n. get_or ids n 0) ∙ ordered.count
+
+  -- the index of the entry that stands at a place
+  abbrev index : ℕ → ℕ
+  index k = get_or ordered.order k 0
+
+  inside : (k : ℕ) → k < length v → index k < length ids
+  inside k lt = ordered.inside k 0 (omega (arith, lt, as_long, ordered.count))
+
+  entry : (k d : ℕ) → k < length v → get_or v k d ≡ get_or ids (index k) 0
+  entry k d lt = ap (λ xs. get_or xs k d) ordered.are ∙ get_or-map (λ n. get_or ids n 0) ordered.order k 0 d (omega (arith, lt, as_long, ordered.count))
+
+  front_is : (k : ℕ) → k < length v → get_or fronts (index k) 0 ≡ front_at dir (get_or ids (index k) 0)
+  front_is k lt = ap (λ xs. get_or xs (index k) 0) are.numbers ∙ get_or-map (front_at dir) ids (index k) 0 0 (inside k lt)
+
+  rises : (k d : ℕ) → k + 1 < length v → key_cmp (key_at dir (get_or v k d)) (key_at dir (get_or v (k + 1) d)) ≡ Less
+  rises k d lt =
+      let l : k < length v = omega (arith, lt) in
+      let a : ℕ = get_or ids (index k) 0 in
+      let b : ℕ = get_or ids (index (k + 1)) 0 in
+      let up : front_at dir a < front_at dir b =
+      omega (arith, ordered.rise k (omega (arith, lt, as_long, ordered.count)), front_is k l, front_is (k + 1) lt) in
+      (λ t. key_cmp (key_at dir (entry k d l t)) (key_at dir (entry (k + 1) d lt t)))
+      ∙ less_by_front (key_at dir a) (key_at dir b) (are.bytes (index k) (inside k l)) (are.bytes (index (k + 1)) (inside (k + 1) lt)) up
 
   walked_sorted : IsStrictlySortedBy key_cmp (map (key_at dir) v)
-  walked_sorted = subst (IsStrictlySortedBy key_cmp) (keys_are dir ordered.entries each ∙ ap (map (key_at dir)) (sym ordered.are)) ordered.rise
-
-  as_long : length v ≡ length ids
-  as_long = ap length ordered.are ∙ length-map ordered.entries (λ e. e.1) ∙ ordered.count ∙ as_keyed dir ids
+  walked_sorted = sorted (key_at dir) v rises
 
   into : (n : ℕ) → Contains v n → Contains ids n
-  into n (k, lt, is) =
-      let l : k < length ordered.entries = omega (arith, lt, as_long, ordered.count, as_keyed dir ids) in
-      let e : List ℕ × ℕ = get_or ordered.entries k ([], 0) in
-      let h : Contains (keyed dir ids) e = ordered.held k ([], 0) l in
-      let long : h.0 < length ids = omega (arith, h.1, as_keyed dir ids) in
-      let at : get_or (keyed dir ids) h.0 e ≡ key_and_id dir (get_or ids h.0 n) = get_or-map (key_and_id dir) ids h.0 n e long in
-      let named : get_or v k n ≡ e.1 = ap (λ xs. get_or xs k n) ordered.are ∙ get_or-map (λ e. e.1) ordered.entries k ([], 0) n l in
-      (h.0, long, sym (ap (λ x. x.1) at) ∙ ap (λ x. x.1) h.2 ∙ sym named ∙ is)
+  into n (k, lt, is) = (index k, inside k lt, get_or_default ids (index k) n 0 (inside k lt) ∙ sym (entry k n lt) ∙ is)
 
   walked_same : (n : ℕ) → Contains ids n ↔ Contains v n
   walked_same n = (onto ids v as_long (distinct_by (key_at dir) v walked_sorted) into n, into n)
@@ -129,11 +103,11 @@ pub record AreSorted (dir ids v : List ℕ) : Type 0 where
   pub ordered : IsStrictlySortedBy key_cmp (map (key_at dir) v)
   pub same : (n : ℕ) → Contains ids n ↔ Contains v n
 
--- as a walk left them in the place of their ids
-pub by_walking : (dir ids v rest : List ℕ) (n : ℕ) → n ≡ length ids → AreInOrder (keyed dir ids) v → AreSorted dir ids (take n (v ++ rest))
-by_walking dir ids v rest n few ordered =
-    subst (AreSorted dir ids) (sym (written v rest n (as_long dir ids v ordered ∙ sym few)))
-    (record { ordered = walked_sorted dir ids v ordered; same = walked_same dir ids v ordered })
+-- as a walk left them in the place of their indices
+pub by_walking : (dir ids fronts v rest : List ℕ) (n : ℕ) → n ≡ length ids → AreFronts dir ids fronts → AreInOrder fronts ids v → AreSorted dir ids (take n (v ++ rest))
+by_walking dir ids fronts v rest n few are ordered =
+    subst (AreSorted dir ids) (sym (written v rest n (as_long dir ids fronts v are ordered ∙ sym few)))
+    (record { ordered = walked_sorted dir ids fronts v are ordered; same = walked_same dir ids fronts v are ordered })
 
 -- as sorting did
 pub by_sorting : (dir ids : List ℕ) (list : List (List ℕ × ℕ)) (v rest : List ℕ) (n : ℕ) → n ≡ length ids → IsPermutation (keyed dir ids) list

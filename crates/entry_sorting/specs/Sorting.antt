@@ -1,9 +1,7 @@
 -- Entries with the keys of their names, and what they are refused for as the children of a storage.
-use Rattle.std.specs.Prelude.{◌≡◌, ◌≢◌, ◌<◌, ◌+◌, ℕ, List, [], length, map, slice_index_or}
+use Rattle.std.specs.Prelude.{◌≡◌, ◌≢◌, ◌<◌, ◌+◌, ℕ, List, length, map, slice_index, slice_index_or}
 use Rattle.std.specs.List.{All, Contains}
-use Rattle.std.specs.List.Sorted.{IsStrictlySortedBy}
-use Rattle.std.specs.Map.{keys_of}
-use Rattle.cfb_names.specs.Names.{key_cmp}
+use Rattle.cfb_names.specs.Numbers.{AreBytes, eight}
 use Rattle.cfb_directory.specs.Entries.{MayRefuseEntry}
 use Rattle.cfb_names.specs.declared.fault.DirFault.{DirFault}
 use Rattle.cfb_names.specs.declared.fault.DirFault.TheVariants.{DuplicateName}
@@ -24,17 +22,30 @@ AllAdjacentApart list = (k : ℕ) (d : List ℕ × ℕ) → k + 1 < length list 
 abbrev pub HasEqualNeighbours : List (List ℕ × ℕ) → Type 0
 HasEqualNeighbours list = (k : ℕ) × (d : List ℕ × ℕ) × (k + 1 < length list) × ((slice_index_or list k d).0 ≡ (slice_index_or list (k + 1) d).0)
 
--- the entries at these indices of a list
-abbrev pub at_each : List (List ℕ × ℕ) → List ℕ → List (List ℕ × ℕ)
-at_each list order = map (λ n. slice_index_or list n ([], 0)) order
+-- the number that the first eight bytes of the key of an entry's name spell
+abbrev pub front_at : List ℕ → ℕ → ℕ
+front_at dir id = eight (key_at dir id) 0
 
--- these are the places of entries of a list in strict order, as many as the list has
-pub record AreInOrder (list : List (List ℕ × ℕ)) (ids : List ℕ) : Type 0 where
-  pub entries : List (List ℕ × ℕ)
-  pub held : All (Contains list) entries
-  pub rise : IsStrictlySortedBy key_cmp (keys_of entries)
-  pub count : length entries ≡ length list
-  pub are : ids ≡ places entries
+-- These are the fronts of the keys of entries, of whose names each character is a byte.
+pub record AreFronts (dir ids fronts : List ℕ) : Type 0 where
+  pub numbers : fronts ≡ map (front_at dir) ids
+  pub bytes : (k : ℕ) → k < length ids → AreBytes (key_at dir (slice_index ids k))
+
+-- the elements at these indices of a list
+abbrev pub at_each : List ℕ → List ℕ → List ℕ
+at_each list order = map (λ n. slice_index list n) order
+
+-- the numbers at these indices of a list rise strictly
+abbrev pub DoRise : List ℕ → List ℕ → Type 0
+DoRise list order = (k : ℕ) → k + 1 < length order → slice_index list (slice_index order k) < slice_index list (slice_index order (k + 1))
+
+-- these are entries in strict order of their fronts, as many as there are
+pub record AreInOrder (fronts ids v : List ℕ) : Type 0 where
+  pub order : List ℕ
+  pub inside : All (λ n. n < length ids) order
+  pub rise : DoRise fronts order
+  pub count : length order ≡ length ids
+  pub are : v ≡ at_each ids order
 
 -- one of the entries is at fault
 abbrev pub MayRefuseOneOf : List ℕ → List ℕ → DirFault → Type 0

@@ -1,40 +1,76 @@
 //! Entries that are put in the order of their names, with no memory taken for that.
 
 ghost use Rattle.cfb_chain.specs.Chain.{AreDistinct};
-ghost use Rattle.cfb_names.specs.Names.{key_cmp};
+ghost use Rattle.cfb_names.specs.Names.{key, key_cmp};
+ghost use Rattle.cfb_names.specs.Numbers.{AreBytes, eight};
 ghost use Rattle.file_faults.specs.Faults.{key_at};
 ghost use Rattle.std.specs.List.{All, Contains};
 ghost use Rattle.std.specs.List.Sorted.{IsStrictlySortedBy};
-ghost use Rattle.std.specs.Map.{keys_of};
-ghost use Rattle.std.specs.Prelude.{[], ◌++◌, ◌+◌, ◌<◌, ◌↔◌, ◌∷◌, ◌≡◌, ◌≢◌, ◌≤◌, IfErr, IfOk, OnOk, false, length, map, true, vec_capacity, vec_len, ℕ};
-ghost use Rattle.entry_sorting.specs.Sorting.{AllAdjacentApart, AreInOrder, HasEqualNeighbours, MayRefuseNames, MayRefuseOneOf, at_each, keyed, places};
+ghost use Rattle.std.specs.Prelude.{[], ◌++◌, ◌+◌, ◌<◌, ◌↔◌, ◌∷◌, ◌≡◌, ◌≢◌, ◌≤◌, IfErr, IfOk, OnOk, false, length, map, slice_index, true, vec_capacity, vec_len, ℕ};
+ghost use Rattle.entry_sorting.specs.Sorting.{AllAdjacentApart, AreFronts, AreInOrder, DoRise, HasEqualNeighbours, MayRefuseNames, MayRefuseOneOf, at_each, keyed, places};
 
 use cfb_directory::entries::Entries;
 use cfb_names::fault::DirFault;
 use cfb_names::key::Key;
-use cfb_names::name::key;
-use std::cmp::Ordering;
+use cfb_names::name::{Name, key};
 
-/// Adds an entry to a list that has room for it.
-fn push_within(list: &mut Vec<(Key, u32)>, key: Key, id: u32)
+/// Adds an item to a list that has room for it.
+fn push_within<T: Copy>(list: &mut Vec<T>, item: T)
     requires { vec_len list.old < vec_capacity list.old }
-    ensures items { list.new.items ≡ list.old.items ++ (key, id) ∷ [] }
+    ensures items { list.new.items ≡ list.old.items ++ item ∷ [] }
     ensures room { vec_capacity list.old ≤ vec_capacity list.new }
 {
-    match list.push((key, id)) {
+    match list.push(item) {
         Ok(()) => {}
         Err(_) => unreachable!(),
     }
 }
 
-/// Lists the entries, each behind the key of its name, where there is room for all.
+/// The character at an index of a name as its key has it, in upper case: zero behind the last.
+fn unit(name: &[u8], index: usize) -> u8
+    requires short { length name.now ≤ 31 }
+    ensures { result ≡ slice_index (key name.now) (index + 1) }
+{
+    match name.get(index) {
+        Some(unit) => unit.to_ascii_uppercase(),
+        None => 0,
+    }
+}
+
+/// The first eight bytes of the key of a name as a number, of which the first is worth most. So where it is less, the key is.
+fn front(name: &Name) -> u64
+    ensures number { result ≡ eight (key name.now) 0 }
+    ensures bytes { AreBytes (key name.now) }
+{
+    let name = name.as_bytes();
+    u64::from_be_bytes([
+        name.len() as u8,
+        unit(name, 0),
+        unit(name, 1),
+        unit(name, 2),
+        unit(name, 3),
+        unit(name, 4),
+        unit(name, 5),
+        unit(name, 6),
+    ])
+}
+
+/// Lists the fronts of the entries' keys, and a zero for each entry, where there is room for all.
 ///
 /// Refused: as `Entries::name`.
-fn list_keys(entries: &Entries<'_>, ids: &[u32], list: &mut Vec<(Key, u32)>) -> Result<(), DirFault>
+fn list_fronts(
+    entries: &Entries<'_>,
+    ids: &[u32],
+    fronts: &mut Vec<u64>,
+    order: &mut Vec<u32>,
+) -> Result<(), DirFault>
     requires below_root { All (λ n. n ≢ 0) ids.now }
-    requires none { list.old.items ≡ [] }
-    requires room { length ids.now ≤ vec_capacity list.old }
-    ensures listed { OnOk result (list.new.items ≡ keyed entries.now.directory ids.now) }
+    requires no_fronts { fronts.old.items ≡ [] }
+    requires no_order { order.old.items ≡ [] }
+    requires fronts_room { length ids.now ≤ vec_capacity fronts.old }
+    requires order_room { length ids.now ≤ vec_capacity order.old }
+    ensures listed { OnOk result (AreFronts entries.now.directory ids.now fronts.new.items) }
+    ensures count { OnOk result (length order.new.items ≡ length ids.now) }
     ensures refused { IfErr result (MayRefuseOneOf entries.now.directory ids.now) }
 {
     for id in ids {
@@ -42,37 +78,25 @@ fn list_keys(entries: &Entries<'_>, ids: &[u32], list: &mut Vec<(Key, u32)>) -> 
             Ok(name) => name,
             Err(fault) => return Err(fault),
         };
-        push_within(list, key(&name), *id);
+        push_within(fronts, front(&name));
+        push_within(order, 0);
     }
     Ok(())
 }
 
-/// Whether no two neighbours have one key.
-fn are_apart(list: &[(Key, u32)]) -> bool
-    ensures apart { result ≡ true → AllAdjacentApart list.now }
-    ensures equal { result ≡ false → HasEqualNeighbours list.now }
-{
-    for k in 1..list.len() {
-        if list[k - 1].0 == list[k].0 {
-            return false;
-        }
-    }
-    true
-}
-
-/// Whether the entry at an index of a list stands before a key. Where there is none, it doesn't.
-fn is_before(list: &[(Key, u32)], index: u32, key: &Key) -> bool {
-    match list.get(index as usize) {
-        Some(entry) => matches!(entry.0.cmp(key), Ordering::Less),
+/// Whether the number at an index of a list is less than another. Where there is none, it isn't.
+fn is_before(fronts: &[u64], index: u32, front: u64) -> bool {
+    match fronts.get(index as usize) {
+        Some(earlier) => *earlier < front,
         None => false,
     }
 }
 
-/// Moves what waits and stands before a key to what is done: `order` has what is done in its front, so many, and behind
+/// Moves what waits and stands before a number to what is done: `order` has what is done in its front, so many, and behind
 /// `waiting` what waits, the least first. Answers how many are done, and where what waits begins.
 fn finish_before(
-    list: &[(Key, u32)],
-    key: &Key,
+    fronts: &[u64],
+    front: u64,
     order: &mut [u32],
     done: usize,
     waiting: usize,
@@ -85,7 +109,7 @@ fn finish_before(
 {
     let mut finished = 0;
     for k in waiting..order.len() {
-        if !is_before(list, order[k], key) {
+        if !is_before(fronts, order[k], front) {
             break;
         }
         order[done + finished] = order[k];
@@ -98,14 +122,14 @@ fn finish_before(
 /// right side, as their indices in the list. An entry waits while what comes is before it.
 ///
 /// Nothing is promised of it: what it gives is looked at.
-fn walk_in_order(list: &[(Key, u32)], order: &mut [u32])
-    requires { length order.old ≡ length list.now }
+fn walk_in_order(fronts: &[u64], order: &mut [u32])
+    requires { length order.old ≡ length fronts.now }
     ensures length { length order.new ≡ length order.old }
 {
     let mut done = 0;
     let mut waiting = order.len();
-    for k in 0..list.len() {
-        (done, waiting) = finish_before(list, &list[k].0, order, done, waiting);
+    for k in 0..fronts.len() {
+        (done, waiting) = finish_before(fronts, fronts[k], order, done, waiting);
         waiting -= 1;
         order[waiting] = u32::try_from(k).unwrap_or(u32::MAX);
     }
@@ -123,45 +147,76 @@ fn are_inside(order: &[u32], count: usize) -> bool
     true
 }
 
-/// Whether the entries at these indices are in strict order.
-fn do_rise(list: &[(Key, u32)], order: &[u32]) -> bool
-    requires inside { All (λ n. n < length list.now) order.now }
-    ensures rise { result ≡ true → IsStrictlySortedBy key_cmp (keys_of (at_each list.now order.now)) }
+/// Whether the numbers at these indices rise strictly.
+fn do_rise(fronts: &[u64], order: &[u32]) -> bool
+    requires inside { All (λ n. n < length fronts.now) order.now }
+    ensures rise { result ≡ true → DoRise fronts.now order.now }
 {
     for k in 1..order.len() {
-        let earlier = &list[order[k - 1] as usize].0;
-        match earlier.cmp(&list[order[k] as usize].0) {
-            Ordering::Less => {}
-            _ => return false,
+        if fronts[order[k - 1] as usize] >= fronts[order[k] as usize] {
+            return false;
         }
     }
     true
 }
 
 /// Puts the entries at these indices in the place of the indices.
-fn put_named(list: &[(Key, u32)], order: &mut [u32])
-    requires inside { All (λ n. n < length list.now) order.old }
-    ensures { order.new ≡ places (at_each list.now order.old) }
+fn put_named(ids: &[u32], order: &mut [u32])
+    requires inside { All (λ n. n < length ids.now) order.old }
+    ensures { order.new ≡ at_each ids.now order.old }
 {
     for k in 0..order.len() {
-        order[k] = list[order[k] as usize].1;
+        order[k] = ids[order[k] as usize];
     }
 }
 
-/// Puts the entries of a list in strict order in the place of as many others, if the list came as a search tree is walked.
-fn put_walked(list: &[(Key, u32)], ids: &mut [u32]) -> bool
-    requires { length ids.old ≡ length list.now }
-    ensures length { length ids.new ≡ length ids.old }
-    ensures ordered { result ≡ true → AreInOrder list.now ids.new }
+/// Puts entries in strict order of their fronts in the place of as many numbers, if they come as a search tree is walked.
+fn put_walked(fronts: &[u64], ids: &[u32], order: &mut [u32]) -> bool
+    requires fronts { length fronts.now ≡ length ids.now }
+    requires order { length order.old ≡ length ids.now }
+    ensures ordered { result ≡ true → AreInOrder fronts.now ids.now order.new }
 {
-    walk_in_order(list, ids);
-    if !are_inside(ids, list.len()) {
+    walk_in_order(fronts, order);
+    if !are_inside(order, ids.len()) {
         return false;
     }
-    if !do_rise(list, ids) {
+    if !do_rise(fronts, order) {
         return false;
     }
-    put_named(list, ids);
+    put_named(ids, order);
+    true
+}
+
+/// Lists the entries, each behind the key of its name, where there is room for all.
+///
+/// Refused: as `Entries::name`.
+fn list_keys(entries: &Entries<'_>, ids: &[u32], list: &mut Vec<(Key, u32)>) -> Result<(), DirFault>
+    requires below_root { All (λ n. n ≢ 0) ids.now }
+    requires none { list.old.items ≡ [] }
+    requires room { length ids.now ≤ vec_capacity list.old }
+    ensures listed { OnOk result (list.new.items ≡ keyed entries.now.directory ids.now) }
+    ensures refused { IfErr result (MayRefuseOneOf entries.now.directory ids.now) }
+{
+    for id in ids {
+        let name = match entries.name(*id) {
+            Ok(name) => name,
+            Err(fault) => return Err(fault),
+        };
+        push_within(list, (key(&name), *id));
+    }
+    Ok(())
+}
+
+/// Whether no two neighbours have one key.
+fn are_apart(list: &[(Key, u32)]) -> bool
+    ensures apart { result ≡ true → AllAdjacentApart list.now }
+    ensures equal { result ≡ false → HasEqualNeighbours list.now }
+{
+    for k in 1..list.len() {
+        if list[k - 1].0 == list[k].0 {
+            return false;
+        }
+    }
     true
 }
 
@@ -175,13 +230,10 @@ fn put_ids(list: &[(Key, u32)], ids: &mut [u32])
     }
 }
 
-/// The entries in the order of their names. It takes no memory: it is given a list with room for all.
-///
-/// Links of a search tree reach its entries as it is walked from its top: these are put in order in as many steps as there are
-/// entries, and others are sorted.
+/// The entries in the order of their names, by sorting whole keys.
 ///
 /// Refused: as `Entries::name`, and `DuplicateName` where two names are equal in upper case.
-pub fn by_name(
+fn by_keys(
     entries: &Entries<'_>,
     mut ids: Vec<u32>,
     mut list: Vec<(Key, u32)>,
@@ -195,13 +247,44 @@ pub fn by_name(
     ensures refused { IfErr result (MayRefuseNames entries.now.directory ids.items) }
 {
     list_keys(entries, &ids, &mut list)?;
-    if put_walked(&list, &mut ids) {
-        return Ok(ids);
-    }
     list.sort_unstable();
     if !are_apart(&list) {
         return Err(DirFault::DuplicateName);
     }
     put_ids(&list, &mut ids);
     Ok(ids)
+}
+
+/// The entries in the order of their names. It takes no memory: it is given lists with room for all.
+///
+/// Most names differ in the first eight bytes of their keys, their lengths and first seven characters. Where all do, and links
+/// of a search tree reach the entries as it is walked from its top, these numbers alone put them in order, in as many steps as
+/// there are entries. Others are sorted by whole keys, for which names are read once more: n entries in n log n steps. Until
+/// then the list of keys isn't written to, and what is reserved and not written to takes no memory.
+///
+/// Refused: as `Entries::name`, and `DuplicateName` where two names are equal in upper case.
+pub fn by_name(
+    entries: &Entries<'_>,
+    ids: Vec<u32>,
+    mut fronts: Vec<u64>,
+    mut order: Vec<u32>,
+    list: Vec<(Key, u32)>,
+) -> Result<Vec<u32>, DirFault>
+    requires below_root { All (λ n. n ≢ 0) ids.items }
+    requires distinct { AreDistinct ids.items }
+    requires no_fronts { fronts.items ≡ [] }
+    requires no_order { order.items ≡ [] }
+    requires none { list.items ≡ [] }
+    requires fronts_room { vec_len ids ≤ vec_capacity fronts }
+    requires order_room { vec_len ids ≤ vec_capacity order }
+    requires room { vec_len ids ≤ vec_capacity list }
+    ensures ordered { IfOk result (λ v. IsStrictlySortedBy key_cmp (map (key_at entries.now.directory) v.items)) }
+    ensures same { IfOk result (λ v. (n : ℕ) → Contains ids.items n ↔ Contains v.items n) }
+    ensures refused { IfErr result (MayRefuseNames entries.now.directory ids.items) }
+{
+    list_fronts(entries, &ids, &mut fronts, &mut order)?;
+    if put_walked(&fronts, &ids, &mut order) {
+        return Ok(order);
+    }
+    by_keys(entries, ids, list)
 }

@@ -86,8 +86,10 @@ impl<'a, 'd> Reader<'a, 'd> {
         ensures refused { (b : Base) (room : ℕ) (pending : List ℕ) → IsStorage (directory_in self.old) id → IsNext b room id pending self.old → IfErr result (MayRefuseStorage b) }
     {
         let ids = self.entries.children(alloc, id)?;
+        let fronts = Vec::with_capacity(alloc, ids.len())?;
+        let order = Vec::with_capacity(alloc, ids.len())?;
         let list = Vec::with_capacity(alloc, ids.len())?;
-        let sorted = by_name(&self.entries, ids, list)?;
+        let sorted = by_name(&self.entries, ids, fronts, order, list)?;
         Ok(sorted)
     }
 

@@ -1,44 +1,20 @@
-use Rattle.std.proofs.Common.{◌≡◌, ◌++◌, ℕ, List, length, take, ◌∙◌, ap, subst, arith}
-use Rattle.std.specs.List.Sorted.{IsPermutation}
-use Rattle.entry_sorting.specs.Sorting.{AllAdjacentApart, AreInOrder, HasEqualNeighbours, keyed, places}
-use Rattle.entry_sorting.proofs.SortedNames.{in_order, named_twice}
-use Rattle.entry_sorting.proofs.Walked.{AreSorted, by_sorting, by_walking}
+use Rattle.std.proofs.Common.{◌++◌, ℕ, List, length, take, ap, subst, arith}
+use Rattle.entry_sorting.specs.Sorting.{AreFronts, AreInOrder}
+use Rattle.entry_sorting.proofs.Walked.{AreSorted, by_walking}
 use Rattle.entry_sorting.proofs.sorting.by_name.Goals as goal
 
-pub returns-then-not-are_apart-clause-refused : goal.returns-then-not-are_apart-clause-refused
-returns-then-not-are_apart-clause-refused c =
-    let dir : List ℕ = c.args.entries.now.directory in
-    let ids : List ℕ = c.args.ids.items in
-    let list : List (List ℕ × ℕ) = c.sort_unstable.new.self.items in
-    let permuted : IsPermutation (keyed dir ids) list =
-    subst (λ (xs : List (List ℕ × ℕ)). IsPermutation xs list) (c.in_ok-list_keys.ensures.listed ∙ ap (keyed dir) c.deref.ensures.value) c.sort_unstable.ensures.permutation in
-    named_twice dir ids list permuted c.requires.distinct
-    (subst HasEqualNeighbours c.deref-3.ensures.value (c.are_apart.ensures.equal c.if-not-are_apart.true))
-
-sorted : (c : goal.After-drop-list-2) (rest : List ℕ) → AreSorted c.args.entries.now.directory c.args.ids.items (take c.args.ids.len (c.put_ids.new.ids ++ rest))
-sorted c rest =
-    let dir : List ℕ = c.args.entries.now.directory in
-    let ids : List ℕ = c.args.ids.items in
-    let list : List (List ℕ × ℕ) = c.sort_unstable.new.self.items in
-    let permuted : IsPermutation (keyed dir ids) list =
-    subst (λ (xs : List (List ℕ × ℕ)). IsPermutation xs list) (c.in_ok-list_keys.ensures.listed ∙ ap (keyed dir) c.deref.ensures.value) c.sort_unstable.ensures.permutation in
-    let apart : AllAdjacentApart list = subst AllAdjacentApart c.deref-3.ensures.value (c.are_apart.ensures.apart c.if-not-are_apart.false) in
-    by_sorting dir ids list c.put_ids.new.ids rest c.args.ids.len (omega (arith, c.deref_mut.ensures.len, ap length c.deref_mut.ensures.value)) permuted
-    (in_order dir ids list permuted c.sort_unstable.ensures.sorted apart) (c.put_ids.ensures ∙ ap places c.deref-4.ensures.value)
-
-pub returns-clause-ordered : goal.returns-clause-ordered
-returns-clause-ordered c = (sorted c _).ordered
-
-pub returns-clause-same : goal.returns-clause-same
-returns-clause-same c = (sorted c _).same
-
-walked : (c : goal.After-drop-list-then-put_walked) (rest : List ℕ) → AreSorted c.args.entries.now.directory c.args.ids.items (take c.args.ids.len (c.put_walked.new.ids ++ rest))
+walked : (c : goal.After-drop-ids-then-put_walked) (rest : List ℕ) → AreSorted c.args.entries.now.directory c.args.ids.items (take c.list_fronts.new.order.len (c.put_walked.new.order ++ rest))
 walked c rest =
     let dir : List ℕ = c.args.entries.now.directory in
     let ids : List ℕ = c.args.ids.items in
-    let listed : c.deref-2.result.now ≡ keyed dir ids = c.deref-2.ensures.value ∙ c.in_ok-list_keys.ensures.listed ∙ ap (keyed dir) c.deref.ensures.value in
-    by_walking dir ids c.put_walked.new.ids rest c.args.ids.len (omega (arith, c.deref_mut.ensures.len, ap length c.deref_mut.ensures.value))
-    (subst (λ (xs : List (List ℕ × ℕ)). AreInOrder xs c.put_walked.new.ids) listed (c.put_walked.ensures.ordered c.if-put_walked.true))
+    let fronts : List ℕ = c.list_fronts.new.fronts.items in
+    let v : List ℕ = c.put_walked.new.order in
+    let listed : AreFronts dir ids fronts = subst (λ (xs : List ℕ). AreFronts dir xs fronts) c.deref.ensures.value c.in_ok-list_fronts.ensures.listed in
+    let ordered : AreInOrder fronts ids v =
+    subst (λ (xs : List ℕ). AreInOrder fronts xs v) c.deref-3.ensures.value
+    (subst (λ (xs : List ℕ). AreInOrder xs c.deref-3.result.now v) c.deref-2.ensures.value (c.put_walked.ensures.ordered c.if-put_walked.true)) in
+    by_walking dir ids fronts v rest c.list_fronts.new.order.len
+    (omega (arith, c.deref_mut.ensures.len, ap length c.deref_mut.ensures.value, c.in_ok-list_fronts.ensures.count, ap length c.deref.ensures.value)) listed ordered
 
 pub returns-then-put_walked-clause-ordered : goal.returns-then-put_walked-clause-ordered
 returns-then-put_walked-clause-ordered c = (walked c _).ordered

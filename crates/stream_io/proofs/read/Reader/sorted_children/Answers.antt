@@ -51,6 +51,14 @@ returns-in_err-ids-clause-memory c =
     refused_with c.from_residual.result (directory_fault c.in_err-ids.field-0.0) (MayWant c.args.self.now.entries c.args.id) c.from_residual.ensures.1
     (by_children c.args.self.now.entries c.args.id c.in_err-ids.field-0.0 c.in_err-ids.ensures.refused)
 
+pub returns-in_err-fronts-clause-memory : goal.returns-in_err-fronts-clause-memory
+returns-in_err-fronts-clause-memory c =
+    when_found c.args.self.now.entries c.args.id c.from_residual-in_err-fronts.result c.in_ok-ids.ids.items c.requires.inside c.in_ok-ids.ensures.linked c.in_ok-ids.ensures.free
+
+pub returns-in_err-order-clause-memory : goal.returns-in_err-order-clause-memory
+returns-in_err-order-clause-memory c =
+    when_found c.args.self.now.entries c.args.id c.from_residual-in_err-order.result c.in_ok-ids.ids.items c.requires.inside c.in_ok-ids.ensures.linked c.in_ok-ids.ensures.free
+
 pub returns-in_err-list-clause-memory : goal.returns-in_err-list-clause-memory
 returns-in_err-list-clause-memory c =
     when_found c.args.self.now.entries c.args.id c.from_residual-in_err-list.result c.in_ok-ids.ids.items c.requires.inside c.in_ok-ids.ensures.linked c.in_ok-ids.ensures.free

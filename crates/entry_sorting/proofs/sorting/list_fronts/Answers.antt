@@ -1,0 +1,33 @@
+use Rattle.std.proofs.Common.{◌≡◌, ◌+◌, ℕ, List, [], ◌∷◌, ◌++◌, length, map, take, get_or, sym, subst, ◌∙◌, ap, arith, below_more, length-append}
+use Rattle.std.proofs.lemmas.List.{length-map, length-take-le, map-append, take_more}
+use Rattle.cfb_names.specs.Names.{key}
+use Rattle.cfb_names.specs.Numbers.{AreBytes, eight}
+use Rattle.file_faults.specs.Faults.{key_at}
+use Rattle.entry_sorting.specs.Sorting.{front_at}
+use Rattle.entry_sorting.proofs.SortedNames.{name_key}
+use Rattle.entry_sorting.proofs.sorting.list_fronts.Goals as goal
+
+pub push_within-requires : goal.push_within-requires
+push_within-requires c =
+    let i : ℕ = c.loop-id.id-index in
+    let dir : List ℕ = c.args.entries.now.directory in
+    omega (arith, ap length c.loop-id.invariant.0, length-map (take i c.args.ids.now) (front_at dir), length-take-le i c.args.ids.now (omega (arith, c.loop-id-test.true)), c.loop-id.invariant.3, c.loop-id-test.true)
+
+pub loop-id-preserved : goal.loop-id-preserved
+loop-id-preserved c =
+    let i : ℕ = c.loop-id.id-index in
+    let ids : List ℕ = c.args.ids.now in
+    let dir : List ℕ = c.args.entries.now.directory in
+    let id : ℕ = get_or ids i 0 in
+    let named : key c.in-Ok.name ≡ key_at dir id = name_key dir id c.in-Ok.name (c.requires.below_root i 0 c.loop-id-test.true) c.in-Ok.ensures.read in
+    let is : c.front.result ≡ front_at dir id = c.front.ensures.number ∙ ap (λ x. eight x 0) named in
+    let more : take (i + 1) ids ≡ take i ids ++ id ∷ [] = take_more ids i 0 c.loop-id-test.true in (
+      c.push_within.ensures.items
+          ∙ (λ t. c.loop-id.invariant.0 t ++ is t ∷ [])
+          ∙ sym (map-append (front_at dir) (take i ids) (id ∷ []))
+          ∙ ap (map (front_at dir)) (sym more),
+      below_more _ _ c.loop-id.invariant.1 (subst AreBytes named c.front.ensures.bytes),
+      ap length c.push_within-in-loop-id.ensures.items ∙ length-append c.loop-id.order.items (0 ∷ []) ∙ omega (arith, c.loop-id.invariant.2),
+      omega (arith, c.loop-id.invariant.3, c.push_within.ensures.room),
+      omega (arith, c.loop-id.invariant.4, c.push_within-in-loop-id.ensures.room),
+    )
