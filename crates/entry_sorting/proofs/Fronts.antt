@@ -1,17 +1,20 @@
 -- The first eight bytes of a name's key, read off the name.
-use Rattle.std.proofs.Common.{◌≡◌, ◌<◌, ◌≤◌, ◌+◌, ◌-◌, ℕ, zero, suc, true, false, inl, inr, List, ◌++◌, length, get_or, map, replicate, refl, sym, ◌∙◌, ap, arith, le-leb, length-append}
+use Rattle.std.proofs.Common.{◌≡◌, ◌<◌, ◌≤◌, ◌+◌, ◌-◌, ℕ, zero, suc, inl, inr, List, [], ◌∷◌, ◌++◌, length, get_or, map, take, drop, replicate, nat_cmp, refl, sym, ◌∙◌, ap, subst, arith, length-append}
 use Rattle.std.proofs.lemmas.Bool.{cases_lt}
-use Rattle.std.proofs.lemmas.List.{get_or-append_right, get_or-map, get_or_append_left, length-map, length-replicate}
-use Rattle.std.proofs.lemmas.List.Folds.{list_any_at}
-use Rattle.std.proofs.lemmas.Str.Ascii.{uppercase_ascii}
+use Rattle.std.proofs.lemmas.List.{get_or-append_right, get_or-map, get_or_append_left, length-map, length-replicate, take-append-drop}
+use Rattle.std.proofs.lemmas.Str.Ascii.{uppercase_is}
 use Rattle.std.specs.Char.{to_ascii_uppercase}
-use Rattle.std.specs.List.{list_any}
-use Rattle.std.specs.Prelude.{nat_le}
-use Rattle.std.specs.Cmp.{nat_cmp_is}
-use Rattle.std.specs.declared.cmp.Ordering.TheVariants.{Less}
-use Rattle.cfb_names.specs.Names.{IsName, key, key_cmp}
+use Rattle.std.specs.Cmp.{nat_cmp_is, ranks}
+use Rattle.std.specs.Cmp.Lexicographic.{slice_cmp}
+use Rattle.std.specs.Ordering.{MatchOrdering, ordering_then}
+use Rattle.std.specs.declared.cmp.Ordering.{Ordering}
+use Rattle.std.specs.declared.cmp.Ordering.TheVariants.{Less, Equal, Greater}
+use Rattle.cfb_directory.specs.Entries.{entry_at, name_of}
+use Rattle.cfb_names.specs.Names.{key, key_cmp, name_cmp}
 use Rattle.cfb_names.specs.Numbers.{AreBytes, eight}
 use Rattle.cfb_names.proofs.KeyNumbers.{decided}
+use Rattle.cfb_names.proofs.Keys.{keys_agree}
+use Rattle.entry_sorting.specs.Sorting.{Begins}
 
 zeros : (n k : ℕ) → get_or {A = ℕ} (replicate n 0) k 0 ≡ 0
 zeros zero k = refl
@@ -45,19 +48,23 @@ pub as_long : (name : List ℕ) → length name ≤ 31 → length (key name) ≡
 as_long name le =
     omega (arith, length-append (map to_ascii_uppercase name) (replicate (31 - length name) 0), length-map name to_ascii_uppercase, length-replicate {A = ℕ} (31 - length name) 0)
 
-all_ascii : (name : List ℕ) → list_any (nat_le 128) name ≡ false → (k : ℕ) → k < length name → get_or name k 0 < 128
-all_ascii name h k lt =
-    elim (cases_lt (get_or name k 0) 128) [
-      | inl small ↦ small
-      | inr past ↦ let some : list_any (nat_le 128) name ≡ true = list_any_at (nat_le 128) name k 0 lt (le-leb 128 (get_or name k 0) past) in absurd (cc (some, h))
+-- a byte in upper case is a byte
+upper_small : (c : ℕ) → c < 256 → to_ascii_uppercase c < 256
+upper_small c lt =
+    elim (cases_lt c 97) [
+      | inl low ↦ omega (arith, (uppercase_is c).1 low)
+      | inr at ↦ elim (cases_lt 122 c) [
+        | inl high ↦ omega (arith, (uppercase_is c).2 high)
+        | inr in_range ↦ omega (arith, (uppercase_is c).0 (at, in_range))
+      ]
     ]
 
-small : (name : List ℕ) → length name ≤ 31 → ((k : ℕ) → k < length name → get_or name k 0 < 128) → (k : ℕ) → get_or (key name) k 0 < 256
-small name le ascii zero = omega arith
-small name le ascii (suc k) =
+small : (name : List ℕ) → length name ≤ 31 → ((k : ℕ) → get_or name k 0 < 256) → (k : ℕ) → get_or (key name) k 0 < 256
+small name le bytes zero = omega arith
+small name le bytes (suc k) =
     elim (cases_lt k (length name)) [
       | inl lt ↦
-          let up : to_ascii_uppercase (get_or name k 0) < 128 = uppercase_ascii (get_or name k 0) (ascii k lt) in
+          let up : to_ascii_uppercase (get_or name k 0) < 256 = upper_small (get_or name k 0) (bytes k) in
           let is : get_or (behind name) k 0 ≡ to_ascii_uppercase (get_or name k 0) = unit_behind name k lt in
           omega (arith, up, is)
       | inr ge ↦
@@ -65,9 +72,48 @@ small name le ascii (suc k) =
           omega (arith, is)
     ]
 
-pub are_bytes : (name : List ℕ) → IsName name → AreBytes (key name)
-are_bytes name h = record { small = small name h.short (all_ascii name h.ascii); count = as_long name h.short }
+pub are_bytes : (name : List ℕ) → length name ≤ 31 → ((k : ℕ) → get_or name k 0 < 256) → AreBytes (key name)
+are_bytes name le bytes = record { small = small name le bytes; count = as_long name le }
 
 -- where the first eight bytes are less as a number, the key is less
 pub less_by_front : (a b : List ℕ) → AreBytes a → AreBytes b → eight a 0 < eight b 0 → key_cmp a b ≡ Less
 less_by_front a b g h lt = sym (decided a b g h 0 Less (omega arith) (nat_cmp_is (eight a 0) (eight b 0) Less lt) refl)
+
+-- names that begin alike compare as what follows
+carried : (m n : ℕ) (o : Ordering) → MatchOrdering o (m < n) (m ≡ n) (n < m) → MatchOrdering o (suc m < suc n) (suc m ≡ suc n) (suc n < suc m)
+carried m n Less h = omega arith
+carried m n Equal h = ap suc h
+carried m n Greater h = omega arith
+
+one_longer : (m n : ℕ) → nat_cmp (suc m) (suc n) ≡ nat_cmp m n
+one_longer m n = sym (nat_cmp_is (suc m) (suc n) (nat_cmp m n) (carried m n (nat_cmp m n) (ranks m n)))
+
+lengths_behind : (p x y : List ℕ) → nat_cmp (length (p ++ x)) (length (p ++ y)) ≡ nat_cmp (length x) (length y)
+lengths_behind [] x y = refl
+lengths_behind (c ∷ p) x y = one_longer (length (p ++ x)) (length (p ++ y)) ∙ lengths_behind p x y
+
+abbrev upper : List ℕ → List ℕ
+upper name = map to_ascii_uppercase name
+
+units_behind : (p x y : List ℕ) → slice_cmp nat_cmp (upper (p ++ x)) (upper (p ++ y)) ≡ slice_cmp nat_cmp (upper x) (upper y)
+units_behind [] x y = refl
+units_behind (c ∷ p) x y =
+    let u : ℕ = to_ascii_uppercase c in
+    let e : Equal ≡ nat_cmp u u = nat_cmp_is u u Equal refl in
+    ap (λ o. ordering_then o (slice_cmp nat_cmp (upper (p ++ x)) (upper (p ++ y)))) (sym e) ∙ units_behind p x y
+
+names_behind : (p x y : List ℕ) → name_cmp (p ++ x) (p ++ y) ≡ name_cmp x y
+names_behind p x y = (λ t. ordering_then (lengths_behind p x y t) (units_behind p x y t))
+
+pub keys_behind : (p x y : List ℕ) → key_cmp (key (p ++ x)) (key (p ++ y)) ≡ key_cmp (key x) (key y)
+keys_behind p x y = keys_agree (p ++ x) (p ++ y) ∙ names_behind p x y ∙ sym (keys_agree x y)
+
+-- a name that begins as others do
+pub begun : (dir shared name rest : List ℕ) (id : ℕ) → name ≡ name_of (entry_at dir id) → take (length shared) name ≡ shared → rest ≡ drop (length shared) name
+    → AreBytes (key rest) → Begins dir shared id
+begun dir shared name rest id named same is bytes = record {
+  whole =
+      let h : name ≡ shared ++ drop (length shared) name = sym (take-append-drop (length shared) name) ∙ ap (λ xs. xs ++ drop (length shared) name) same in
+      subst (λ (xs : List ℕ). xs ≡ shared ++ drop (length shared) xs) named h;
+  bytes = subst (λ (xs : List ℕ). AreBytes (key xs)) (is ∙ ap (drop (length shared)) named) bytes;
+}

@@ -15,7 +15,7 @@ use Rattle.std.specs.declared.cmp.Ordering.{Ordering}
 use Rattle.std.specs.declared.cmp.Ordering.TheVariants.{Less, Equal, Greater}
 use Rattle.cfb_chain.specs.Chain.{AreDistinct}
 use Rattle.cfb_names.specs.Names.{key, key_cmp}
-use Rattle.cfb_directory.specs.Entries.{IsNameOf, IsNamed, entry_at}
+use Rattle.cfb_directory.specs.Entries.{IsNameOf, IsNamed, entry_at, name_of}
 use Rattle.file_faults.specs.Faults.{key_at}
 use Rattle.entry_sorting.specs.Sorting.{AllAdjacentApart, HasEqualNeighbours, MayRefuseNames, keyed, places}
 use Rattle.cfb_names.specs.declared.fault.DirFault.TheVariants.{DuplicateName}
@@ -57,10 +57,13 @@ module _ {X : Type 0} (k : X → List ℕ) where
       let e : n + 1 ≡ suc n = omega arith in
       subst (λ (m : ℕ). key_cmp (k (get_or (x ∷ xs) n d)) (k (get_or (x ∷ xs) m d)) ≡ Less) e (up n d (omega (arith, lt))))
 
--- the key of the name of an entry below the root
+-- the name of an entry below the root, and its key
+pub name_is : (dir : List ℕ) (id : ℕ) (name : List ℕ) → id ≢ 0 → IsNameOf id (entry_at dir id) name → name ≡ name_of (entry_at dir id)
+name_is dir zero name ne h = absurd (ne refl)
+name_is dir (suc id) name ne h = let named : IsNamed (entry_at dir (suc id)) name = h in named.units
+
 pub name_key : (dir : List ℕ) (id : ℕ) (name : List ℕ) → id ≢ 0 → IsNameOf id (entry_at dir id) name → key name ≡ key_at dir id
-name_key dir zero name ne h = absurd (ne refl)
-name_key dir (suc id) name ne h = let named : IsNamed (entry_at dir (suc id)) name = h in ap key named.units
+name_key dir id name ne h = ap key (name_is dir id name ne h)
 
 -- an entry behind the key of its name
 abbrev pub IsKeyed : List ℕ → List ℕ × ℕ → Type 0

@@ -8,11 +8,11 @@ use Rattle.std.specs.List.{AllByRecursion, Contains, IsDistinct, list_any}
 use Rattle.std.specs.List.Sorted.{IsPermutation, IsStrictlySortedBy}
 use Rattle.std.specs.Set.{is_member}
 use Rattle.std.specs.declared.cmp.Ordering.TheVariants.{Less}
-use Rattle.cfb_names.specs.Names.{key_cmp}
+use Rattle.cfb_names.specs.Names.{key, key_cmp}
 use Rattle.cfb_names.proofs.Keys.{slice_cmp-same}
 use Rattle.file_faults.specs.Faults.{key_at}
-use Rattle.entry_sorting.specs.Sorting.{AreFronts, AreInOrder, front_at, keyed, places}
-use Rattle.entry_sorting.proofs.Fronts.{less_by_front}
+use Rattle.entry_sorting.specs.Sorting.{AreFronts, AreInOrder, Begins, front_at, rest_at, keyed, places}
+use Rattle.entry_sorting.proofs.Fronts.{keys_behind, less_by_front}
 use Rattle.entry_sorting.proofs.SortedNames.{as_many, same_entries, sorted}
 
 -- numbers whose keys are in strict order are distinct
@@ -58,7 +58,7 @@ onto ids v same once into n inside =
           absurd (omega (arith, more, same))
     ] refl
 
-module _ (dir ids fronts v : List ℕ) (are : AreFronts dir ids fronts) (ordered : AreInOrder fronts ids v) where
+module _ (dir shared ids fronts v : List ℕ) (are : AreFronts dir shared ids fronts) (ordered : AreInOrder fronts ids v) where
   as_long : length v ≡ length ids
   as_long = ap length ordered.are ∙ length-map ordered.order (λ n. get_or ids n 0) ∙ ordered.count
 
@@ -72,18 +72,22 @@ module _ (dir ids fronts v : List ℕ) (are : AreFronts dir ids fronts) (ordered
   entry : (k d : ℕ) → k < length v → get_or v k d ≡ get_or ids (index k) 0
   entry k d lt = ap (λ xs. get_or xs k d) ordered.are ∙ get_or-map (λ n. get_or ids n 0) ordered.order k 0 d (omega (arith, lt, as_long, ordered.count))
 
-  front_is : (k : ℕ) → k < length v → get_or fronts (index k) 0 ≡ front_at dir (get_or ids (index k) 0)
-  front_is k lt = ap (λ xs. get_or xs (index k) 0) are.numbers ∙ get_or-map (front_at dir) ids (index k) 0 0 (inside k lt)
+  front_is : (k : ℕ) → k < length v → get_or fronts (index k) 0 ≡ front_at dir shared (get_or ids (index k) 0)
+  front_is k lt = ap (λ xs. get_or xs (index k) 0) are.numbers ∙ get_or-map (front_at dir shared) ids (index k) 0 0 (inside k lt)
 
   rises : (k d : ℕ) → k + 1 < length v → key_cmp (key_at dir (get_or v k d)) (key_at dir (get_or v (k + 1) d)) ≡ Less
   rises k d lt =
       let l : k < length v = omega (arith, lt) in
       let a : ℕ = get_or ids (index k) 0 in
       let b : ℕ = get_or ids (index (k + 1)) 0 in
-      let up : front_at dir a < front_at dir b =
+      let g : Begins dir shared a = are.begin (index k) (inside k l) in
+      let h : Begins dir shared b = are.begin (index (k + 1)) (inside (k + 1) lt) in
+      let up : front_at dir shared a < front_at dir shared b =
       omega (arith, ordered.rise k (omega (arith, lt, as_long, ordered.count)), front_is k l, front_is (k + 1) lt) in
       (λ t. key_cmp (key_at dir (entry k d l t)) (key_at dir (entry (k + 1) d lt t)))
-      ∙ less_by_front (key_at dir a) (key_at dir b) (are.bytes (index k) (inside k l)) (are.bytes (index (k + 1)) (inside (k + 1) lt)) up
+      ∙ (λ t. key_cmp (key (g.whole t)) (key (h.whole t)))
+      ∙ keys_behind shared (rest_at dir shared a) (rest_at dir shared b)
+      ∙ less_by_front (key (rest_at dir shared a)) (key (rest_at dir shared b)) g.bytes h.bytes up
 
   walked_sorted : IsStrictlySortedBy key_cmp (map (key_at dir) v)
   walked_sorted = sorted (key_at dir) v rises
@@ -104,10 +108,11 @@ pub record AreSorted (dir ids v : List ℕ) : Type 0 where
   pub same : (n : ℕ) → Contains ids n ↔ Contains v n
 
 -- as a walk left them in the place of their indices
-pub by_walking : (dir ids fronts v rest : List ℕ) (n : ℕ) → n ≡ length ids → AreFronts dir ids fronts → AreInOrder fronts ids v → AreSorted dir ids (take n (v ++ rest))
-by_walking dir ids fronts v rest n few are ordered =
-    subst (AreSorted dir ids) (sym (written v rest n (as_long dir ids fronts v are ordered ∙ sym few)))
-    (record { ordered = walked_sorted dir ids fronts v are ordered; same = walked_same dir ids fronts v are ordered })
+pub by_walking : (dir shared ids fronts v rest : List ℕ) (n : ℕ) → n ≡ length ids → AreFronts dir shared ids fronts → AreInOrder fronts ids v
+    → AreSorted dir ids (take n (v ++ rest))
+by_walking dir shared ids fronts v rest n few are ordered =
+    subst (AreSorted dir ids) (sym (written v rest n (as_long dir shared ids fronts v are ordered ∙ sym few)))
+    (record { ordered = walked_sorted dir shared ids fronts v are ordered; same = walked_same dir shared ids fronts v are ordered })
 
 -- as sorting did
 pub by_sorting : (dir ids : List ℕ) (list : List (List ℕ × ℕ)) (v rest : List ℕ) (n : ℕ) → n ≡ length ids → IsPermutation (keyed dir ids) list

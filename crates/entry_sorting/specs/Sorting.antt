@@ -1,8 +1,9 @@
 -- Entries with the keys of their names, and what they are refused for as the children of a storage.
-use Rattle.std.specs.Prelude.{◌≡◌, ◌≢◌, ◌<◌, ◌+◌, ℕ, List, length, map, slice_index, slice_index_or}
+use Rattle.std.specs.Prelude.{◌≡◌, ◌≢◌, ◌<◌, ◌+◌, ◌++◌, ℕ, List, drop, length, map, slice_index, slice_index_or}
 use Rattle.std.specs.List.{All, Contains}
 use Rattle.cfb_names.specs.Numbers.{AreBytes, eight}
-use Rattle.cfb_directory.specs.Entries.{MayRefuseEntry}
+use Rattle.cfb_names.specs.Names.{key}
+use Rattle.cfb_directory.specs.Entries.{MayRefuseEntry, entry_at, name_of}
 use Rattle.cfb_names.specs.declared.fault.DirFault.{DirFault}
 use Rattle.cfb_names.specs.declared.fault.DirFault.TheVariants.{DuplicateName}
 use Rattle.file_faults.specs.Faults.{key_at}
@@ -22,14 +23,23 @@ AllAdjacentApart list = (k : ℕ) (d : List ℕ × ℕ) → k + 1 < length list 
 abbrev pub HasEqualNeighbours : List (List ℕ × ℕ) → Type 0
 HasEqualNeighbours list = (k : ℕ) × (d : List ℕ × ℕ) × (k + 1 < length list) × ((slice_index_or list k d).0 ≡ (slice_index_or list (k + 1) d).0)
 
--- the number that the first eight bytes of the key of an entry's name spell
-abbrev pub front_at : List ℕ → ℕ → ℕ
-front_at dir id = eight (key_at dir id) 0
+-- the name of an entry behind what names begin with
+abbrev pub rest_at : List ℕ → List ℕ → ℕ → List ℕ
+rest_at dir shared id = drop (length shared) (name_of (entry_at dir id))
 
--- These are the fronts of the keys of entries, of whose names each character is a byte.
-pub record AreFronts (dir ids fronts : List ℕ) : Type 0 where
-  pub numbers : fronts ≡ map (front_at dir) ids
-  pub bytes : (k : ℕ) → k < length ids → AreBytes (key_at dir (slice_index ids k))
+-- the number that the first eight bytes of the key of that spell
+abbrev pub front_at : List ℕ → List ℕ → ℕ → ℕ
+front_at dir shared id = eight (key (rest_at dir shared id)) 0
+
+-- an entry's name begins so, and what follows is of bytes
+pub record Begins (dir shared : List ℕ) (id : ℕ) : Type 0 where
+  pub whole : name_of (entry_at dir id) ≡ shared ++ rest_at dir shared id
+  pub bytes : AreBytes (key (rest_at dir shared id))
+
+-- entries whose names begin alike, and the fronts of the keys of what follows
+pub record AreFronts (dir shared ids fronts : List ℕ) : Type 0 where
+  pub numbers : fronts ≡ map (front_at dir shared) ids
+  pub begin : (k : ℕ) → k < length ids → Begins dir shared (slice_index ids k)
 
 -- the elements at these indices of a list
 abbrev pub at_each : List ℕ → List ℕ → List ℕ

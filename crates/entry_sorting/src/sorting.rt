@@ -12,7 +12,10 @@ ghost use Rattle.entry_sorting.specs.Sorting.{AllAdjacentApart, AreFronts, AreIn
 use cfb_directory::entries::Entries;
 use cfb_names::fault::DirFault;
 use cfb_names::key::Key;
-use cfb_names::name::{Name, key};
+use cfb_names::name::{Name, key, named};
+
+/// Of how many entries it is looked what their names begin with. A walk of a balanced tree meets the least within so many.
+const LOOKED_AT: usize = 32;
 
 /// Adds an item to a list that has room for it.
 fn push_within<T: Copy>(list: &mut Vec<T>, item: T)
@@ -38,11 +41,11 @@ fn unit(name: &[u8], index: usize) -> u8
 }
 
 /// The first eight bytes of the key of a name as a number, of which the first is worth most. So where it is less, the key is.
-fn front(name: &Name) -> u64
+fn front(name: &[u8]) -> u64
+    requires short { length name.now ≤ 31 }
     ensures number { result ≡ eight (key name.now) 0 }
     ensures bytes { AreBytes (key name.now) }
 {
-    let name = name.as_bytes();
     u64::from_be_bytes([
         name.len() as u8,
         unit(name, 0),
@@ -55,22 +58,81 @@ fn front(name: &Name) -> u64
     ])
 }
 
-/// Lists the fronts of the entries' keys, and a zero for each entry, where there is room for all.
+/// How many characters two names have in common before the first that differs.
+fn count_shared(one: &[u8], other: &[u8]) -> usize
+    ensures inside { result ≤ length one.now }
+{
+    for k in 0..one.len() {
+        match other.get(k) {
+            Some(unit) if *unit == one[k] => {}
+            _ => return k,
+        }
+    }
+    one.len()
+}
+
+/// What two names both begin with, if that is anything.
+fn shared_by(one: &Name, other: &Name) -> Option<Name> {
+    let one = one.as_bytes();
+    let count = count_shared(one, other.as_bytes());
+    match named(&one[..count]) {
+        Ok(shared) => Some(shared),
+        Err(_) => None,
+    }
+}
+
+/// What the names of a few entries all begin with: of the last, which is the greatest where they come as a search tree is
+/// walked, and of the first ones, the least among them. What these begin with mostly all names do.
+///
+/// Nothing is promised of it: each name is looked at.
+fn guess_shared(entries: &Entries<'_>, ids: &[u32]) -> Option<Name> {
+    let last = match ids.last() {
+        Some(id) => entries.name(*id),
+        None => return None,
+    };
+    let mut shared = match last {
+        Ok(name) => name,
+        Err(_) => return None,
+    };
+    for id in ids.iter().take(LOOKED_AT) {
+        let name = match entries.name(*id) {
+            Ok(name) => name,
+            Err(_) => return None,
+        };
+        shared = match shared_by(&shared, &name) {
+            Some(shared) => shared,
+            None => return None,
+        };
+    }
+    Some(shared)
+}
+
+/// The characters of a name, none where there is no name.
+fn units_of(name: &Option<Name>) -> &[u8] {
+    match name {
+        Some(name) => name.as_bytes(),
+        None => &[],
+    }
+}
+
+/// Lists for entries whose names begin alike the fronts of the keys of what follows in them, and a zero for each entry, where
+/// there is room for all. Answers whether all names begin so.
 ///
 /// Refused: as `Entries::name`.
 fn list_fronts(
     entries: &Entries<'_>,
     ids: &[u32],
+    shared: &[u8],
     fronts: &mut Vec<u64>,
     order: &mut Vec<u32>,
-) -> Result<(), DirFault>
+) -> Result<bool, DirFault>
     requires below_root { All (λ n. n ≢ 0) ids.now }
     requires no_fronts { fronts.old.items ≡ [] }
     requires no_order { order.old.items ≡ [] }
     requires fronts_room { length ids.now ≤ vec_capacity fronts.old }
     requires order_room { length ids.now ≤ vec_capacity order.old }
-    ensures listed { OnOk result (AreFronts entries.now.directory ids.now fronts.new.items) }
-    ensures count { OnOk result (length order.new.items ≡ length ids.now) }
+    ensures listed { IfOk result (λ all. all ≡ true → AreFronts entries.now.directory shared.now ids.now fronts.new.items) }
+    ensures count { IfOk result (λ all. all ≡ true → length order.new.items ≡ length ids.now) }
     ensures refused { IfErr result (MayRefuseOneOf entries.now.directory ids.now) }
 {
     for id in ids {
@@ -78,10 +140,15 @@ fn list_fronts(
             Ok(name) => name,
             Err(fault) => return Err(fault),
         };
-        push_within(fronts, front(&name));
+        let units = name.as_bytes();
+        let rest = match units.strip_prefix(shared) {
+            Some(rest) => rest,
+            None => return Ok(false),
+        };
+        push_within(fronts, front(rest));
         push_within(order, 0);
     }
-    Ok(())
+    Ok(true)
 }
 
 /// Whether the number at an index of a list is less than another. Where there is none, it isn't.
@@ -257,10 +324,10 @@ fn by_keys(
 
 /// The entries in the order of their names. It takes no memory: it is given lists with room for all.
 ///
-/// Most names differ in the first eight bytes of their keys, their lengths and first seven characters. Where all do, and links
-/// of a search tree reach the entries as it is walked from its top, these numbers alone put them in order, in as many steps as
-/// there are entries. Others are sorted by whole keys, for which names are read once more: n entries in n log n steps. Until
-/// then the list of keys isn't written to, and what is reserved and not written to takes no memory.
+/// Names mostly differ within seven characters behind what all of them begin with. Where they do, and links of a search tree
+/// reach the entries as it is walked from its top, a number for each puts them in order, in as many steps as there are entries.
+/// Others are sorted by whole keys, for which names are read once more: n entries in n log n steps. Until then the list of keys
+/// isn't written to, and what is reserved and not written to takes no memory.
 ///
 /// Refused: as `Entries::name`, and `DuplicateName` where two names are equal in upper case.
 pub fn by_name(
@@ -282,7 +349,11 @@ pub fn by_name(
     ensures same { IfOk result (λ v. (n : ℕ) → Contains ids.items n ↔ Contains v.items n) }
     ensures refused { IfErr result (MayRefuseNames entries.now.directory ids.items) }
 {
-    list_fronts(entries, &ids, &mut fronts, &mut order)?;
+    let shared = guess_shared(entries, &ids);
+    let begin_alike = list_fronts(entries, &ids, units_of(&shared), &mut fronts, &mut order)?;
+    if !begin_alike {
+        return by_keys(entries, ids, list);
+    }
     if put_walked(&fronts, &ids, &mut order) {
         return Ok(order);
     }

@@ -9,12 +9,12 @@ walked c rest =
     let ids : List ℕ = c.args.ids.items in
     let fronts : List ℕ = c.list_fronts.new.fronts.items in
     let v : List ℕ = c.put_walked.new.order in
-    let listed : AreFronts dir ids fronts = subst (λ (xs : List ℕ). AreFronts dir xs fronts) c.deref.ensures.value c.in_ok-list_fronts.ensures.listed in
+    let listed : AreFronts dir c.units_of.result.now ids fronts = subst (λ (xs : List ℕ). AreFronts dir c.units_of.result.now xs fronts) c.deref-2.ensures.value (c.in_ok-begin_alike.ensures.listed c.if-not-begin_alike.false) in
     let ordered : AreInOrder fronts ids v =
-    subst (λ (xs : List ℕ). AreInOrder fronts xs v) c.deref-3.ensures.value
-    (subst (λ (xs : List ℕ). AreInOrder xs c.deref-3.result.now v) c.deref-2.ensures.value (c.put_walked.ensures.ordered c.if-put_walked.true)) in
-    by_walking dir ids fronts v rest c.list_fronts.new.order.len
-    (omega (arith, c.deref_mut.ensures.len, ap length c.deref_mut.ensures.value, c.in_ok-list_fronts.ensures.count, ap length c.deref.ensures.value)) listed ordered
+    subst (λ (xs : List ℕ). AreInOrder fronts xs v) c.deref-4.ensures.value
+    (subst (λ (xs : List ℕ). AreInOrder xs c.deref-4.result.now v) c.deref-3.ensures.value (c.put_walked.ensures.ordered c.if-put_walked.true)) in
+    by_walking dir c.units_of.result.now ids fronts v rest c.list_fronts.new.order.len
+    (omega (arith, c.deref_mut.ensures.len, ap length c.deref_mut.ensures.value, c.in_ok-begin_alike.ensures.count c.if-not-begin_alike.false, ap length c.deref-2.ensures.value)) listed ordered
 
 pub returns-then-put_walked-clause-ordered : goal.returns-then-put_walked-clause-ordered
 returns-then-put_walked-clause-ordered c = (walked c _).ordered
