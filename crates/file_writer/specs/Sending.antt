@@ -1,5 +1,5 @@
--- What is written of the file of a tree, a piece at a time.
-use Rattle.std.specs.Prelude.{◌≡◌, ℕ, List, ◌++◌, Option, Ok, length}
+-- What is written of the file of a tree.
+use Rattle.std.specs.Prelude.{◌≡◌, ℕ, List, Option, Ok, length}
 use Rattle.std.specs.Io.KnownBytes.{Appends}
 use Rattle.storage_tree.specs.Tree.{Tree}
 use Rattle.storage_tree.specs.Whole.{IsTree}
@@ -8,12 +8,6 @@ use Rattle.file_model.specs.Refusals.{Refuses, writable}
 use Rattle.file_writer.specs.Laid.{IsLaidOut}
 use Rattle.file_writer.specs.declared.sending.SendFault.{SendFault}
 use Rattle.file_writer.specs.declared.sending.SendFault.TheVariants as send
-
--- Bytes went on their way behind those that waited: of all these the first were written, and the others wait.
-pub record Sends (old new : Option (List ℕ)) (waited waits bytes : List ℕ) : Type 0 where
-  pub gone : List ℕ
-  pub written : Appends old new gone
-  pub all : gone ++ waits ≡ waited ++ bytes
 
 -- the file of a tree was written, of so many bytes; it denotes the tree where that is whole
 pub record WritesFile (t : Tree) (old new : Option (List ℕ)) (count : ℕ) : Type 0 where

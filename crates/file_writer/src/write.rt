@@ -8,10 +8,10 @@ ghost use Rattle.file_model.specs.Denotes.{Denotes};
 ghost use Rattle.file_model.specs.Refusals.{Refuses, writable};
 ghost use Rattle.file_writer.specs.Laid.{IsLaidOut};
 
-use crate::front::front_of;
-use crate::needs::count;
-use crate::sending::send_all;
 use file_model::fault::WriteFault;
+use file_planning::front::front_of;
+use file_planning::needs::count;
+use file_sending::sending::send_all;
 use std::alloc::Global;
 use storage_tree::storage::Storage;
 use storage_tree::tree::Tree;

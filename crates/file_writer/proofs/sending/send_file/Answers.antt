@@ -4,8 +4,8 @@ use Rattle.storage_tree.specs.Tree.{Tree}
 use Rattle.storage_tree.specs.View.{view}
 use Rattle.file_layout.specs.Directory.{balanced, parts_of}
 use Rattle.file_layout.specs.Image.{image}
-use Rattle.file_writer.specs.Counted.{AreEnough}
-use Rattle.file_writer.proofs.Denoted.{file_denotes}
+use Rattle.file_parts.specs.Counted.{AreEnough}
+use Rattle.file_parts.proofs.Denoted.{file_denotes}
 use Rattle.file_writer.proofs.sending.send_file.Goals as goal
 
 pub returns-in-Ok-send_all-clause-written : goal.returns-in-Ok-send_all-clause-written

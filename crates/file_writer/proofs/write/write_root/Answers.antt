@@ -4,7 +4,7 @@ use Rattle.storage_tree.specs.View.{view}
 use Rattle.file_model.specs.Denotes.{Denotes}
 use Rattle.file_layout.specs.Directory.{balanced, parts_of}
 use Rattle.file_layout.specs.Image.{image}
-use Rattle.file_writer.proofs.Denoted.{file_denotes}
+use Rattle.file_parts.proofs.Denoted.{file_denotes}
 use Rattle.file_writer.proofs.write.write_root.Goals as goal
 
 pub returns-in-Ok-clause-denotes : goal.returns-in-Ok-clause-denotes

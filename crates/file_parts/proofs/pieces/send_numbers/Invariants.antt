@@ -1,0 +1,10 @@
+use Rattle.std.proofs.Common.{drop, ◌≡◌, ◌++◌, List, ℕ}
+use Rattle.std.specs.Int.{to_le_bytes, w32}
+use Rattle.std.specs.List.{flat_map}
+use Rattle.file_parts.specs.Sends.{Sends}
+use Rattle.file_parts.proofs.pieces.send_numbers.Given as goal
+
+abbrev pub invariant-loop-n : goal.invariant-loop-n
+invariant-loop-n g l = (sent : List ℕ)
+    × Sends (g.W.Write.contents l.initial.writer) (g.W.Write.contents l.writer) l.initial.waiting.items l.waiting.items sent
+    × (sent ++ flat_map (to_le_bytes w32) (drop l.n-index l.numbers) ≡ flat_map (to_le_bytes w32) l.numbers)

@@ -1,0 +1,6 @@
+pub mod Streams
+pub mod Leads
+pub mod Filled
+pub mod Front
+pub mod Counted
+pub mod Sends

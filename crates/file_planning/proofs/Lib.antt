@@ -1,0 +1,4 @@
+pub mod ContentsWalk
+pub mod ContentsSiblings
+pub mod ContentsPush
+pub mod ContentsStreams

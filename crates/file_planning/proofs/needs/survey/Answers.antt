@@ -1,0 +1,5 @@
+use Rattle.std.proofs.Common.{rules}
+use Rattle.file_planning.proofs.needs.survey.Goals as goal
+
+pub returns : goal.returns
+returns c = search rules

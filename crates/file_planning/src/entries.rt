@@ -1,0 +1,310 @@
+//! What the entries of a tree say (MS-CFB 2.6).
+
+ghost use Rattle.std.specs.Prelude.{◌≡◌, ◌<◌, ◌+◌, ◌^◌, ◌++◌, ℕ, IfOk, OnOk, length, min};
+ghost use Rattle.std.specs.Vec.{vec_len};
+ghost use Rattle.storage_tree.specs.View.{seen, view};
+ghost use Rattle.file_model.specs.Need.{entries, long_sectors};
+ghost use Rattle.file_model.specs.declared.limit.TheConstants.{MANY};
+ghost use Rattle.file_parts.specs.Counted.{AreCounts};
+ghost use Rattle.file_planning.specs.Siblings.{IsBelow, IsChildSpelled, AreSiblings, IsJoined, past, past_all, past_stream};
+ghost use Rattle.file_parts.specs.Leads.{IsDirectory, storage_leads, stream_leads};
+ghost use Rattle.file_planning.specs.Walked.{child_leads, sibling_leads};
+ghost use Rattle.file_layout.specs.Image.{pieces_of, runs};
+ghost use Rattle.file_parts.specs.Streams.{long_within, short_within};
+ghost use Rattle.storage_tree.specs.Change.{bytes as content};
+ghost use Rattle.file_layout.specs.Directory.{AreSpelled, balanced as balanced_links, children_in, entries_with, first_of_stream, ids_from, long_start, long_streams, root_says, short_streams};
+
+use crate::needs::needs_with;
+use cfb_directory::entries::{EntryKind, NO_STREAM};
+use cfb_directory::links::{Links, balanced};
+use cfb_directory::write::EntryFields;
+use file_parts::counts::{Counts, chain_start};
+use file_parts::leads::{Directory, Lead, class_bytes, state_bits};
+use file_parts::streams::{is_short, mini_count, sector_count};
+use file_parts::tables::{Tables, push_run};
+use std::alloc::{AllocError, Global};
+use storage_tree::storage::{Node, Storage};
+
+/// The ids of a storage's children, of which the first has this one.
+fn child_ids(alloc: Global, storage: &Storage, first: u32) -> Result<Vec<u32>, AllocError>
+    requires { first + entries (view storage.now) < MANY }
+    ensures listed { IfOk result (λ ids. ids.items ≡ ids_from first (children_in (view storage.now))) }
+    ensures few { IfOk result (λ ids. vec_len ids < MANY) }
+{
+    let mut ids = Vec::with_capacity(alloc, storage.children.len())?;
+    let mut id = first;
+    for (_, child) in storage.children.iter() {
+        ids.push(id)?;
+        id += needs_with(&child.1).entries;
+    }
+    Ok(ids)
+}
+
+/// The entries of siblings, and how they are linked.
+#[derive(Drop)]
+struct Siblings {
+    ids: Vec<u32>,
+    links: Links,
+}
+
+/// The children of a storage, of which the first has this id.
+fn siblings_of(alloc: Global, storage: &Storage, first: u32) -> Result<Siblings, AllocError>
+    requires { first + entries (view storage.now) < MANY }
+    ensures { IfOk result (λ siblings. AreSiblings siblings first (children_in (view storage.now))) }
+{
+    let ids = child_ids(alloc, storage, first)?;
+    let links = balanced(alloc, ids.len() as u32)?;
+    Ok(Siblings { ids, links })
+}
+
+impl Siblings {
+    ghost use Rattle.std.specs.Prelude.{◌≡◌, ◌<◌, ℕ, length, slice_index};
+    ghost use Rattle.file_planning.specs.Siblings.{IsJoined};
+    ghost use Rattle.file_layout.specs.Directory.{IsLink};
+    ghost use Rattle.file_layout.specs.Directory.{balanced, linked};
+
+    /// The entry that a link to one of the siblings names.
+    fn entry_id(&self, place: u32) -> u32
+        requires { IsLink (length self.now.ids.items) place }
+        ensures { result ≡ linked self.now.ids.items place }
+    {
+        if place == NO_STREAM {
+            NO_STREAM
+        } else {
+            self.ids[place as usize]
+        }
+    }
+
+    /// The entry on top.
+    fn top(&self) -> u32
+        requires { IsJoined self.now }
+        ensures { result ≡ linked self.now.ids.items (balanced (length self.now.ids.items)).top }
+    {
+        self.entry_id(self.links.top)
+    }
+
+    /// The entry to the left of the one at a place.
+    fn left(&self, place: usize) -> u32
+        requires joined { IsJoined self.now }
+        requires there { place < length self.now.ids.items }
+        ensures { result ≡ linked self.now.ids.items (slice_index (balanced (length self.now.ids.items)).left place) }
+    {
+        self.entry_id(self.links.left[place])
+    }
+
+    /// The entry to the right of the one at a place.
+    fn right(&self, place: usize) -> u32
+        requires joined { IsJoined self.now }
+        requires there { place < length self.now.ids.items }
+        ensures { result ≡ linked self.now.ids.items (slice_index (balanced (length self.now.ids.items)).right place) }
+    {
+        self.entry_id(self.links.right[place])
+    }
+}
+
+/// Where the next entry, mini sector and sector stand.
+#[derive(Clone, Copy)]
+struct Cursor {
+    id: u32,
+    mini: u32,
+    sector: u32,
+}
+
+/// Where a stream of so many bytes starts.
+fn stream_start(at: Cursor, len: usize) -> u32
+    requires { len < 2 ^ 32 }
+    ensures { result ≡ first_of_stream at.mini at.sector len }
+{
+    if is_short(len) {
+        chain_start(at.mini, mini_count(len) as u32)
+    } else {
+        chain_start(at.sector, sector_count(len) as u32)
+    }
+}
+
+/// Where the entry of the stream of so many bytes at a place leads.
+fn stream_lead(siblings: &Siblings, place: usize, at: Cursor, len: usize) -> Lead
+    requires joined { IsJoined siblings.now }
+    requires there { place < length siblings.now.ids.items }
+    requires few { len < 2 ^ 32 }
+    ensures { result ≡ stream_leads siblings.now.ids.items place at.mini at.sector len }
+{
+    Lead {
+        left: siblings.left(place),
+        right: siblings.right(place),
+        down: stream_start(at, len),
+    }
+}
+
+/// Where the entry of the storage at a place leads, whose children are these.
+fn storage_lead(siblings: &Siblings, place: usize, storage: &Storage, children: &Siblings) -> Lead
+    requires joined { IsJoined siblings.now }
+    requires there { place < length siblings.now.ids.items }
+    requires below { IsJoined children.now }
+    ensures class_id { length storage.now.class ≡ 16 }
+    ensures state_bits { storage.now.state < 2 ^ 32 }
+    ensures leads { (id : ℕ) → AreSiblings children.now (id + 1) (children_in (view storage.now)) → result ≡ storage_leads siblings.now.ids.items place id (view storage.now) }
+{
+    let _class = class_bytes(storage.class.as_bytes());
+    let _state = state_bits(storage.state);
+    Lead {
+        left: siblings.left(place),
+        right: siblings.right(place),
+        down: children.top(),
+    }
+}
+
+impl Cursor {
+    /// Behind a stream of so many bytes.
+    fn past(self, len: usize) -> Cursor
+        requires { IsBelow (past_stream self len) MANY }
+        ensures { result ≡ past_stream self len }
+    {
+        if is_short(len) {
+            Cursor {
+                id: self.id + 1,
+                mini: self.mini + mini_count(len) as u32,
+                sector: self.sector,
+            }
+        } else {
+            Cursor {
+                id: self.id + 1,
+                mini: self.mini,
+                sector: self.sector + sector_count(len) as u32,
+            }
+        }
+    }
+}
+
+/// Adds the run of a stream to the table that it lies in.
+fn push_stream(tables: &mut Tables, at: Cursor, bytes: &[u8]) -> Result<(), AllocError>
+    requires { IsBelow (past_stream at (length bytes.now)) MANY }
+    ensures minis { OnOk result (tables.new.minis.items ≡ tables.old.minis.items ++ runs at.mini (pieces_of 64 (short_within (content bytes.now)))) }
+    ensures fat { OnOk result (tables.new.fat.items ≡ tables.old.fat.items ++ runs at.sector (pieces_of 512 (long_within (content bytes.now)))) }
+{
+    let len = bytes.len();
+    if is_short(len) {
+        push_run(&mut tables.minis, at.mini, mini_count(len) as u32)?;
+        return Ok(());
+    }
+    push_run(&mut tables.fat, at.sector, sector_count(len) as u32)?;
+    Ok(())
+}
+
+/// Adds where the entries below a storage lead, whose children these are, and the runs of the streams there.
+#[cycle(push_leads)]
+fn push_below(
+    alloc: Global,
+    leads: &mut Vec<Lead>,
+    tables: &mut Tables,
+    storage: &Storage,
+    siblings: &Siblings,
+    at: Cursor,
+) -> Result<Cursor, AllocError>
+    requires siblings { AreSiblings siblings.now at.id (children_in (view storage.now)) }
+    requires few { IsBelow (past_all at (children_in (view storage.now))) MANY }
+    ensures pushed { OnOk result (leads.new.items ≡ leads.old.items ++ sibling_leads siblings.now.ids.items 0 at (children_in (view storage.now))) }
+    ensures minis { OnOk result (tables.new.minis.items ≡ tables.old.minis.items ++ runs at.mini (pieces_of 64 (short_streams (view storage.now)))) }
+    ensures fat { OnOk result (tables.new.fat.items ≡ tables.old.fat.items ++ runs at.sector (pieces_of 512 (long_streams (view storage.now)))) }
+    ensures next { IfOk result (λ next. next ≡ past_all at (children_in (view storage.now))) }
+    ensures spelled { OnOk result (AreSpelled (children_in (view storage.now))) }
+{
+    let mut next = at;
+    let mut place = 0;
+    for (_, child) in storage.children.iter() {
+        next = push_child(alloc, leads, tables, &child.1, siblings, place, next)?;
+        place += 1;
+    }
+    Ok(next)
+}
+
+/// Adds where the entry of a child at a place leads, and those below it, and the runs of their streams.
+#[cycle(push_leads)]
+fn push_child(
+    alloc: Global,
+    leads: &mut Vec<Lead>,
+    tables: &mut Tables,
+    child: &Node,
+    siblings: &Siblings,
+    place: usize,
+    at: Cursor,
+) -> Result<Cursor, AllocError>
+    requires joined { IsJoined siblings.now }
+    requires there { place < length siblings.now.ids.items }
+    requires few { IsBelow (past at (seen child.now)) MANY }
+    ensures pushed { OnOk result (leads.new.items ≡ leads.old.items ++ child_leads siblings.now.ids.items place at (seen child.now)) }
+    ensures minis { OnOk result (tables.new.minis.items ≡ tables.old.minis.items ++ runs at.mini (pieces_of 64 (short_within (seen child.now)))) }
+    ensures fat { OnOk result (tables.new.fat.items ≡ tables.old.fat.items ++ runs at.sector (pieces_of 512 (long_within (seen child.now)))) }
+    ensures next { IfOk result (λ next. next ≡ past at (seen child.now)) }
+    ensures spelled { OnOk result (IsChildSpelled (seen child.now)) }
+{
+    match child {
+        Node::Stream(bytes) => {
+            let bytes = bytes.as_slice();
+            let len = bytes.len();
+            leads.push(stream_lead(siblings, place, at, len))?;
+            push_stream(tables, at, bytes)?;
+            Ok(at.past(len))
+        }
+        Node::Storage(inner) => {
+            let below = Cursor {
+                id: at.id + 1,
+                mini: at.mini,
+                sector: at.sector,
+            };
+            let children = siblings_of(alloc, inner, below.id)?;
+            leads.push(storage_lead(siblings, place, inner, &children))?;
+            let next = push_below(alloc, leads, tables, inner, &children, below)?;
+            Ok(next)
+        }
+    }
+}
+
+/// What the root's entry says, whose children these are.
+fn root_entry(root: &Storage, children: &Siblings, counts: Counts) -> EntryFields
+    requires children { AreSiblings children.now 1 (children_in (view root.now)) }
+    requires counts { AreCounts counts (view root.now) }
+    ensures class_id { length root.now.class ≡ 16 }
+    ensures state_bits { root.now.state < 2 ^ 32 }
+    ensures says { result ≡ root_says balanced_links counts.fat (view root.now) }
+{
+    let state = state_bits(root.state);
+    let before = counts.own_sectors() + counts.directory_sectors() + counts.mini_fat_sectors();
+    EntryFields {
+        kind: EntryKind::Root,
+        left: NO_STREAM,
+        right: NO_STREAM,
+        child: children.top(),
+        class: class_bytes(root.class.as_bytes()),
+        state,
+        first: chain_start(before, counts.mini_stream_sectors()),
+        size: 64 * counts.minis,
+    }
+}
+
+/// The directory of a tree with these counts. The runs of the streams go into the tables.
+pub(crate) fn directory_of(
+    alloc: Global,
+    tables: &mut Tables,
+    root: &Storage,
+    counts: Counts,
+) -> Result<Directory, AllocError>
+    requires counts { AreCounts counts (view root.now) }
+    requires few { long_start counts.fat (view root.now) + long_sectors (view root.now) < MANY }
+    ensures directory { IfOk result (λ directory. IsDirectory directory counts.fat (view root.now)) }
+    ensures minis { OnOk result (tables.new.minis.items ≡ tables.old.minis.items ++ runs 0 (pieces_of 64 (short_streams (view root.now)))) }
+    ensures fat { OnOk result (tables.new.fat.items ≡ tables.old.fat.items ++ runs (long_start counts.fat (view root.now)) (pieces_of 512 (long_streams (view root.now)))) }
+{
+    let before = counts.own_sectors() + counts.directory_sectors() + counts.mini_fat_sectors();
+    let sector = before + counts.mini_stream_sectors();
+    let first = Cursor {
+        id: 1,
+        mini: 0,
+        sector,
+    };
+    let children = siblings_of(alloc, root, first.id)?;
+    let mut leads = Vec::with_capacity(alloc, counts.entries as usize)?;
+    push_below(alloc, &mut leads, tables, root, &children, first)?;
+    let root = root_entry(root, &children, counts);
+    Ok(Directory { root, leads })
+}

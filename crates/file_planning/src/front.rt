@@ -1,0 +1,61 @@
+//! What stands before the streams in the file of a tree: its header, its tables and its directory.
+
+ghost use Rattle.std.specs.Prelude.{◌≡◌, IfOk};
+ghost use Rattle.storage_tree.specs.View.{view};
+ghost use Rattle.file_parts.specs.Counted.{AreEnough};
+ghost use Rattle.file_parts.specs.Filled.{fat_numbers, mini_numbers};
+ghost use Rattle.file_parts.specs.Front.{IsFront};
+ghost use Rattle.file_parts.specs.Leads.{IsDirectory};
+
+use crate::entries::directory_of;
+use file_parts::counts::Counts;
+use file_parts::front::{Front, difat_table, push_header};
+use file_parts::leads::Directory;
+use file_parts::pieces::ROOM;
+use file_parts::tables::{Tables, fill_table, tables_for};
+use std::alloc::{AllocError, Global};
+use storage_tree::storage::Storage;
+
+/// The tables of the file of a tree with these counts, and its directory, of one walk over the tree.
+fn parts_for(
+    alloc: Global,
+    root: &Storage,
+    counts: Counts,
+) -> Result<(Tables, Directory), AllocError>
+    requires { AreEnough counts (view root.now) }
+    ensures fat { IfOk result (λ parts. parts.0.fat.items ≡ fat_numbers counts.fat (view root.now)) }
+    ensures minis { IfOk result (λ parts. parts.0.minis.items ≡ mini_numbers (view root.now)) }
+    ensures directory { IfOk result (λ parts. IsDirectory parts.1 counts.fat (view root.now)) }
+{
+    let mut tables = tables_for(alloc, counts)?;
+    let directory = directory_of(alloc, &mut tables, root, counts)?;
+    fill_table(&mut tables.fat, counts.fat)?;
+    fill_table(&mut tables.minis, counts.mini_fat_sectors())?;
+    Ok((tables, directory))
+}
+
+/// The front of the file of a tree with these counts. All memory that its file takes is taken here: behind the header is
+/// room for what waits to be written.
+pub fn front_of(alloc: Global, root: &Storage, counts: Counts) -> Result<Front, AllocError>
+    requires { AreEnough counts (view root.now) }
+    ensures { IfOk result (λ front. IsFront front counts.fat (view root.now)) }
+{
+    let difat_count = counts.difat_sectors();
+    let (tables, directory) = parts_for(alloc, root, counts)?;
+    let difat = difat_table(alloc, counts.fat, difat_count)?;
+    let mut header = Vec::with_capacity(alloc, counts.file_len().min(ROOM))?;
+    push_header(
+        alloc,
+        &mut header,
+        counts.fat,
+        difat_count,
+        counts.directory_sectors(),
+        counts.mini_fat_sectors(),
+    )?;
+    Ok(Front {
+        header,
+        tables,
+        difat,
+        directory,
+    })
+}

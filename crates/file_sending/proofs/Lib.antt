@@ -1,0 +1,2 @@
+pub mod DirectoryWalk
+pub mod StreamsWalk

@@ -1,0 +1,11 @@
+use Rattle.std.proofs.Common.{◌≡◌, ◌++◌, List, ℕ}
+use Rattle.storage_tree.specs.View.{children}
+use Rattle.file_layout.specs.Directory.{short_streams_of}
+use Rattle.file_layout.specs.Image.{whole_pieces}
+use Rattle.file_parts.specs.Sends.{Sends}
+use Rattle.file_sending.proofs.sending.+send_short.Given as goal
+
+abbrev pub invariant-send_short-loop-node : goal.invariant-send_short-loop-node
+invariant-send_short-loop-node g l = (sent : List ℕ)
+    × Sends (g.W.Write.contents l.initial.writer) (g.W.Write.contents l.writer) l.initial.waiting.items l.waiting.items sent
+    × (sent ++ whole_pieces 64 (short_streams_of (children l.node-iterator)) ≡ whole_pieces 64 (short_streams_of (children l.storage.children.entries)))

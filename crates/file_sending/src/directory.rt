@@ -1,0 +1,140 @@
+//! The directory of a tree, as it is sent (MS-CFB 2.6).
+
+ghost use Rattle.cfb_directory.specs.Written.{entry_bytes, free_entry_bytes};
+ghost use Rattle.file_layout.specs.Directory.{balanced, directory_of_tree, entries_with};
+ghost use Rattle.file_model.specs.Need.{directory_sectors, entries};
+ghost use Rattle.file_model.specs.declared.limit.TheConstants.{MANY};
+ghost use Rattle.file_parts.specs.Counted.{AreCounts};
+ghost use Rattle.file_parts.specs.Leads.{IsDirectory, child_led, lead_in, led_below, storage_led, stream_led};
+ghost use Rattle.file_parts.specs.Sends.{Sends};
+ghost use Rattle.std.specs.Prelude.{[], ◌++◌, ◌+◌, ◌*◌, ◌<◌, ◌≡◌, IfOk, OnOk, length};
+ghost use Rattle.storage_tree.specs.View.{seen, view};
+
+use crate::entries::{send_entry, send_unused};
+use cfb_directory::entries::{EntryKind, NO_STREAM};
+use cfb_directory::write::EntryFields;
+use cfb_names::name::Name;
+use file_parts::counts::Counts;
+use file_parts::leads::{Directory, Lead, class_bytes, state_bits};
+use std::io::{self, Write};
+use storage_tree::storage::{Node, Storage};
+
+/// The lead at a place.
+fn lead_at(leads: &[Lead], at: usize) -> Lead
+    ensures { result ≡ lead_in leads.now at }
+{
+    if at < leads.len() {
+        return leads[at];
+    }
+    Lead {
+        left: NO_STREAM,
+        right: NO_STREAM,
+        down: NO_STREAM,
+    }
+}
+
+/// What the entry of a stream of so many bytes says. A longer one than its field can say is in no tree that is written.
+fn stream_entry(lead: Lead, len: usize) -> EntryFields
+    ensures { result ≡ stream_led lead len }
+{
+    EntryFields {
+        kind: EntryKind::Stream,
+        left: lead.left,
+        right: lead.right,
+        child: NO_STREAM,
+        class: [0; 16],
+        state: 0,
+        first: lead.down,
+        size: len.min(u32::MAX as usize) as u32,
+    }
+}
+
+/// What the entry of a storage says.
+fn storage_entry(lead: Lead, storage: &Storage) -> EntryFields
+    ensures { result ≡ storage_led lead (view storage.now) }
+{
+    EntryFields {
+        kind: EntryKind::Storage,
+        left: lead.left,
+        right: lead.right,
+        child: lead.down,
+        class: class_bytes(storage.class.as_bytes()),
+        state: state_bits(storage.state),
+        first: 0,
+        size: 0,
+    }
+}
+
+/// Sends the entries below a storage, whose leads stand from a place on, and gives the place behind them.
+#[cycle(send_entries)]
+fn send_below<W: Write>(
+    writer: &mut W,
+    waiting: &mut Vec<u8>,
+    storage: &Storage,
+    leads: &[Lead],
+    at: usize,
+) -> io::Result<usize>
+    requires { at + entries (view storage.now) < MANY }
+    ensures sent { OnOk result (Sends (W.contents writer.old) (W.contents writer.new) waiting.old.items waiting.new.items (led_below leads.now at (view storage.now))) }
+    ensures next { IfOk result (λ next. next ≡ at + entries (view storage.now)) }
+    ensures long { OnOk result (length (led_below leads.now at (view storage.now)) ≡ 128 * entries (view storage.now)) }
+{
+    let mut next = at;
+    for (_, child) in storage.children.iter() {
+        next = send_child(writer, waiting, child, leads, next)?;
+    }
+    Ok(next)
+}
+
+/// Sends the entry of a child, and those below it.
+#[cycle(send_entries)]
+fn send_child<W: Write>(
+    writer: &mut W,
+    waiting: &mut Vec<u8>,
+    child: &(Name, Node),
+    leads: &[Lead],
+    at: usize,
+) -> io::Result<usize>
+    requires { at + entries_with (seen child.now.1) < MANY }
+    ensures sent { OnOk result (Sends (W.contents writer.old) (W.contents writer.new) waiting.old.items waiting.new.items (child_led leads.now at child.now.0 (seen child.now.1))) }
+    ensures next { IfOk result (λ next. next ≡ at + entries_with (seen child.now.1)) }
+    ensures long { OnOk result (length (child_led leads.now at child.now.0 (seen child.now.1)) ≡ 128 * entries_with (seen child.now.1)) }
+{
+    let name = child.0.as_bytes();
+    let lead = lead_at(leads, at);
+    match &child.1 {
+        Node::Stream(bytes) => {
+            send_entry(writer, waiting, name, &stream_entry(lead, bytes.len()))?;
+            Ok(at + 1)
+        }
+        Node::Storage(inner) => {
+            send_entry(writer, waiting, name, &storage_entry(lead, inner))?;
+            let next = send_below(writer, waiting, inner, leads, at + 1)?;
+            Ok(next)
+        }
+    }
+}
+
+/// Sends the directory of a tree: the root, what is below it, and unused entries up to a whole sector.
+pub(crate) fn send_directory<W: Write>(
+    writer: &mut W,
+    waiting: &mut Vec<u8>,
+    root: &Storage,
+    directory: &Directory,
+    counts: Counts,
+) -> io::Result<()>
+    requires counts { AreCounts counts (view root.now) }
+    requires directory { IsDirectory directory.now counts.fat (view root.now) }
+    ensures sent { OnOk result (Sends (W.contents writer.old) (W.contents writer.new) waiting.old.items waiting.new.items (directory_of_tree balanced counts.fat (view root.now))) }
+    ensures long { OnOk result (length (directory_of_tree balanced counts.fat (view root.now)) ≡ 512 * directory_sectors (view root.now)) }
+{
+    let name = Name::root();
+    send_entry(writer, waiting, name.as_bytes(), &directory.root)?;
+    send_below(writer, waiting, root, &directory.leads, 0)?;
+    send_unused(
+        writer,
+        waiting,
+        4 * counts.directory_sectors() - (1 + counts.entries),
+    )?;
+    Ok(())
+}

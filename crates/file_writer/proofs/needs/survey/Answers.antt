@@ -1,5 +1,0 @@
-use Rattle.std.proofs.Common.{rules}
-use Rattle.file_writer.proofs.needs.survey.Goals as goal
-
-pub returns : goal.returns
-returns c = search rules
