@@ -4,10 +4,12 @@ use crate::command_lines::{CHECK, EXTRACT, FOLDER, FORCE, MAP, PACK};
 use crate::running::{Listing, check, clean, get, list, map};
 use clap::ArgMatches;
 use fault_texts::telling::Form;
+use file_making::making::make_file;
 use folder_program::extracting::extract;
 use folder_program::packing::pack;
-use make_program::making::make;
 use program_ends::command_lines::{CLEAN, FILE, GET, JSON, LIST, LONG, MAKE, OUT, PATH};
+use program_ends::ends::refuse;
+use program_ends::making::make;
 use std::alloc::Global;
 use std::process::ExitCode;
 use std::rt::Runtime;
@@ -62,7 +64,7 @@ impl<'a> Task<'a> {
     pub fn run<R: Runtime + AllocGlobal>(self, rt: &R) -> ExitCode {
         keep_blocks(rt.alloc());
         match self {
-            Task::Make(path) => make(rt, path),
+            Task::Make(path) => make_described(rt, path),
             Task::List(path, listing) => list(rt, path, listing),
             Task::Get(path, word) => get(rt, path, word),
             Task::Clean(path, out) => clean(rt, path, out),
@@ -72,6 +74,16 @@ impl<'a> Task<'a> {
             Task::Pack(folder, path) => pack(rt, folder, path),
         }
     }
+}
+
+/// Makes the file that standard input describes.
+fn make_described<R: Runtime + AllocGlobal>(rt: &R, path: &str) -> ExitCode {
+    make(
+        rt,
+        path,
+        |new| make_file(rt.alloc(), &mut rt.reader(), new),
+        |path, fault| refuse(rt, &fault.report(path)),
+    )
 }
 
 /// How many bytes a block has that is taken once and given back untouched.

@@ -1,10 +1,15 @@
 //! The program `olecon` with its command `make` alone, which is built soonest: it makes OLE compound files.
 #![tactic(auto)]
 
-use make_program::making::make;
+use file_making::making::make_file;
+use program_ends::ends::refuse;
 use program_ends::starts::start_making;
 use std::process::ExitCode;
 
 fn main(rt: HostRuntime) -> ExitCode {
-    start_making(&rt, |path| make(&rt, path))
+    start_making(
+        &rt,
+        |new| make_file(rt.alloc(), &mut rt.reader(), new),
+        |path, fault| refuse(&rt, &fault.report(path)),
+    )
 }

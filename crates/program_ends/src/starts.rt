@@ -2,6 +2,8 @@
 
 use crate::command_lines::{FILE, making_line};
 use crate::ends::{answer_usage, refuse_command, refuse_start};
+use crate::making::make;
+use crate::new_file::NewFile;
 use clap::ArgMatches;
 use std::alloc::AllocError;
 use std::process::ExitCode;
@@ -15,35 +17,49 @@ fn file_asked_for<'a>(matches: &ArgMatches<'a>) -> Option<&'a str> {
 }
 
 /// Makes what the words of a command line ask for, or tells what is wrong with them.
-fn answer<R: Runtime + AllocGlobal, F: Fn(&str) -> ExitCode>(
-    rt: &R,
-    words: &[String],
-    make: F,
-) -> Result<ExitCode, AllocError>
-    requires { F.IsAlwaysCallable make }
+fn answer<R, E, F, T>(rt: &R, words: &[String], write: F, tell: T) -> Result<ExitCode, AllocError>
+where
+    R: Runtime + AllocGlobal,
+    E: Drop,
+    F: FnOnce(&mut NewFile<'_, R>) -> Result<usize, E>,
+    T: FnOnce(&str, &E) -> ExitCode,
+    requires writes { F.IsAlwaysCallable write }
+    requires tells { T.IsAlwaysCallable tell }
 {
     match making_line(rt.alloc())?.try_get_matches_from(words) {
         Ok(matches) => match file_asked_for(&matches) {
-            Some(path) => Ok(make(path)),
+            Some(path) => Ok(make(rt, path, write, tell)),
             None => Ok(refuse_command(rt)),
         },
         Err(error) => Ok(answer_usage(rt, &error)),
     }
 }
 
-fn start<R: Runtime + AllocGlobal, F: Fn(&str) -> ExitCode>(rt: &R, make: F) -> io::Result<ExitCode>
-    requires { F.IsAlwaysCallable make }
+fn start<R, E, F, T>(rt: &R, write: F, tell: T) -> io::Result<ExitCode>
+where
+    R: Runtime + AllocGlobal,
+    E: Drop,
+    F: FnOnce(&mut NewFile<'_, R>) -> Result<usize, E>,
+    T: FnOnce(&str, &E) -> ExitCode,
+    requires writes { F.IsAlwaysCallable write }
+    requires tells { T.IsAlwaysCallable tell }
 {
     let words: Vec<String> = env::args(rt)?.collect(rt.alloc())?;
-    Ok(answer(rt, words.as_slice(), make)?)
+    Ok(answer(rt, words.as_slice(), write, tell)?)
 }
 
-/// Makes the file of the path that the program's command line asks for, or tells what is wrong with the line, or prints the
-/// help or the version that it asks for.
-pub fn start_making<R: Runtime + AllocGlobal, F: Fn(&str) -> ExitCode>(rt: &R, make: F) -> ExitCode
-    requires { F.IsAlwaysCallable make }
+/// Makes the file of the path that the program's command line asks for, as `make` does, or tells what is wrong with the line,
+/// or prints the help or the version that it asks for.
+pub fn start_making<R, E, F, T>(rt: &R, write: F, tell: T) -> ExitCode
+where
+    R: Runtime + AllocGlobal,
+    E: Drop,
+    F: FnOnce(&mut NewFile<'_, R>) -> Result<usize, E>,
+    T: FnOnce(&str, &E) -> ExitCode,
+    requires writes { F.IsAlwaysCallable write }
+    requires tells { T.IsAlwaysCallable tell }
 {
-    match start(rt, make) {
+    match start(rt, write, tell) {
         Ok(code) => code,
         Err(error) => refuse_start(rt, &error),
     }

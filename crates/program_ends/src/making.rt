@@ -1,0 +1,31 @@
+//! Files that a command makes.
+
+use crate::ends::keep;
+use crate::journals::refuse_unfinished;
+use crate::new_file::NewFile;
+use std::process::ExitCode;
+use std::rt::Runtime;
+
+/// Makes the file of a path by what writes it and counts its bytes, unless a save of the one in whose place it is to be was
+/// cut off. Where it isn't written, the path's file stays as it was, and what tells the fault gives the status to end with.
+pub fn make<R, E, F, T>(rt: &R, path: &str, write: F, tell: T) -> ExitCode
+where
+    R: Runtime + AllocGlobal,
+    E: Drop,
+    F: FnOnce(&mut NewFile<'_, R>) -> Result<usize, E>,
+    T: FnOnce(&str, &E) -> ExitCode,
+    requires writes { F.IsAlwaysCallable write }
+    requires tells { T.IsAlwaysCallable tell }
+{
+    if let Err(code) = refuse_unfinished(rt, path) {
+        return code;
+    }
+    let mut new = NewFile::new(rt, path);
+    match write(&mut new) {
+        Ok(count) => keep(rt, new, path, count),
+        Err(fault) => {
+            new.discard();
+            tell(path, &fault)
+        }
+    }
+}
