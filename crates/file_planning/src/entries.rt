@@ -1,6 +1,6 @@
 //! What the entries of a tree say (MS-CFB 2.6).
 
-ghost use Rattle.std.specs.Prelude.{◌≡◌, ◌<◌, ◌+◌, ◌^◌, ◌++◌, ℕ, IfOk, OnOk, length, min};
+ghost use Rattle.std.specs.Prelude.{◌≡◌, ◌<◌, ◌+◌, ◌^◌, ◌++◌, ℕ, IfOk, OnOk, length};
 ghost use Rattle.std.specs.Vec.{vec_len};
 ghost use Rattle.storage_tree.specs.View.{seen, view};
 ghost use Rattle.file_model.specs.Need.{entries, long_sectors};
@@ -12,7 +12,7 @@ ghost use Rattle.file_planning.specs.Walked.{child_leads, sibling_leads};
 ghost use Rattle.file_layout.specs.Image.{pieces_of, runs};
 ghost use Rattle.file_parts.specs.Streams.{long_within, short_within};
 ghost use Rattle.storage_tree.specs.Change.{bytes as content};
-ghost use Rattle.file_layout.specs.Directory.{AreSpelled, balanced as balanced_links, children_in, entries_with, first_of_stream, ids_from, long_start, long_streams, root_says, short_streams};
+ghost use Rattle.file_layout.specs.Directory.{AreSpelled, balanced as balanced_links, children_in, first_of_stream, ids_from, long_start, long_streams, root_says, short_streams};
 
 use crate::needs::needs_with;
 use cfb_directory::entries::{EntryKind, NO_STREAM};

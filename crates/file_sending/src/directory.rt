@@ -1,13 +1,12 @@
 //! The directory of a tree, as it is sent (MS-CFB 2.6).
 
-ghost use Rattle.cfb_directory.specs.Written.{entry_bytes, free_entry_bytes};
 ghost use Rattle.file_layout.specs.Directory.{balanced, directory_of_tree, entries_with};
 ghost use Rattle.file_model.specs.Need.{directory_sectors, entries};
 ghost use Rattle.file_model.specs.declared.limit.TheConstants.{MANY};
 ghost use Rattle.file_parts.specs.Counted.{AreCounts};
 ghost use Rattle.file_parts.specs.Leads.{IsDirectory, child_led, lead_in, led_below, storage_led, stream_led};
 ghost use Rattle.file_parts.specs.Sends.{Sends};
-ghost use Rattle.std.specs.Prelude.{[], ◌++◌, ◌+◌, ◌*◌, ◌<◌, ◌≡◌, IfOk, OnOk, length};
+ghost use Rattle.std.specs.Prelude.{◌+◌, ◌*◌, ◌<◌, ◌≡◌, IfOk, OnOk, length};
 ghost use Rattle.storage_tree.specs.View.{seen, view};
 
 use crate::entries::{send_entry, send_unused};

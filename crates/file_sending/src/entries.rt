@@ -3,7 +3,7 @@
 ghost use Rattle.cfb_directory.specs.Written.{entry_bytes, free_entry_bytes};
 ghost use Rattle.file_parts.specs.Sends.{Sends};
 ghost use Rattle.std.specs.List.{concat};
-ghost use Rattle.std.specs.Prelude.{[], ◌≡◌, ◌≤◌, OnOk, length, replicate};
+ghost use Rattle.std.specs.Prelude.{◌≡◌, ◌≤◌, OnOk, length, replicate};
 
 use cfb_directory::write::{EntryFields, write_entry, write_free_entry};
 use file_parts::leads::class_bytes;
