@@ -109,9 +109,7 @@ impl Blocks {
             return Some(run);
         }
         let entries = ENTRY_LEN.checked_mul(self.directory.count())?;
-        let behind = at
-            .checked_sub(self.before.len())?
-            .checked_sub(entries)?;
+        let behind = at.checked_sub(self.before.len())?.checked_sub(entries)?;
         let run = run_in(&self.after, behind, size)?;
         Some(run)
     }
@@ -179,6 +177,15 @@ impl Pool {
         ensures { result ≡ length self.now }
     {
         self.len
+    }
+
+    /// Makes room for so many blocks that are held as entries of a directory.
+    pub(crate) fn reserve(&mut self, blocks: usize) -> Result<(), AllocError>
+        ensures { self.new ≡ self.old }
+    {
+        self.blocks
+            .directory
+            .reserve((BLOCK / ENTRY_LEN).saturating_mul(blocks))
     }
 
     /// Adds a block of which these are the first bytes, zeros standing for the others.

@@ -9,6 +9,7 @@ use Rattle.std.specs.Prelude.{slice_set}
 use Rattle.std.specs.List.{flat_map}
 use Rattle.cfb_bytes.specs.Bytes.{block}
 use Rattle.packed_entries.specs.Packed.{entry_of, spelled, unit}
+use Rattle.packed_entries.specs.declared.packed.Short.{Short}
 use Rattle.packed_entries.specs.declared.packed.Slot.{Slot}
 use Rattle.packed_entries.specs.declared.packed.Slot.TheVariants.{Packed, Whole}
 
@@ -27,6 +28,10 @@ two_set : (ys : List ℕ) (c : ℕ) → 2 ≤ length ys → slice_set (slice_set
 two_set [] c l = absurd (omega arith)
 two_set (a ∷ []) c l = absurd (omega arith)
 two_set (a ∷ b ∷ ys) c l = refl
+
+one_set : (ys : List ℕ) (c : ℕ) → 1 ≤ length ys → slice_set ys 0 c ≡ c ∷ drop 1 ys
+one_set [] c l = absurd (omega arith)
+one_set (y ∷ ys) c l = refl
 
 -- a character more is written
 pub one_more : (name old : List ℕ) (k : ℕ) → k < length name → 2 * length name ≤ length old
@@ -49,6 +54,34 @@ one_more name old k lt room =
     ∙ ap (λ zs. xs ++ zs) (two_set ys c left)
     ∙ sym (append_assoc xs (unit c) (drop 2 ys))
     ∙ (λ t. sym more t ++ behind t)
+
+-- bytes that are laid over others, one more
+pub laid_more : (out part : List ℕ) (at k : ℕ) → at + length part ≤ length out → k < length part
+    → slice_set (take at out ++ take k part ++ drop (at + k) out) (at + k) (get_or part k 0) ≡ take at out ++ take (k + 1) part ++ drop (at + (k + 1)) out
+laid_more out part at k room less =
+    let xs : List ℕ = take at out ++ take k part in
+    let ys : List ℕ = drop (at + k) out in
+    let c : ℕ = get_or part k 0 in
+    let long : at + k ≡ length xs + 0 =
+    omega (arith, less, room, length-append (take at out) (take k part), length-take-le at out (omega (arith, room)), length-take-le k part (omega (arith, less))) in
+    let some : 1 ≤ length ys = omega (arith, less, room, length-drop (at + k) out) in
+    let behind : drop 1 ys ≡ drop (at + (k + 1)) out = drop-drop 1 (at + k) out ∙ ap (λ n. drop n out) (omega arith) in
+    ap (λ n. slice_set (xs ++ ys) n c) long
+    ∙ set_behind xs ys 0 c
+    ∙ ap (λ zs. xs ++ zs) (one_set ys c some)
+    ∙ sym (append_assoc xs (c ∷ []) (drop 1 ys))
+    ∙ (λ t. append_assoc (take at out) (take k part) (c ∷ []) t ++ behind t)
+    ∙ ap (λ zs. take at out ++ zs ++ drop (at + (k + 1)) out) (sym (take_more part k 0 less))
+
+-- an entry whose parts are laid into zeros
+pub laid : (name head place : List ℕ) → length head ≡ 16 → length place ≡ 7
+    → (zeros : List ℕ) → zeros ≡ replicate 128 0 → (mid : List ℕ) → mid ≡ take 116 zeros ++ place ++ drop (116 + length place) zeros
+    → flat_map unit name ++ drop 64 (take 64 mid ++ head ++ drop (64 + length head) mid)
+    ≡ flat_map unit name ++ (head ++ (replicate 36 0 ++ (place ++ replicate 5 0)))
+laid name head place h p zeros z mid m =
+    let mid_is : mid ≡ take 116 (replicate 128 0) ++ place ++ drop 123 (replicate 128 0) =
+    m ∙ (λ t. take 116 (z t) ++ place ++ drop (116 + p t) (z t)) in
+    λ t. flat_map unit name ++ drop 64 (take 64 (mid_is t) ++ head ++ drop (64 + h t) (mid_is t))
 
 -- an entry, its parts where they stand
 pub placed : (name head place : List ℕ) → flat_map unit name ++ (head ++ (replicate 36 0 ++ (place ++ replicate 5 0)))
@@ -76,6 +109,15 @@ unfolding block
 block_whole w bytes long =
     let none : w - length bytes ≡ 0 = omega (arith, long) in
     (λ i. take_all w bytes (omega (arith, long)) i ++ replicate (none i) 0) ∙ append-nil bytes
+
+-- all parts of an entry make it up
+pub length_spelled : (s : Short) → length s.name ≡ 32 → length s.head ≡ 16 → length s.place ≡ 7 → length (spelled s) ≡ 128
+unfolding spelled
+length_spelled s n h p =
+    let units : List ℕ = flat_map unit s.name in
+    let zeros : List ℕ = replicate 36 0 in
+    length-append (units ++ s.head ++ zeros ++ s.place) (replicate 5 0)
+    ∙ omega (arith, length-append (units ++ s.head ++ zeros) s.place, length-append (units ++ s.head) zeros, length-append units s.head, length_units s.name, n, h, p)
 
 -- the first bytes, and then zeros
 pub fronted : (bytes : List ℕ) (n : ℕ) → n ≡ min (length bytes) 128 → take n bytes ++ drop n (replicate 128 0) ≡ block 128 bytes 0

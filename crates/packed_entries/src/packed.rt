@@ -3,7 +3,7 @@
 ghost use Rattle.cfb_bytes.specs.Bytes.{block};
 ghost use Rattle.packed_entries.specs.Packed.{entry_of, spelled, unit};
 ghost use Rattle.std.specs.List.{flat_map};
-ghost use Rattle.std.specs.Prelude.{◌≡◌, IfOk, length, true};
+ghost use Rattle.std.specs.Prelude.{◌+◌, ◌++◌, ◌≡◌, ◌≤◌, drop, length, take, true};
 
 use std::alloc::{AllocError, Global};
 use std::marker::Model;
@@ -52,13 +52,23 @@ fn spread(out: &mut [u8], name: &[u8])
     }
 }
 
+/// Writes bytes over others, from a place on.
+fn lay(out: &mut [u8], at: usize, part: &[u8])
+    requires { at + length part.now ≤ length out.old }
+    ensures { out.new ≡ take at out.old ++ part.now ++ drop (at + length part.now) out.old }
+{
+    for k in 0..part.len() {
+        out[at + k] = part[k];
+    }
+}
+
 /// The bytes of an entry of which most are zero.
 fn spell(short: &Short) -> [u8; 128]
-    ensures { result ≡ spelled short.now }
+    ensures { result ≡ block 128 (spelled short.now) 0 }
 {
     let mut entry = [0; ENTRY_LEN];
-    entry[116..123].copy_from_slice(&short.place);
-    entry[64..80].copy_from_slice(&short.head);
+    lay(&mut entry, 116, &short.place);
+    lay(&mut entry, 64, &short.head);
     spread(&mut entry[..64], &short.name);
     entry
 }
@@ -70,17 +80,25 @@ fn shorten(entry: &[u8; 128]) -> Short {
         name[k] = entry[2 * k];
     }
     let mut head = [0; 16];
-    head.copy_from_slice(&entry[64..80]);
+    for k in 0..head.len() {
+        head[k] = entry[64 + k];
+    }
     let mut place = [0; 7];
-    place.copy_from_slice(&entry[116..123]);
+    for k in 0..place.len() {
+        place[k] = entry[116 + k];
+    }
     Short { name, head, place }
 }
 
-/// Whether bytes are the same.
-fn are_equal(a: &[u8], b: &[u8]) -> bool
+/// Whether entries are the same. All bytes are looked at, since that goes many at a time.
+fn are_equal(a: &[u8; 128], b: &[u8; 128]) -> bool
     ensures { result ≡ true → a.now ≡ b.now }
 {
-    a == b
+    let mut same = true;
+    for k in 0..ENTRY_LEN {
+        same &= a[k] == b[k];
+    }
+    same
 }
 
 /// The first bytes, with zeros behind them where there are fewer than an entry has.
@@ -114,7 +132,7 @@ impl Slot {
         ensures { result ≡ entry_of self.now }
     {
         match self {
-            Slot::Packed(short) => front(&spell(short)),
+            Slot::Packed(short) => spell(short),
             Slot::Whole(bytes) => front(bytes),
         }
     }
@@ -141,6 +159,14 @@ impl PackedEntries {
         PackedEntries {
             slots: Vec::new(alloc),
         }
+    }
+
+    /// Makes room for so many entries more, so that none of them is moved as the others come.
+    pub fn reserve(&mut self, count: usize) -> Result<(), AllocError>
+        ensures { self.new ≡ self.old }
+    {
+        self.slots.reserve_exact(count)?;
+        Ok(())
     }
 
     /// How many entries there are, of 128 bytes each.
