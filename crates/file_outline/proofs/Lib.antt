@@ -3,3 +3,4 @@ pub mod Outlines
 pub mod Placed
 pub mod Sorted
 pub mod Found
+pub mod Kept

@@ -3,4 +3,5 @@
 
 pub mod filling;
 pub mod finding;
+pub mod keeping;
 pub mod outline;

@@ -1,0 +1,55 @@
+//! What an outline keeps of what was read.
+
+ghost use Rattle.file_outline.specs.Keeping.{below, on_path, room, wanted};
+ghost use Rattle.std.specs.Prelude.{◌≡◌};
+
+use cfb_names::name::{Name, key};
+
+/// What an outline keeps of what was read: whoever looks for one stream needs only what leads to it.
+#[derive(Clone, Copy)]
+pub enum Keep<'p> {
+    /// All of it.
+    All,
+    /// What stands at this path, and what stands on the way to it.
+    Path(&'p [Name]),
+    /// Nothing.
+    Nothing,
+}
+
+/// What of a child of this name lies on a path.
+fn along<'p>(path: &'p [Name], name: &Name) -> Keep<'p>
+    ensures { wanted result ≡ below name.now (on_path path.now) }
+{
+    match path {
+        [] => Keep::Nothing,
+        [first, rest @ ..] => {
+            if key(first).cmp(&key(name)).is_eq() {
+                return Keep::Path(rest);
+            }
+            Keep::Nothing
+        }
+    }
+}
+
+impl<'p> Keep<'p> {
+    /// What is kept of a child of this name.
+    pub fn below(self, name: &Name) -> Keep<'p>
+        ensures { wanted result ≡ below name.now (wanted self.entry) }
+    {
+        match self {
+            Keep::All => Keep::All,
+            Keep::Path(path) => along(path, name),
+            Keep::Nothing => Keep::Nothing,
+        }
+    }
+
+    /// For how many of so many children room is made at once.
+    pub fn room(self, count: usize) -> usize
+        ensures { result ≡ room count (wanted self.entry) }
+    {
+        match self {
+            Keep::All => count,
+            _ => 0,
+        }
+    }
+}
