@@ -1,15 +1,16 @@
 -- What the parts of an outline tell of the entries that they were read of.
-use Rattle.std.proofs.Common.{◌≡◌, ◌<◌, ◌≤◌, ◌+◌, ℕ, List, [], ◌∷◌, ◌++◌, length, get_or, take, sym, ap, ◌∙◌, subst}
+use Rattle.std.proofs.Common.{◌≡◌, ◌<◌, ◌≤◌, ◌+◌, ℕ, suc, List, [], ◌∷◌, ◌++◌, length, get_or, take, refl, sym, ap, ◌∙◌, subst}
 use Rattle.std.proofs.lemmas.List.{take_more, take_all}
 use Rattle.directory_model.specs.Entries.{IsNamed, entry_at}
 use Rattle.file_outline.specs.declared.outline.Outline.{Outline}
 use Rattle.file_model.specs.Outline as model
-use Rattle.file_model.specs.Outline.{nested}
+use Rattle.file_model.specs.Outline.{nested, sized}
 use Rattle.file_outline.specs.View.{outline_step, outline_view, part_step, part_view}
 use Rattle.file_outline.specs.declared.outline.Part.{Part, fold-roll-Part}
 use Rattle.file_outline.specs.declared.outline.Part.TheOpen.{Part-F}
 use Rattle.file_outline.specs.declared.outline.Part.TheVariants as variant
-use Rattle.file_outline.specs.declared.outline.Part.TheViews.{rolls-Storage}
+use Rattle.file_outline.specs.declared.outline.Part.TheViews.{rolls-Storage, rolls-Stream}
+use Rattle.file_outline.specs.declared.outline.Place.{Place}
 use Rattle.outline_entries.specs.Places.{AreTold, IsPartTold, more, none}
 
 -- one more part
@@ -31,6 +32,14 @@ told_next dir items parts i name part lt told n p =
 pub told_all : (dir items : List ℕ) (parts : List (List ℕ × Part)) (i : ℕ) → length items ≤ i → AreTold dir (take i items) parts → AreTold dir items parts
 told_all dir items parts i le told = subst (λ (ids : List ℕ). AreTold dir ids parts) (take_all i items le) told
 
--- what a storage is as a part
+-- as many parts as entries
+pub told_long : (dir items : List ℕ) (parts : List (List ℕ × Part)) → AreTold dir items parts → length parts ≡ length items
+told_long dir items parts none = refl
+told_long dir items parts (more m others other q rest is told each) = ap suc (told_long dir others rest each)
+
+-- what a storage is as a part, and a stream
 pub view_nested : (o : Outline) → part_view (variant.Storage o) ≡ nested (outline_view o)
 view_nested o = ap part_view (sym (rolls-Storage o)) ∙ fold-roll-Part model.Part model.Outline part_step outline_step (Part-F.Storage o)
+
+pub view_sized : (place : Place) → part_view (variant.Stream place) ≡ sized place.size
+view_sized place = ap part_view (sym (rolls-Stream place)) ∙ fold-roll-Part model.Part model.Outline part_step outline_step (Part-F.Stream place)

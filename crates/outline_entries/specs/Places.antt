@@ -1,14 +1,17 @@
 -- Where an outline says that the streams of a file lie: where their entries say so (MS-CFB 2.6.3).
-use Rattle.std.specs.Prelude.{◌≡◌, ◌↔◌, ℕ, List, [], ◌∷◌, map}
+use Rattle.std.specs.Prelude.{◌≡◌, ◌↔◌, ℕ, List, [], ◌∷◌, Result, map}
 use Rattle.std.specs.List.{Contains}
 use Rattle.std.specs.List.Sorted.{IsStrictlySortedBy}
 use Rattle.cfb_names.specs.Names.{key_cmp}
 use Rattle.directory_model.specs.Entries.{AreLinked, IsNamed, child, entry_at, first_of, kind, size_of}
 use Rattle.storage_tree.specs.Tree.{Tree}
+use Rattle.storage_tree.specs.Change.{map_ok}
+use Rattle.storage_tree.specs.declared.fault.TreeFault.{TreeFault}
 use Rattle.file_model.specs.Denotes.{Denotes, directory_of}
 use Rattle.file_model.specs.Outline.{outline_of}
 use Rattle.file_faults.specs.Faults.{key_at}
-use Rattle.file_outline.specs.View.{outline_view}
+use Rattle.file_outline.specs.Streams.{stream_at}
+use Rattle.file_outline.specs.View.{outline_view, shown}
 use Rattle.file_outline.specs.declared.outline.Outline.{Outline}
 use Rattle.file_outline.specs.declared.outline.Part.{Part}
 use Rattle.file_outline.specs.declared.outline.Part.TheVariants.{Stream, Storage}
@@ -43,3 +46,11 @@ pub record IsPlaced (file : List ℕ) (t : Tree) (o : Outline) : Type 0 where
   pub outlined : outline_view o ≡ outline_of t
   pub denotes : Denotes file t
   pub told : IsTold (directory_of file denotes.layout) 0 o
+
+-- A path leads there, in a tree that the file denotes: whatever bytes lie at the places that the entries tell of, the stream at
+-- the path is what lies at this place, or is missing for this fault.
+pub record Leads (file : List ℕ) (path : List (List ℕ)) (there : Result Place TreeFault) : Type 0 where
+  pub t : Tree
+  pub whole : Outline
+  pub placed : IsPlaced file t whole
+  pub stands : (content : Place → List ℕ) → map_ok content there ≡ stream_at path (shown content whole)

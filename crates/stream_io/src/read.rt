@@ -13,14 +13,16 @@ ghost use Rattle.std.specs.Prelude.{[], ◌*◌, ◌<◌, ◌≡◌, ◌≢◌, 
 ghost use Rattle.storage_tree.specs.Change.{Seen};
 ghost use Rattle.storage_tree.specs.Kept.{kept};
 ghost use Rattle.storage_tree.specs.Tree as tree;
-ghost use Rattle.file_model.specs.Outline.{outline_of, part_of};
+ghost use Rattle.file_model.specs.Outline.{outline_of};
 ghost use Rattle.file_model.specs.Denotes.{Denotes};
 ghost use Rattle.file_faults.specs.Faults.{Base, IsStorage};
-ghost use Rattle.outline_entries.specs.Places.{IsPartTold, IsPlaced, IsTold};
+ghost use Rattle.file_outline.specs.Keeping.{wanted};
+ghost use Rattle.outline_entries.specs.Places.{IsPlaced, Leads};
 ghost use Rattle.stream_io.specs.Marks.{IsNext};
 ghost use Rattle.stream_io.specs.Reads.{AreSorted, IsChildRead, IsNodeRead, IsStorageRead, MayRefuseFile, MayRefusePlace, MayRefuseStorage, MayRefuseStream, MayWant, chain_fault, directory_in, met, stream_after};
+ghost use Rattle.stream_io.specs.Walks.{IsChildOutlined, IsOutlined, IsPartOutlined, IsWalked, MayRefuseFind};
 ghost use Rattle.file_outline.specs.Streams.{stream_at};
-ghost use Rattle.file_outline.specs.View.{contents, outline_view, part_view, shown, shown_part, table_for};
+ghost use Rattle.file_outline.specs.View.{contents, outline_view, shown, table_for};
 ghost use Rattle.stream_io.specs.View.{directory_bytes};
 ghost use Rattle.stream_io.specs.declared.fault.ReadFault.TheVariants.{NoMemory};
 ghost use Rattle.stream_io.specs.declared.read.Reader as reader;
@@ -38,6 +40,7 @@ use entry_sorting::sorting::by_name;
 use file_comparing::comparing::is_shown;
 use file_outline::filling::{bytes_at, storage_at};
 use file_outline::finding::place_at;
+use file_outline::keeping::Keep;
 use file_outline::outline::{Outline, Part, Place, is_short};
 use std::alloc::Global;
 use storage_tree::tree::Tree;
@@ -93,7 +96,8 @@ impl<'a, 'd> Reader<'a, 'd> {
         Ok(sorted)
     }
 
-    /// The outline of the storage of an entry, which may have so many levels below it. All that it takes is marked.
+    /// What is kept of the outline of the storage of an entry, which may have so many levels below it. All that the storage
+    /// takes is marked, whatever is kept of it.
     ///
     /// Refused: as `sorted_children` and `child_outline`.
     #[cycle(storages)]
@@ -103,21 +107,22 @@ impl<'a, 'd> Reader<'a, 'd> {
         id: u32,
         entry: &Entry,
         depth: u32,
+        keep: Keep<'_>,
     ) -> Result<Outline, ReadFault>
         requires entry { IsEntry (directory_in self.old) id entry.now }
         requires storage { IsStorage (directory_in self.old) id }
         requires root_marked { slice_index_or self.old.entries.used 0 true ≡ true }
-        ensures read { IfOk result (λ o. IsStorageRead depth id (shown (contents self.old.fat self.old.mini) o) self.old self.new) }
-        ensures sized { IfOk result (λ o. outline_of (shown (contents self.old.fat self.old.mini) o) ≡ outline_view o) }
-        ensures told { IfOk result (λ o. IsTold (directory_in self.old) id o) }
+        ensures outlined { IfOk result (λ o. IsOutlined depth id (wanted keep.entry) o self.old self.new) }
         ensures there { (t : tree.Tree) (new : reader.Reader) → IsStorageRead depth id t self.old new → IfErr result (λ e. e ≡ NoMemory) }
         ensures memory { IfErr result (MayWant self.old.entries id) }
         ensures refused { (b : Base) (pending : List ℕ) → IsNext b (suc depth) id pending self.old → IfErr result (MayRefuseStorage b) }
     {
         let ids = self.sorted_children(alloc, id)?;
-        let mut parts = Vec::with_capacity(alloc, ids.len())?;
+        let mut parts = Vec::with_capacity(alloc, keep.room(ids.len()))?;
         for child in &ids {
-            let part = self.child_outline(alloc, *child, depth)?;
+            let Some(part) = self.child_outline(alloc, *child, depth, keep)? else {
+                continue;
+            };
             parts.push(part)?;
         }
         Ok(Outline {
@@ -127,7 +132,8 @@ impl<'a, 'd> Reader<'a, 'd> {
         })
     }
 
-    /// The name of an entry and the outline of what it holds, in a storage that may have so many levels below it.
+    /// The name of an entry and what is kept of the outline of what it holds, in a storage that may have so many levels below
+    /// it. `None` where nothing is kept.
     ///
     /// Refused: as `Entries::entry` and `part_outline`.
     #[cycle(storages)]
@@ -136,22 +142,25 @@ impl<'a, 'd> Reader<'a, 'd> {
         alloc: Global,
         id: u32,
         depth: u32,
-    ) -> Result<(Name, Part), ReadFault>
+        keep: Keep<'_>,
+    ) -> Result<Option<(Name, Part)>, ReadFault>
         requires below_root { id ≢ 0 }
         requires root_marked { slice_index_or self.old.entries.used 0 true ≡ true }
-        ensures read { IfOk result (λ c. IsChildRead depth id (key c.0) c.0 (shown_part (contents self.old.fat self.old.mini) c.1) self.old self.new) }
-        ensures sized { IfOk result (λ c. part_of (shown_part (contents self.old.fat self.old.mini) c.1) ≡ part_view c.1) }
-        ensures told { IfOk result (λ c. IsPartTold (directory_in self.old) id c.1) }
+        ensures outlined { IfOk result (λ c. IsChildOutlined depth id (wanted keep.entry) c self.old self.new) }
         ensures there { (k name : List ℕ) (s : Seen) (new : reader.Reader) → IsChildRead depth id k name s self.old new → IfErr result (λ e. e ≡ NoMemory) }
         ensures memory { IfErr result (MayWant self.old.entries id) }
         ensures refused { (b : Base) (pending : List ℕ) → IsNext b depth id pending self.old → IfErr result (MayRefuseStorage b) }
     {
         let entry = self.entries.entry(id)?;
-        let part = self.part_outline(alloc, id, &entry, depth)?;
-        Ok((entry.name, part))
+        let below = keep.below(&entry.name);
+        let part = self.part_outline(alloc, id, &entry, depth, below)?;
+        match below {
+            Keep::Nothing => Ok(None),
+            _ => Ok(Some((entry.name, part))),
+        }
     }
 
-    /// The outline of what an entry holds.
+    /// What is kept of the outline of what an entry holds.
     ///
     /// Refused: `TooNested` for a storage where its own may have no level below it; as `mark_stream`, and as
     /// `storage_outline`.
@@ -162,13 +171,12 @@ impl<'a, 'd> Reader<'a, 'd> {
         id: u32,
         entry: &Entry,
         depth: u32,
+        keep: Keep<'_>,
     ) -> Result<Part, ReadFault>
         requires entry { IsEntry (directory_in self.old) id entry.now }
         requires below_root { id ≢ 0 }
         requires root_marked { slice_index_or self.old.entries.used 0 true ≡ true }
-        ensures read { IfOk result (λ part. IsNodeRead depth id (shown_part (contents self.old.fat self.old.mini) part) self.old self.new) }
-        ensures sized { IfOk result (λ part. part_of (shown_part (contents self.old.fat self.old.mini) part) ≡ part_view part) }
-        ensures told { IfOk result (λ part. IsPartTold (directory_in self.old) id part) }
+        ensures outlined { IfOk result (λ part. IsPartOutlined depth id (wanted keep.entry) part self.old self.new) }
         ensures there { (s : Seen) (new : reader.Reader) → IsNodeRead depth id s self.old new → IfErr result (λ e. e ≡ NoMemory) }
         ensures memory { IfErr result (MayWant self.old.entries id) }
         ensures refused { (b : Base) (pending : List ℕ) → IsNext b depth id pending self.old → IfErr result (MayRefuseStorage b) }
@@ -186,14 +194,14 @@ impl<'a, 'd> Reader<'a, 'd> {
                 if depth == 0 {
                     return Err(ReadFault::Directory(DirFault::TooNested));
                 }
-                let inner = self.storage_outline(alloc, id, entry, depth - 1)?;
+                let inner = self.storage_outline(alloc, id, entry, depth - 1, keep)?;
                 Ok(Part::Storage(inner))
             }
         }
     }
 }
 
-/// The tables of a file all of whose chains were walked, and its outline.
+/// The tables of a file all of whose chains were walked, and what is kept of its outline.
 #[derive(Drop)]
 struct Layout<'a> {
     fat: Fat<'a>,
@@ -242,16 +250,19 @@ fn directory_of<'a>(
     Ok(FoundDirectory::Joined(bytes))
 }
 
-/// The tables and the outline of a compound file whose header was read (MS-CFB 2). Each chain of sectors is walked once,
-/// and no stream is read.
+/// The tables of a compound file whose header was read, and what is kept of its outline (MS-CFB 2). Each chain of sectors is
+/// walked once, whatever is kept, and no stream is read.
 ///
 /// Refused: as `read_file`, but for the header.
-fn walk<'a>(alloc: Global, header: &Header, file: Image<'a>) -> Result<Layout<'a>, ReadFault>
+fn walk<'a>(
+    alloc: Global,
+    header: &Header,
+    file: Image<'a>,
+    keep: Keep<'_>,
+) -> Result<Layout<'a>, ReadFault>
     requires read { header_read (image_bytes file) ≡ Ok header.now }
     requires whole { IsHeader (image_bytes file) }
-    ensures denotes { IfOk result (λ l. Denotes (image_bytes file.entry) (shown (contents l.fat l.mini) l.root)) }
-    ensures sized { IfOk result (λ l. outline_of (shown (contents l.fat l.mini) l.root) ≡ outline_view l.root) }
-    ensures placed { IfOk result (λ l. IsPlaced (image_bytes file.entry) (shown (contents l.fat l.mini) l.root) l.root) }
+    ensures walked { IfOk result (λ l. IsWalked (image_bytes file.entry) (wanted keep.entry) l) }
     ensures reads { (t : tree.Tree) → Denotes (image_bytes file.entry) t → IfErr result (λ e. e ≡ NoMemory) }
     ensures refused { IfErr result (MayRefuseFile (image_bytes file.entry)) }
 {
@@ -262,7 +273,7 @@ fn walk<'a>(alloc: Global, header: &Header, file: Image<'a>) -> Result<Layout<'a
     let root = entries.entry(0)?;
     let mini = fat.mini(alloc, header, root.first, root.size)?;
     let mut reader = Reader { fat, mini, entries };
-    let outline = reader.storage_outline(alloc, 0, &root, DEEPEST)?;
+    let outline = reader.storage_outline(alloc, 0, &root, DEEPEST, keep)?;
     Ok(Layout {
         fat: reader.fat,
         mini: reader.mini,
@@ -282,7 +293,7 @@ fn lay_out<'a>(alloc: Global, file: &'a [u8]) -> Result<Layout<'a>, ReadFault>
     ensures refused { IfErr result (MayRefuseFile file.now) }
 {
     let header = Header::read(file)?;
-    let layout = walk(alloc, &header, Image::Whole(file))?;
+    let layout = walk(alloc, &header, Image::Whole(file), Keep::All)?;
     Ok(layout)
 }
 
@@ -348,8 +359,34 @@ pub fn read_placed(alloc: Global, header: &Header, file: &Places) -> Result<Outl
     ensures reads { (t : tree.Tree) → Denotes file.now t → IfErr result (λ e. e ≡ NoMemory) }
     ensures refused { IfErr result (MayRefuseFile file.now) }
 {
-    let walked = walk(alloc, header, Image::Placed(file))?;
+    let walked = walk(alloc, header, Image::Placed(file), Keep::All)?;
     Ok(walked.root)
+}
+
+/// Where the stream at a path lies in a compound file whose header was read, and of which some blocks were. The file is walked
+/// as for `read_placed`, but nothing is kept of it that doesn't lead to the stream.
+///
+/// Refused: as `read_placed`; then `NotFound` where nothing stands at the path, and `WrongKind` where a storage does, or where
+/// a stream stands on the way.
+pub fn find_placed(
+    alloc: Global,
+    header: &Header,
+    file: &Places,
+    path: &[Name],
+) -> Result<Place, StreamFault>
+    requires read { header_read file.now ≡ Ok header.now }
+    requires whole { IsHeader file.now }
+    ensures found { IfOk result (λ place. Leads file.now path.now (Ok place)) }
+    ensures refused { IfErr result (MayRefuseFind file.now path.now) }
+{
+    let walked = match walk(alloc, header, Image::Placed(file), Keep::Path(path)) {
+        Ok(walked) => walked,
+        Err(fault) => return Err(StreamFault::Read(fault)),
+    };
+    match place_at(&walked.root, path) {
+        Ok(place) => Ok(place),
+        Err(fault) => Err(StreamFault::Tree(fault)),
+    }
 }
 
 /// The bytes of the stream at a path of the tree that a compound file denotes. Each chain of sectors is walked as for
