@@ -1,15 +1,17 @@
 -- The parts of an outline that are kept so far, and those of the whole one.
-use Rattle.std.proofs.Common.{◌≡◌, ◌<◌, ◌≤◌, ◌+◌, ℕ, List, [], ◌∷◌, ◌++◌, Option, length, get_or, map, take, refl, sym, ◌∙◌, ap, subst}
+use Rattle.std.proofs.Common.{◌≡◌, ◌<◌, ◌≤◌, ◌+◌, ℕ, List, [], ◌∷◌, ◌++◌, Option, Result, length, get_or, take, refl, sym, ◌∙◌, ap, subst}
 use Rattle.std.specs.Global.{Vec}
 use Rattle.cfb_chain.specs.Fat.{IsFound, store_of}
 use Rattle.cfb_directory.specs.Entries.{IsNamed, class_of, entry_at, first_of, kind, size_of, state_of}
 use Rattle.cfb_header.specs.Bytes.{joined}
 use Rattle.cfb_names.specs.Names.{key}
 use Rattle.file_model.specs.Outline.{outline, outline_of, part_of}
-use Rattle.storage_tree.specs.Change.{Seen, child}
+use Rattle.storage_tree.specs.Change.{Seen, child, map_ok}
+use Rattle.storage_tree.specs.declared.fault.TreeFault.{TreeFault}
 use Rattle.storage_tree.specs.Tree.{Children, Tree, none, tree}
-use Rattle.file_outline.specs.Keeping.{AreKeptOf, IsKeptOf, Wanted, all}
-use Rattle.file_outline.specs.View.{contents, outline_view, part_view, shown, shown_part, shown_parts, table_for}
+use Rattle.file_outline.specs.Keeping.{AreKeptOf, Wanted, all, on_path}
+use Rattle.file_outline.specs.Streams.{stream_at}
+use Rattle.file_outline.specs.View.{contents, part_view, shown, shown_part, shown_parts, table_for}
 use Rattle.file_outline.specs.declared.outline.Outline.{Outline}
 use Rattle.file_outline.specs.declared.outline.Part.{Part}
 use Rattle.file_outline.specs.declared.outline.Part.TheViews.{roll-Outline}
@@ -17,7 +19,7 @@ use Rattle.file_outline.specs.declared.outline.Place.{Place}
 use Rattle.file_outline.proofs.Followed.{followed}
 use Rattle.file_outline.proofs.Kept.{IsWholeOf, kept_none, kept_whole}
 use Rattle.file_outline.proofs.Outlines.{AreSized, shown-push, shown-roll, sized-all, sized-push, view-roll}
-use Rattle.outline_entries.specs.Places.{AreInOrder, AreTold, IsPartTold, IsPlaced, IsTold, storage}
+use Rattle.outline_entries.specs.Places.{AreInOrder, AreTold, IsPartTold, IsPlaced, Leads, storage}
 use Rattle.outline_entries.proofs.Told.{told_all, told_long, told_next, told_none}
 use Rattle.stream_io.specs.Reads.{IsChildRead, IsStorageRead, IsStreamRead, directory_in, stream_after}
 use Rattle.stream_io.specs.Walks.{IsChildOutlined, IsOutlined, IsWalked}
@@ -113,3 +115,13 @@ module _ (depth id : ℕ) (items : List ℕ) (old mid : Reader) (o : AreOpen id 
 -- a file of whose outline all was kept
 pub walked_whole : (file : List ℕ) (l : Layout) → IsWalked file all l → IsPlaced file (shown (contents l.fat l.mini) l.root) l.root
 walked_whole file l h = subst (λ (o : Outline). IsPlaced file (shown (contents l.fat l.mini) o) o) (sym h.is_kept) h.placed
+
+-- a file of whose outline a path was kept
+pub leads : (file : List ℕ) (names : List (List ℕ)) (l : Layout) (r told : Result Place TreeFault) → IsWalked file (on_path names) l
+    → ((content : Place → List ℕ) → map_ok content r ≡ stream_at names (shown content l.root)) → r ≡ told → Leads file names told
+leads file names l r told h at is = record {
+  t = shown (contents l.fat l.mini) h.whole;
+  whole = h.whole;
+  placed = h.placed;
+  stands = λ content. ap (map_ok content) (sym is) ∙ at content ∙ h.is_kept content;
+}

@@ -10,7 +10,9 @@ use Rattle.cfb_directory.specs.Entries.{EntriesValue}
 use Rattle.storage_tree.specs.Tree.{Tree}
 use Rattle.file_model.specs.Denotes.{Denotes, Layout, directory_of}
 use Rattle.stream_io.specs.Reads.{IsStorageRead, MayRefuseFile, base_of, chain_fault, directory_fault}
+use Rattle.stream_io.specs.Walks.{IsOutlined}
 use Rattle.outline_entries.specs.Places.{IsPlaced, IsTold}
+use Rattle.file_outline.specs.Keeping.{wanted}
 use Rattle.stream_io.specs.declared.read.Reader.{Reader}
 use Rattle.file_faults.proofs.Chains.{directory_refused, mini_refused, table_refused}
 use Rattle.file_faults.proofs.Opened.{IsOpened, IsReady, opened_at, read_header, ready}
@@ -129,20 +131,21 @@ returns c =
     let start : Reader = record { fat = c.mini.new.self; mini = c.in_ok-mini.mini; entries = e } in
     let marked : get_or e.used 0 true ≡ true = root_marked e (length (held c.lent.result) / 128) (ap (λ (x : EntriesValue). x.used) c.in_ok-entries.ensures.loaded) in
     let before : Place → List ℕ = contents c.mini.new.self c.in_ok-mini.mini in
-    let t : Tree = shown before c.in_ok-outline.outline in
+    let told : IsOutlined 32 0 (wanted c.args.keep) c.in_ok-outline.outline start c.storage_outline.new.self = c.in_ok-outline.ensures.outlined in
+    let t : Tree = shown before told.whole in
     let kept : contents c.storage_outline.new.self.fat c.storage_outline.new.self.mini ≡ before =
-    (kept_storage 32 0 t start c.storage_outline.new.self c.in_ok-outline.ensures.read).content in
+    (kept_storage 32 0 t start c.storage_outline.new.self told.is_read).content in
     let denotes : (d : Denotes file t) × (d.layout ≡ l) =
-    denoted file l start c.storage_outline.new.self t is_header r marked c.in_ok-root.ensures.read.allowed c.in_ok-outline.ensures.read in
+    denoted file l start c.storage_outline.new.self t is_header r marked c.in_ok-root.ensures.read.allowed told.is_read in
     let directory : e.directory ≡ directory_of file denotes.0.layout = r.bytes_are ∙ ap (directory_of file) (sym denotes.1) in
-    let placed : IsPlaced file t c.in_ok-outline.outline = record {
-      outlined = sym c.in_ok-outline.ensures.sized;
+    let placed : IsPlaced file t told.whole = record {
+      outlined = sym told.sized;
       denotes = denotes.0;
-      told = subst (λ (x : List ℕ). IsTold x 0 c.in_ok-outline.outline) directory c.in_ok-outline.ensures.told;
+      told = subst (λ (x : List ℕ). IsTold x 0 told.whole) directory told.told;
     } in
-    let lies : IsPlaced file (shown (contents c.storage_outline.new.self.fat c.storage_outline.new.self.mini) c.in_ok-outline.outline) c.in_ok-outline.outline =
-    subst (λ (f : Place → List ℕ). IsPlaced file (shown f c.in_ok-outline.outline) c.in_ok-outline.outline) (sym kept) placed in
-    record { denotes = lies.denotes; sized = sym lies.outlined; placed = lies; reads = λ t d. tt; refused = tt }
+    let lies : IsPlaced file (shown (contents c.storage_outline.new.self.fat c.storage_outline.new.self.mini) told.whole) told.whole =
+    subst (λ (f : Place → List ℕ). IsPlaced file (shown f told.whole) told.whole) (sym kept) placed in
+    record { walked = record { whole = told.whole; placed = lies; is_kept = told.is_kept }; reads = λ t d. tt; refused = tt }
 
 pub returns-in_err-fat-clause-refused : goal.returns-in_err-fat-clause-refused
 returns-in_err-fat-clause-refused c =
