@@ -7,17 +7,14 @@ use Rattle.storage_tree.specs.declared.fault.TreeFault.{TreeFault}
 use Rattle.file_model.specs.Alike.{Alike}
 use Rattle.file_model.specs.Denotes.{Denotes}
 use Rattle.file_outline.specs.Streams.{stream_at}
-use Rattle.file_outline.specs.View.{shown}
-use Rattle.file_outline.specs.declared.outline.Outline.{Outline}
 use Rattle.file_outline.specs.declared.outline.Place.{Place}
-use Rattle.outline_entries.specs.Places.{IsPlaced}
+use Rattle.outline_entries.specs.Places.{IsPlaced, Leads}
 use Rattle.file_commands.specs.Getting.{Gets, MayRefuseGet}
 use Rattle.file_commands.proofs.Listed.{places_refused}
 use Rattle.file_commands.specs.declared.fault.GetFault.TheVariants as get
 use Rattle.file_places.specs.Filled.{MayRefusePlaces}
 use Rattle.file_places.specs.declared.fault.PlacesFault.{PlacesFault}
 use Rattle.file_places.specs.declared.fault.PlacesFault.TheVariants as places
-use Rattle.stream_io.proofs.ReadingTold.{told_err, told_ok}
 use Rattle.stream_seeking.specs.Blocks.{Begins, held_at, held_in}
 use Rattle.stream_seeking.specs.declared.blocks.Lies.{Lies}
 use Rattle.stream_seeking.specs.declared.fault.CopyFault.{CopyFault}
@@ -32,20 +29,21 @@ catalog_refused a path places.TooBig r = r
 catalog_refused a path places.NoMemory r = tt
 catalog_refused a path (places.Header fault) r = places_refused a (places.Header fault) r
 
--- the place that an outline of one file tells, in the other one
-module _ (a b : List ℕ) (path : List (List ℕ)) (o : Outline) (r : Result Place TreeFault) (h : Alike a b) (p : (t : Tree) × IsPlaced b t o)
-    (each : (content : Place → List ℕ) → map_ok content r ≡ stream_at path (shown content o)) where
-  pub lies_at : (place : Place) → r ≡ Ok place → LiesAt a path place
-  lies_at place is =
-      let q : (t : Tree) × IsPlaced a t o = placed_alike a b o h p in
+-- where a path leads in one file it leads in the other one
+module _ (a b : List ℕ) (path : List (List ℕ)) (h : Alike a b) where
+  led : (there : Result Place TreeFault) → Leads b path there → (t : Tree) × (d : Denotes a t) × (stream_at path t ≡ map_ok (held_at a d.layout) there)
+  led there l =
+      let q : (t : Tree) × IsPlaced a t l.whole = placed_alike a b l.whole h (l.t, l.placed) in
       let held : Place → List ℕ = held_at a q.1.denotes.layout in
-      (q.0, q.1.denotes, sym (ap (stream_at path) (shown_is a q.0 o q.1)) ∙ told_ok held r place (stream_at path (shown held o)) is (each held))
+      (q.0, q.1.denotes, sym (ap (stream_at path) (shown_is a q.0 l.whole q.1)) ∙ sym (l.stands held))
 
-  pub missing : (fault : TreeFault) → r ≡ Err fault → MayRefuseGet a path (get.Tree fault)
-  missing fault is =
-      let q : (t : Tree) × IsPlaced a t o = placed_alike a b o h p in
-      let held : Place → List ℕ = held_at a q.1.denotes.layout in
-      (q.0, ∣ q.1.denotes ∣₁, sym (ap (stream_at path) (shown_is a q.0 o q.1)) ∙ told_err held r fault (stream_at path (shown held o)) is (each held))
+  pub lies_at : (place : Place) → Leads b path (Ok place) → LiesAt a path place
+  lies_at place l = led (Ok place) l
+
+  pub missing : (fault : TreeFault) → Leads b path (Err fault) → MayRefuseGet a path (get.Tree fault)
+  missing fault l =
+      let q : (t : Tree) × (d : Denotes a t) × (stream_at path t ≡ Err fault) = led (Err fault) l in
+      (q.0, ∣ q.1 ∣₁, q.2)
 
 -- the blocks that were found are those of the place
 pub found_stands : (a : List ℕ) (path : List (List ℕ)) (place : Place) (lies : Lies) → LiesAt a path place → ((t : Tree) → (d : Denotes a t) → held_in a lies ≡ held_at a d.layout place)

@@ -9,15 +9,14 @@ ghost use Rattle.texts.specs.declared.input.InputFault.TheVariants as input;
 
 use cfb_names::name::Name;
 use file_commands::fault::GetFault;
-use file_outline::finding::place_at;
 use file_outline::outline::Place;
 use file_places::fault::PlacesFault;
 use file_places::reading::{Catalog, read_catalog};
 use file_places::source::Source;
 use std::alloc::Global;
 use std::io::Write;
-use stream_io::fault::ReadFault;
-use stream_io::read::read_placed;
+use stream_io::fault::{ReadFault, StreamFault};
+use stream_io::read::find_placed;
 use stream_seeking::blocks::{Lies, blocks_at};
 use stream_seeking::copying::copy_blocks;
 use stream_seeking::fault::CopyFault;
@@ -53,7 +52,7 @@ struct Found {
     len: usize,
 }
 
-/// The place that the outline of a file tells of the stream at a path. The outline is gone once it is known.
+/// The place where the stream at a path lies.
 ///
 /// Refused: as `get_source`, but for reading and writing.
 fn place_of(alloc: Global, catalog: &Catalog, path: &[Name]) -> Result<Place, GetFault>
@@ -62,13 +61,10 @@ fn place_of(alloc: Global, catalog: &Catalog, path: &[Name]) -> Result<Place, Ge
     ensures found { IfOk result (λ place. (a : List ℕ) → Alike a catalog.now.file → LiesAt a path.now place) }
     ensures refused { IfErr result (λ fault. (a : List ℕ) → Alike a catalog.now.file → MayRefuseGet a path.now fault) }
 {
-    let outline = match read_placed(alloc, &catalog.header, &catalog.file) {
-        Ok(outline) => outline,
-        Err(fault) => return Err(GetFault::Read(fault)),
-    };
-    match place_at(&outline, path) {
+    match find_placed(alloc, &catalog.header, &catalog.file, path) {
         Ok(place) => Ok(place),
-        Err(fault) => Err(GetFault::Tree(fault)),
+        Err(StreamFault::Read(fault)) => Err(GetFault::Read(fault)),
+        Err(StreamFault::Tree(fault)) => Err(GetFault::Tree(fault)),
     }
 }
 

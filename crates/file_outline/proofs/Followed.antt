@@ -24,22 +24,3 @@ followed-child none k (n, bytes b) ds = refl
 followed-child none k (n, inner t) ds = refl
 followed-child (stream q m b cs) k c ds = ap (stream q m b) (followed-child cs k c ds)
 followed-child (storage q m t cs) k c ds = ap (storage q m t) (followed-child cs k c ds)
-
-pub keys-child : (cs : Children) (k : List ℕ) (c : List ℕ × Seen) → keys (followed cs (child k c none)) ≡ keys cs ++ k ∷ []
-keys-child none k (n, bytes b) = refl
-keys-child none k (n, inner t) = refl
-keys-child (stream q m b cs) k c = ap (λ ks. q ∷ ks) (keys-child cs k c)
-keys-child (storage q m t cs) k c = ap (λ ks. q ∷ ks) (keys-child cs k c)
-
-abbrev pub IsBehind : List ℕ → List ℕ → Type 0
-IsBehind k q = key_cmp k q ≡ Greater
-
--- a child put under a key that is behind all
-pub place_behind : (k : List ℕ) (c : List ℕ × Seen) (cs : Children) → All (IsBehind k) (keys cs) → place k c cs ≡ followed cs (child k c none)
-place_behind k c none all = refl
-place_behind k c (stream q n b cs) all =
-    ap (λ o. match_ordering o (child k c (stream q n b cs)) (child q c cs) (stream q n b (place k c cs))) (All-head (IsBehind k) q (keys cs) all)
-    ∙ ap (stream q n b) (place_behind k c cs (All-tail (IsBehind k) q (keys cs) all))
-place_behind k c (storage q n t cs) all =
-    ap (λ o. match_ordering o (child k c (storage q n t cs)) (child q c cs) (storage q n t (place k c cs))) (All-head (IsBehind k) q (keys cs) all)
-    ∙ ap (storage q n t) (place_behind k c cs (All-tail (IsBehind k) q (keys cs) all))

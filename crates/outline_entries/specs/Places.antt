@@ -1,17 +1,18 @@
 -- Where an outline says that the streams of a file lie: where their entries say so (MS-CFB 2.6.3).
-use Rattle.std.specs.Prelude.{◌≡◌, ◌↔◌, ℕ, List, [], ◌∷◌, Result, map}
+use Rattle.std.specs.Prelude.{◌≡◌, ◌↔◌, ℕ, List, [], ◌∷◌, Option, Result, map}
 use Rattle.std.specs.List.{Contains}
 use Rattle.std.specs.List.Sorted.{IsStrictlySortedBy}
-use Rattle.cfb_names.specs.Names.{key_cmp}
+use Rattle.cfb_names.specs.Names.{key, key_cmp}
 use Rattle.directory_model.specs.Entries.{AreLinked, IsNamed, child, entry_at, first_of, kind, size_of}
 use Rattle.storage_tree.specs.Tree.{Tree}
-use Rattle.storage_tree.specs.Change.{map_ok}
+use Rattle.storage_tree.specs.Change.{Seen, map_ok}
 use Rattle.storage_tree.specs.declared.fault.TreeFault.{TreeFault}
 use Rattle.file_model.specs.Denotes.{Denotes, directory_of}
-use Rattle.file_model.specs.Outline.{outline_of}
+use Rattle.file_model.specs.Outline.{outline_of, part_of}
 use Rattle.file_faults.specs.Faults.{key_at}
 use Rattle.file_outline.specs.Streams.{stream_at}
-use Rattle.file_outline.specs.View.{outline_view, shown}
+use Rattle.file_outline.specs.Keeping.{IsChildKeptOf, IsKeptOf, IsPartKeptOf, Wanted}
+use Rattle.file_outline.specs.View.{outline_view, part_view, shown, shown_part}
 use Rattle.file_outline.specs.declared.outline.Outline.{Outline}
 use Rattle.file_outline.specs.declared.outline.Part.{Part}
 use Rattle.file_outline.specs.declared.outline.Part.TheVariants.{Stream, Storage}
@@ -46,6 +47,39 @@ pub record IsPlaced (file : List ℕ) (t : Tree) (o : Outline) : Type 0 where
   pub outlined : outline_view o ≡ outline_of t
   pub denotes : Denotes file t
   pub told : IsTold (directory_of file denotes.layout) 0 o
+
+-- ---- what is kept of outlines: of each there is a whole one, which tells of all entries
+module _ (dir : List ℕ) (content : Place → List ℕ) (w : Wanted) where
+  -- of the storage of an entry: the tree that the whole one shows is one that was read, and its streams are as long as it says
+  pub record IsStorageKept (id : ℕ) (IsRead : Tree → Type 0) (o : Outline) : Type 0 where
+    pub whole : Outline
+    pub is_read : IsRead (shown content whole)
+    pub sized : outline_of (shown content whole) ≡ outline_view whole
+    pub told : IsTold dir id whole
+    pub is_kept : IsKeptOf w whole o
+
+  -- of what an entry holds
+  pub record IsPartKept (id : ℕ) (IsRead : Seen → Type 0) (part : Part) : Type 0 where
+    pub whole : Part
+    pub is_read : IsRead (shown_part content whole)
+    pub sized : part_of (shown_part content whole) ≡ part_view whole
+    pub told : IsPartTold dir id whole
+    pub is_kept : IsPartKeptOf w whole part
+
+  -- of an entry with its name, which may be left out where nothing is wanted of it
+  pub record IsChildKept (id : ℕ) (IsRead : List ℕ → List ℕ → Seen → Type 0) (child : Option (List ℕ × Part)) : Type 0 where
+    pub name : List ℕ
+    pub whole : Part
+    pub is_read : IsRead (key name) name (shown_part content whole)
+    pub sized : part_of (shown_part content whole) ≡ part_view whole
+    pub told : IsPartTold dir id whole
+    pub is_kept : IsChildKeptOf w name whole child
+
+-- of a file
+pub record IsFileKept (file : List ℕ) (content : Place → List ℕ) (w : Wanted) (o : Outline) : Type 0 where
+  pub whole : Outline
+  pub placed : IsPlaced file (shown content whole) whole
+  pub is_kept : IsKeptOf w whole o
 
 -- A path leads there, in a tree that the file denotes: whatever bytes lie at the places that the entries tell of, the stream at
 -- the path is what lies at this place, or is missing for this fault.

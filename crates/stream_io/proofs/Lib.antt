@@ -16,4 +16,3 @@ pub mod ReadingTold
 pub mod ReadingAlike
 pub mod ReadingSame
 pub mod ReadingMemory
-pub mod ReadingOutlines

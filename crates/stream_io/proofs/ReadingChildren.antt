@@ -1,22 +1,15 @@
 -- Children read one after another, in the order of their names.
-use Rattle.std.proofs.Common.{◌≡◌, ◌<◌, ◌≤◌, ◌+◌, ℕ, suc, List, [], ◌∷◌, ◌++◌, length, get_or, drop, take, map, refl, sym, ◌∙◌, ap, subst, arith}
-use Rattle.std.proofs.lemmas.Cmp.{nat_list_cmp_total}
-use Rattle.std.proofs.lemmas.List.{drop_more, take_more, length-map, length-take, get_or-map, get_or-take, drop_all}
-use Rattle.std.proofs.lemmas.Map.Keys.{Less-from_sorted}
-use Rattle.std.specs.List.{All, Contains}
+use Rattle.std.proofs.Common.{◌≡◌, ◌<◌, ◌≤◌, ◌+◌, ℕ, suc, List, ◌∷◌, ◌++◌, length, get_or, drop, refl, sym, subst}
+use Rattle.std.proofs.lemmas.List.{drop_more, drop_all}
+use Rattle.std.specs.List.{Contains}
 use Rattle.std.proofs.lemmas.List.Elements.{Contains-get_or}
-use Rattle.std.specs.List.Sorted.{IsStrictlySortedBy}
-use Rattle.std.specs.Ordering.{ordering_reverse}
-use Rattle.std.specs.declared.cmp.Ordering.TheVariants.{Less}
-use Rattle.cfb_names.specs.Names.{key, key_cmp}
 use Rattle.storage_tree.specs.Change.{Seen, bytes, inner, child}
-use Rattle.storage_tree.specs.Tree.{Children, none, stream, storage, keys}
-use Rattle.file_faults.specs.Faults.{key_at}
-use Rattle.stream_io.specs.Reads.{AreRead, IsChildPut, IsChildRead, directory_in}
+use Rattle.storage_tree.specs.Tree.{Children, none, stream, storage}
+use Rattle.stream_io.specs.Reads.{AreRead, IsChildRead}
 use Rattle.file_faults.specs.Faults.{Base}
 use Rattle.stream_io.specs.Marks.{IsMetBelow, IsUnderway}
 use Rattle.stream_io.specs.declared.read.Reader.{Reader}
-use Rattle.file_outline.proofs.Followed.{IsBehind, followed, followed-child, followed-none, keys-child, place_behind}
+use Rattle.file_outline.proofs.Followed.{followed, followed-child, followed-none}
 use Rattle.stream_io.proofs.ReadingKept.{IsKept, kept_node, kept_none, kept_then}
 use Rattle.stream_io.proofs.ReadingMarks.{below_kept, underway_node}
 use Rattle.stream_io.proofs.ReadingOnce.{node_once}
@@ -61,78 +54,37 @@ first_read depth id ids (storage k n t ds) old new h = record {
 -- what is read so far: the children, and what is left
 pub record Progress (depth : ℕ) (ids : List ℕ) (old : Reader) (i : ℕ) (r : Reader) (cs : Children) : Type 0 where
   pub kept : IsKept old r
-  pub keys_are : keys cs ≡ take i (map (key_at (directory_in old)) ids)
   pub sound : (ds : Children) (new : Reader) → AreRead depth (drop i ids) ds r new → AreRead depth ids (followed cs ds) old new
   pub complete : (ds : Children) (new : Reader) → AreRead depth ids ds old new → (es : Children) × AreRead depth (drop i ids) es r new
   pub underway : (b : Base) (levels : ℕ) (pending : List ℕ) → ((n : ℕ) → Contains ids n → IsMetBelow b.directory old (suc levels) n) → IsUnderway b (ids ++ pending) old
       → IsUnderway b (drop i ids ++ pending) r
 
 pub progress_none : (depth : ℕ) (ids : List ℕ) (old : Reader) → Progress depth ids old 0 old none
-progress_none depth ids old = record { kept = kept_none old; keys_are = refl; sound = λ ds new h. h; complete = λ ds new h. (ds, h); underway = λ b levels pending f h. h }
+progress_none depth ids old = record { kept = kept_none old; sound = λ ds new h. h; complete = λ ds new h. (ds, h); underway = λ b levels pending f h. h }
 
--- the key of the next entry is behind those so far
-next_behind : (dir ids : List ℕ) (i : ℕ) (cs : Children) → i < length ids → IsStrictlySortedBy key_cmp (map (key_at dir) ids) → keys cs ≡ take i (map (key_at dir) ids)
-    → (k : List ℕ) → k ≡ key_at dir (get_or ids i 0) → All (IsBehind k) (keys cs)
-next_behind dir ids i cs lt sorted is k e =
-    let ks : List (List ℕ) = map (key_at dir) ids in
-    let long : length ks ≡ length ids = length-map ids (key_at dir) in
-    let each : All (IsBehind k) (take i ks) = λ j d l.
-    let below : j < i = omega (arith, l, length-take i ks) in
-    let here : get_or ks i d ≡ k = get_or-map (key_at dir) ids i 0 d lt ∙ sym e in
-    let less : key_cmp (get_or ks j d) (get_or ks i d) ≡ Less = Less-from_sorted key_cmp ks j i d sorted below (omega (arith, long)) in
-    let there : get_or (take i ks) j d ≡ get_or ks j d = get_or-take i ks j d below in
-    let flip : key_cmp k (get_or ks j d) ≡ ordering_reverse (key_cmp (get_or ks j d) k) = nat_list_cmp_total.antisymm k (get_or ks j d) in
-    ap (key_cmp k) there ∙ flip ∙ ap (λ x. ordering_reverse (key_cmp (get_or ks j d) x)) (sym here) ∙ ap ordering_reverse less in
-    subst (All (IsBehind k)) (sym is) each
-
--- the next entry, put behind those so far
-pub put_behind : (depth : ℕ) (ids : List ℕ) (old : Reader) (i : ℕ) (r next : Reader) (cs : Children) (k name : List ℕ) (s : Seen) → i < length ids
-    → IsStrictlySortedBy key_cmp (map (key_at (directory_in old)) ids) → Progress depth ids old i r cs → IsChildRead depth (get_or ids i 0) k name s r next
-    → IsChildPut depth (get_or ids i 0) r next cs (followed cs (child k (name, s) none))
-put_behind depth ids old i r next cs k name s lt sorted h is_read =
-    let dir : List ℕ = directory_in old in
-    let id : ℕ = get_or ids i 0 in
-    let at : k ≡ key_at dir id = is_read.named.under_key ∙ ap key is_read.named.named.units ∙ ap (λ (d : List ℕ). key_at d id) h.kept.directory in
-    record {
-      k = k;
-      name = name;
-      node = s;
-      is_read = is_read;
-      is_put = sym (place_behind k (name, s) cs (next_behind dir ids i cs lt sorted h.keys_are k at));
-    }
-
-pub progress_more : (depth : ℕ) (ids : List ℕ) (old : Reader) (i : ℕ) (r next : Reader) (cs ds : Children) → i < length ids
-    → IsStrictlySortedBy key_cmp (map (key_at (directory_in old)) ids) → Progress depth ids old i r cs → IsChildPut depth (get_or ids i 0) r next cs ds
-    → Progress depth ids old (i + 1) next ds
-progress_more depth ids old i r next cs ds lt sorted h p =
-    let dir : List ℕ = directory_in old in
+-- the next entry, behind those so far
+pub progress_more : (depth : ℕ) (ids : List ℕ) (old : Reader) (i : ℕ) (r next : Reader) (cs : Children) (k name : List ℕ) (s : Seen) → i < length ids → Progress depth ids old i r cs
+    → IsChildRead depth (get_or ids i 0) k name s r next → Progress depth ids old (i + 1) next (followed cs (child k (name, s) none))
+progress_more depth ids old i r next cs k name s lt h is_read =
     let id : ℕ = get_or ids i 0 in
     let rest : drop i ids ≡ id ∷ drop (i + 1) ids = drop_more ids i 0 lt in
-    let at : p.k ≡ key_at dir id = p.is_read.named.under_key ∙ ap key p.is_read.named.named.units ∙ ap (λ (d : List ℕ). key_at d id) h.kept.directory in
-    let behind : All (IsBehind p.k) (keys cs) = next_behind dir ids i cs lt sorted h.keys_are p.k at in
-    let one : Children = child p.k (p.name, p.node) none in
-    let is : ds ≡ followed cs one = p.is_put ∙ place_behind p.k (p.name, p.node) cs behind in
     record {
-      kept = kept_then old r next h.kept (kept_node depth id p.node r next p.is_read.is_read);
-      keys_are = ap keys is ∙ keys-child cs p.k (p.name, p.node) ∙ ap (λ ks. ks ++ p.k ∷ []) h.keys_are
-          ∙ ap (λ k. take i (map (key_at dir) ids) ++ k ∷ []) (at ∙ sym (get_or-map (key_at dir) ids i 0 [] lt))
-          ∙ sym (take_more (map (key_at dir) ids) i [] (omega (arith, length-map ids (key_at dir))));
+      kept = kept_then old r next h.kept (kept_node depth id s r next is_read.is_read);
       sound = λ es new q.
-          let here : AreRead depth (id ∷ drop (i + 1) ids) (child p.k (p.name, p.node) es) r new =
-          read_cons depth id (drop (i + 1) ids) p.k p.name p.node es r next new p.is_read q in
-          let all : AreRead depth ids (followed cs (child p.k (p.name, p.node) es)) old new =
-          h.sound (child p.k (p.name, p.node) es) new (subst (λ (xs : List ℕ). AreRead depth xs (child p.k (p.name, p.node) es) r new) (sym rest) here) in
-          subst (λ (x : Children). AreRead depth ids x old new) (sym (ap (λ (x : Children). followed x es) is ∙ followed-child cs p.k (p.name, p.node) es)) all;
+          let here : AreRead depth (id ∷ drop (i + 1) ids) (child k (name, s) es) r new = read_cons depth id (drop (i + 1) ids) k name s es r next new is_read q in
+          let all : AreRead depth ids (followed cs (child k (name, s) es)) old new =
+          h.sound (child k (name, s) es) new (subst (λ (xs : List ℕ). AreRead depth xs (child k (name, s) es) r new) (sym rest) here) in
+          subst (λ (x : Children). AreRead depth ids x old new) (sym (followed-child cs k (name, s) es)) all;
       complete = λ es new q.
           let left : (xs : Children) × AreRead depth (drop i ids) xs r new = h.complete es new q in
           let first : IsFirstRead depth id (drop (i + 1) ids) r new =
           first_read depth id (drop (i + 1) ids) left.0 r new (subst (λ (xs : List ℕ). AreRead depth xs left.0 r new) rest left.1) in
-          let same : first.next ≡ next = node_once depth id first.node p.node r first.next next first.first.is_read p.is_read.is_read in
+          let same : first.next ≡ next = node_once depth id first.node s r first.next next first.first.is_read is_read.is_read in
           (first.rest, subst (λ (x : Reader). AreRead depth (drop (i + 1) ids) first.rest x new) same first.others);
       underway = λ b levels pending f q.
           let here : IsUnderway b (id ∷ (drop (i + 1) ids ++ pending)) r = subst (λ (xs : List ℕ). IsUnderway b (xs ++ pending) r) rest (h.underway b levels pending f q) in
-          underway_node b depth levels id p.node r next (drop (i + 1) ids ++ pending)
-          (below_kept b.directory old r (suc levels) id h.kept (f id (Contains-get_or ids i 0 lt))) here p.is_read.is_read;
+          underway_node b depth levels id s r next (drop (i + 1) ids ++ pending)
+          (below_kept b.directory old r (suc levels) id h.kept (f id (Contains-get_or ids i 0 lt))) here is_read.is_read;
     }
 
 -- the next entry can be read

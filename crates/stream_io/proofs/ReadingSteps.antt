@@ -1,22 +1,34 @@
 -- The steps of reading a storage.
-use Rattle.std.proofs.Common.{◌≡◌, ◌≢◌, ◌⊎◌, inl, inr, ◌<◌, ◌≤◌, ◌+◌, ◌-◌, ◌*◌, ℕ, zero, suc, true, List, ◌∷◌, ◌++◌, length, get_or, drop, map, refl, sym, subst, arith}
+use Rattle.std.proofs.Common.{◌≡◌, ◌≢◌, ◌⊎◌, inl, inr, ◌<◌, ◌≤◌, ◌+◌, ◌-◌, ◌*◌, ℕ, zero, suc, true, List, [], ◌∷◌, ◌++◌, Option, length, get_or, drop, take, refl, sym, ap, subst, arith}
+use Rattle.std.specs.Global.{Vec}
 use Rattle.std.specs.List.{Contains}
-use Rattle.std.specs.List.Sorted.{IsStrictlySortedBy}
 use Rattle.std.proofs.lemmas.List.Elements.{Contains-get_or}
 use Rattle.std.proofs.lemmas.Bool.{cases_lt}
 use Rattle.std.proofs.lemmas.List.{drop_more}
-use Rattle.cfb_names.specs.Names.{key_cmp}
-use Rattle.cfb_directory.specs.Entries.{MayRefuseEntry, child, class_of, entry_at, kind, state_of}
+use Rattle.cfb_chain.specs.Fat.{IsFound, store_of}
+use Rattle.cfb_header.specs.Bytes.{joined}
+use Rattle.cfb_names.specs.Names.{key}
+use Rattle.cfb_directory.specs.Entries.{IsNamed, MayRefuseEntry, child, class_of, entry_at, first_of, kind, size_of, state_of}
 use Rattle.cfb_names.specs.declared.fault.DirFault.{DirFault}
+use Rattle.file_model.specs.Outline.{part_of}
 use Rattle.file_model.proofs.Unique.{linked_unique}
-use Rattle.storage_tree.specs.Change.{Seen, bytes, child as with_child, inner}
-use Rattle.storage_tree.specs.Tree.{Tree, Children, none, tree}
-use Rattle.file_faults.specs.Faults.{Base, IsStorage, key_at}
+use Rattle.storage_tree.specs.Change.{Seen, bytes, inner}
+use Rattle.storage_tree.specs.Tree.{Tree, Children, tree}
+use Rattle.file_faults.specs.Faults.{Base, IsStorage}
+use Rattle.file_outline.specs.Keeping.{AreKeptOf, Wanted}
+use Rattle.file_outline.specs.View.{contents, part_view, shown_part, shown_parts, table_for}
+use Rattle.file_outline.specs.declared.outline.Part.{Part}
+use Rattle.file_outline.specs.declared.outline.Part.TheViews.{roll-Outline}
+use Rattle.file_outline.specs.declared.outline.Place.{Place}
+use Rattle.file_outline.proofs.Kept.{kept_none}
+use Rattle.file_outline.proofs.Outlines.{AreSized, shown-push, sized-push}
+use Rattle.outline_entries.specs.Places.{AreTold, IsPartTold}
+use Rattle.outline_entries.proofs.Kept.{storage_kept}
+use Rattle.outline_entries.proofs.Told.{told_all, told_next, told_none}
 use Rattle.stream_io.specs.Marks.{IsMetBelow, IsNext, IsUnderway}
-use Rattle.stream_io.specs.Reads.{AreRead, AreSorted, IsChildPut, IsChildRead, IsNodeRead, IsStorageRead, directory_in, met}
+use Rattle.stream_io.specs.Reads.{AreRead, AreSorted, IsChildOutlined, IsChildRead, IsNodeRead, IsOutlined, IsStorageRead, IsStreamRead, directory_in, met, stream_after}
 use Rattle.stream_io.specs.declared.read.Reader.{Reader}
-use Rattle.file_outline.proofs.Followed.{followed}
-use Rattle.stream_io.proofs.ReadingChildren.{IsFirstRead, Progress, put_behind, progress_all, progress_more, progress_next}
+use Rattle.stream_io.proofs.ReadingChildren.{IsFirstRead, Progress, progress_all, progress_more, progress_next, progress_none}
 use Rattle.file_faults.proofs.EntryKinds.{kind_inside}
 use Rattle.stream_io.proofs.ReadingKept.{IsKept, kept_met, kept_same, kept_then}
 use Rattle.stream_io.proofs.ReadingMarks.{below_kept, children_stand, same_directory, underway_opened}
@@ -42,17 +54,48 @@ pub record AreOpen (id : ℕ) (ids : List ℕ) (old mid : Reader) : Type 0 where
   pub sorted : AreSorted old.entries id ids
   pub mid_is : mid ≡ met sorted.reached old
 
-pub opened : (id : ℕ) (ids items : List ℕ) (old mid : Reader) → items ≡ ids → (s : AreSorted old.entries id ids) → mid ≡ met s.reached old → AreOpen id items old mid
-opened id ids items old mid e s m = subst (λ (xs : List ℕ). AreOpen id xs old mid) (sym e) (record { sorted = s; mid_is = m })
+pub opened : {id : ℕ} {ids items : List ℕ} {old mid : Reader} → items ≡ ids → (s : AreSorted old.entries id ids) → mid ≡ met s.reached old → AreOpen id items old mid
+opened {id} {ids} {items} {old} {mid} e s m = subst (λ (xs : List ℕ). AreOpen id xs old mid) (sym e) (record { sorted = s; mid_is = m })
 
-module _ (depth id : ℕ) (items : List ℕ) (old mid : Reader) (o : AreOpen id items old mid) where
+-- the parts of an outline that are kept so far, and those of the whole one
+pub record AreOutlined (depth : ℕ) (items : List ℕ) (mid : Reader) (w : Wanted) (i : ℕ) (r : Reader) (parts : List (List ℕ × Part)) : Type 0 where
+  pub whole : List (List ℕ × Part)
+  pub progress : Progress depth items mid i r (shown_parts (contents mid.fat mid.mini) whole)
+  pub sized : AreSized (contents mid.fat mid.mini) whole
+  pub told : AreTold (directory_in mid) (take i items) whole
+  pub is_kept : AreKeptOf w whole parts
+
+pub outlined_none : (depth : ℕ) (items : List ℕ) (mid : Reader) (w : Wanted) → AreOutlined depth items mid w 0 mid []
+outlined_none depth items mid w = record { whole = []; progress = progress_none depth items mid; sized = tt; told = told_none (directory_in mid) [] refl; is_kept = kept_none w }
+
+-- one child more, of which the parts so far and now are kept
+pub outlined_more : {depth : ℕ} {items : List ℕ} {mid : Reader} {w : Wanted} {i : ℕ} {r next : Reader} {parts now : List (List ℕ × Part)} {c : Option (List ℕ × Part)}
+    → i < length items → (h : AreOutlined depth items mid w i r parts) → (one : IsChildOutlined depth (get_or items i 0) w c r next)
+    → AreKeptOf w (h.whole ++ (one.name, one.whole) ∷ []) now → AreOutlined depth items mid w (i + 1) next now
+outlined_more {depth} {items} {mid} {w} {i} {r} {next} {parts} {now} {c} lt h one keeps =
+    let n : ℕ = get_or items i 0 in
+    let content : Place → List ℕ = contents mid.fat mid.mini in
+    let same : contents r.fat r.mini ≡ content = h.progress.kept.content in
+    let directory : directory_in r ≡ directory_in mid = h.progress.kept.directory in
+    let s : Seen = shown_part content one.whole in
+    let is_read : IsChildRead depth n (key one.name) one.name s r next =
+    subst (λ (f : Place → List ℕ). IsChildRead depth n (key one.name) one.name (shown_part f one.whole) r next) same one.is_read in
+    record {
+      whole = h.whole ++ (one.name, one.whole) ∷ [];
+      progress = subst (λ (x : Children). Progress depth items mid (i + 1) next x) (sym (shown-push content h.whole (one.name, one.whole)))
+          (progress_more depth items mid i r next (shown_parts content h.whole) (key one.name) one.name s lt h.progress is_read);
+      sized = sized-push content h.whole (one.name, one.whole) h.sized (subst (λ (f : Place → List ℕ). part_of (shown_part f one.whole) ≡ part_view one.whole) same one.sized);
+      told = told_next (directory_in mid) items h.whole i one.name one.whole lt h.told
+          (subst (λ (x : List ℕ). IsNamed (entry_at x n) one.name) directory one.is_read.named.named)
+          (subst (λ (x : List ℕ). IsPartTold x n one.whole) directory one.told);
+      is_kept = keeps;
+    }
+
+module _ {id : ℕ} {items : List ℕ} {old mid : Reader} (o : AreOpen id items old mid) where
   kept_mid : IsKept old mid
   kept_mid = kept_then old (met o.sorted.reached old) mid (kept_met o.sorted.reached old) (kept_same (met o.sorted.reached old) mid o.mid_is)
 
-  ordered : IsStrictlySortedBy key_cmp (map (key_at (directory_in mid)) items)
-  ordered = subst (λ (x : List ℕ). IsStrictlySortedBy key_cmp (map (key_at x) items)) (sym kept_mid.directory) o.sorted.ordered
-
-  module _ (i : ℕ) (r : Reader) (cs : Children) (p : Progress depth items mid i r cs) where
+  module _ {depth i : ℕ} {r : Reader} {cs : Children} (p : Progress depth items mid i r cs) where
     pub next_root : get_or old.entries.used 0 true ≡ true → get_or r.entries.used 0 true ≡ true
     next_root h = p.kept.marks 0 (kept_mid.marks 0 h)
 
@@ -76,13 +119,6 @@ module _ (depth id : ℕ) (items : List ℕ) (old mid : Reader) (o : AreOpen id 
           underway = subst (λ (xs : List ℕ). IsUnderway b (xs ++ pending) r) (drop_more items i 0 lt) (p.underway b at.levels pending stand there);
         }
 
-    pub step : (next : Reader) (ds : Children) → i < length items → IsChildPut depth (get_or items i 0) r next cs ds → Progress depth items mid (i + 1) next ds
-    step next ds lt h = progress_more depth items mid i r next cs ds lt ordered p h
-
-    pub put : (next : Reader) (k name : List ℕ) (s : Seen) → i < length items → IsChildRead depth (get_or items i 0) k name s r next
-        → IsChildPut depth (get_or items i 0) r next cs (followed cs (with_child k (name, s) none))
-    put next k name s lt h = put_behind depth items mid i r next cs k name s lt ordered p h
-
     -- what can be read from the first child on can be read from here on
     pub next_there : (t : Tree) (new : Reader) → IsStorageRead depth id t old new → i < length items → IsFirstRead depth (get_or items i 0) (drop (i + 1) items) r new
     next_there t new h lt =
@@ -97,11 +133,35 @@ module _ (depth id : ℕ) (items : List ℕ) (old mid : Reader) (o : AreOpen id 
         (subst (λ (xs : List ℕ). AreRead depth xs c.cs (met c.sorted.reached old) new) ids c.is_read)) in
         progress_next depth items mid i r new cs c.cs lt p all
 
-    pub all_read : (class : List ℕ) (state : ℕ) → length items ≤ i → class ≡ class_of (entry_at (directory_in old) id) → state ≡ state_of (entry_at (directory_in old) id)
-        → IsStorageRead depth id (tree class state cs) old r
-    all_read class state le c s =
-        let all : AreRead depth items cs mid r = progress_all depth items mid i r cs le p in
-        (c, s, (items, o.sorted, subst (λ (x : Reader). AreRead depth items cs x r) o.mid_is all))
+  -- at the end the storage is read, and what is wanted of its outline is kept
+  pub outlined_all : {A : Type 0} {depth : ℕ} {w : Wanted} {i : ℕ} {r : Reader} (ids : Vec A) (parts : Vec (List ℕ × Part)) (class : List ℕ) (state : ℕ) → length items ≤ i
+      → length items ≡ length ids.items → AreOutlined depth items mid w i r parts.items → class ≡ class_of (entry_at (directory_in old) id)
+      → state ≡ state_of (entry_at (directory_in old) id) → IsOutlined depth id w (roll-Outline (record { class = class; state = state; parts = parts })) old r
+  outlined_all {A} {depth} {w} {i} {r} ids parts class state le long h is_class is_state =
+      let before : Place → List ℕ = contents old.fat old.mini in
+      let same : contents mid.fat mid.mini ≡ before = ap (λ (x : Reader). contents x.fat x.mini) o.mid_is in
+      let directory : directory_in mid ≡ directory_in old = ap (λ (x : Reader). directory_in x) o.mid_is in
+      let cs : Children = shown_parts (contents mid.fat mid.mini) h.whole in
+      let all : AreRead depth items cs mid r = progress_all depth items mid i r cs le h.progress in
+      let is_read : IsStorageRead depth id (tree class state cs) old r =
+      (is_class, is_state, (items, o.sorted, subst (λ (x : Reader). AreRead depth items cs x r) o.mid_is all)) in
+      storage_kept (directory_in old) before w id (λ t. IsStorageRead depth id t old r) items ids class state h.whole parts
+      (record { reached = o.sorted.reached; linked = o.sorted.linked; same = o.sorted.same; ordered = o.sorted.ordered })
+      (subst (λ (x : List ℕ). AreTold x items h.whole) directory (told_all (directory_in mid) items h.whole i le h.told))
+      (subst (λ (f : Place → List ℕ). AreSized f h.whole) same h.sized) h.is_kept long
+      (subst (λ (f : Place → List ℕ). IsStorageRead depth id (tree class state (shown_parts f h.whole)) old r) same is_read)
+
+-- the stream of an entry that says where it lies
+pub stream_read : (id first size : ℕ) (b : List ℕ) (old new : Reader) → kind (entry_at (directory_in old) id) ≡ 2 → first ≡ first_of (entry_at (directory_in old) id)
+    → size ≡ size_of (entry_at (directory_in old) id)
+    → (ns : List ℕ) × IsFound (table_for size old.fat old.mini) first size ns × (b ≡ take size (joined (store_of (table_for size old.fat old.mini)).piece ns)) × (new ≡ stream_after size ns old)
+    → IsStreamRead id b old new
+stream_read id first size b old new is_stream begins long h =
+    let P : ℕ → ℕ → Type 0 = λ f s. (ns : List ℕ) × IsFound (table_for s old.fat old.mini) f s ns
+    × (b ≡ take s (joined (store_of (table_for s old.fat old.mini)).piece ns)) × (new ≡ stream_after s ns old) in
+    let e : List ℕ = entry_at (directory_in old) id in
+    let m : P (first_of e) (size_of e) = subst (λ s. P (first_of e) s) long (subst (λ f. P f size) begins h) in
+    record { kind_is = is_stream; ns = m.0; found = m.1; content = m.2; after = m.3 }
 
 -- an entry that is read isn't refused
 child_entry : (depth id : ℕ) (k name : List ℕ) (s : Seen) (old new : Reader) → IsChildRead depth id k name s old new → IsReadable (directory_in old) id

@@ -1,5 +1,5 @@
 -- How a file is read, and which files are refused.
-use Rattle.std.specs.Prelude.{◌≡◌, ◌↔◌, ◌<◌, ◌-◌, ℕ, suc, true, List, [], ◌∷◌, length, map, slice_index_or, take, if◌then◌else◌, nat_lt, Err, codes}
+use Rattle.std.specs.Prelude.{◌≡◌, ◌↔◌, ◌<◌, ◌-◌, ℕ, suc, true, List, [], ◌∷◌, length, map, slice_index_or, take, if◌then◌else◌, nat_lt, Option, Err, codes}
 use Rattle.std.specs.List.{Contains}
 use Rattle.std.specs.List.Sorted.{IsStrictlySortedBy}
 use Rattle.cfb_header.specs.Bytes.{joined}
@@ -13,13 +13,17 @@ use Rattle.cfb_names.specs.Names.{IsName, key, key_cmp}
 use Rattle.cfb_directory.specs.Entries.{AreFree, AreLinked, EntriesValue, HasChildren, IsNamed, child, class_of, entry_at, first_of, kind, marked, size_of, state_of}
 use Rattle.cfb_names.specs.declared.fault.DirFault.{DirFault}
 use Rattle.cfb_names.specs.declared.fault.DirFault.TheVariants as directory
-use Rattle.storage_tree.specs.Change.{Seen, bytes, inner, place}
+use Rattle.storage_tree.specs.Change.{Seen, bytes, inner}
 use Rattle.storage_tree.specs.Tree.{Tree, Children, tree, none, stream, storage}
 use Rattle.file_model.specs.Limits.{CUTOFF}
 use Rattle.file_model.specs.Denotes.{Denotes}
 use Rattle.file_faults.specs.Faults.{Base, IsBelow, IsChainAtFault, IsDirectoryAtFault, IsFileAtFault, IsStreamAtFault, MayRefuseBelow, key_at}
 use Rattle.file_outline.specs.Streams.{stream_at}
-use Rattle.file_outline.specs.View.{table_for}
+use Rattle.file_outline.specs.Keeping.{Wanted}
+use Rattle.file_outline.specs.View.{contents, table_for}
+use Rattle.file_outline.specs.declared.outline.Outline.{Outline}
+use Rattle.file_outline.specs.declared.outline.Part.{Part}
+use Rattle.outline_entries.specs.Places.{IsChildKept, IsPartKept, IsStorageKept, Leads}
 use Rattle.stream_io.specs.declared.fault.ReadFault.{ReadFault}
 use Rattle.stream_io.specs.declared.fault.ReadFault.TheVariants.{Chain, Directory, NoMemory}
 use Rattle.stream_io.specs.declared.fault.StreamFault.{StreamFault}
@@ -105,17 +109,21 @@ abbrev pub IsNodeRead : ℕ → ℕ → Seen → Reader → Reader → Type 0
 IsNodeRead depth id (bytes b) old new = IsStreamRead id b old new
 IsNodeRead depth id (inner t) old new = (kind (entry_at (directory_in old) id) ≡ 1) × (0 < depth) × IsStorageRead (depth - 1) id t old new
 
--- One entry read, and put among the children of its storage.
+-- one entry read, with its name
 pub record IsChildRead (depth id : ℕ) (k name : List ℕ) (s : Seen) (old new : Reader) : Type 0 where
   pub named : IsChildNamed (directory_in old) id k name
   pub is_read : IsNodeRead depth id s old new
 
-pub record IsChildPut (depth id : ℕ) (old new : Reader) (before after : Children) : Type 0 where
-  pub k : List ℕ
-  pub name : List ℕ
-  pub node : Seen
-  pub is_read : IsChildRead depth id k name node old new
-  pub is_put : after ≡ place k (name, node) before
+-- What is kept of the outlines of the entry of a storage, of what an entry holds, and of an entry with its name. What was read
+-- is that of the whole outline.
+abbrev pub IsOutlined : ℕ → ℕ → Wanted → Outline → Reader → Reader → Type 0
+IsOutlined depth id w o old new = IsStorageKept (directory_in old) (contents old.fat old.mini) w id (λ t. IsStorageRead depth id t old new) o
+
+abbrev pub IsPartOutlined : ℕ → ℕ → Wanted → Part → Reader → Reader → Type 0
+IsPartOutlined depth id w part old new = IsPartKept (directory_in old) (contents old.fat old.mini) w id (λ s. IsNodeRead depth id s old new) part
+
+abbrev pub IsChildOutlined : ℕ → ℕ → Wanted → Option (List ℕ × Part) → Reader → Reader → Type 0
+IsChildOutlined depth id w child old new = IsChildKept (directory_in old) (contents old.fat old.mini) w id (λ k name s. IsChildRead depth id k name s old new) child
 
 -- ---- what a file is refused for
 -- what a reader reads from, with the sectors that the system's own parts have
@@ -165,3 +173,8 @@ pub record MayRefuseRead (file : List ℕ) (fault : ReadFault) : Type 0 where
 abbrev pub MayRefuseStream : List ℕ → List (List ℕ) → StreamFault → Type 0
 MayRefuseStream file path (Read fault) = MayRefuseRead file fault
 MayRefuseStream file path (Missing fault) = (t : Tree) × ∥ Denotes file t ∥₁ × (stream_at path t ≡ Err fault)
+
+-- and where it lies
+abbrev pub MayRefuseFind : List ℕ → List (List ℕ) → StreamFault → Type 0
+MayRefuseFind file path (Read fault) = MayRefuseRead file fault
+MayRefuseFind file path (Missing fault) = Leads file path (Err fault)

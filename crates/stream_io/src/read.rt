@@ -17,10 +17,9 @@ ghost use Rattle.file_model.specs.Outline.{outline_of};
 ghost use Rattle.file_model.specs.Denotes.{Denotes};
 ghost use Rattle.file_faults.specs.Faults.{Base, IsStorage};
 ghost use Rattle.file_outline.specs.Keeping.{wanted};
-ghost use Rattle.outline_entries.specs.Places.{IsPlaced, Leads};
+ghost use Rattle.outline_entries.specs.Places.{IsFileKept, IsPlaced, Leads};
 ghost use Rattle.stream_io.specs.Marks.{IsNext};
-ghost use Rattle.stream_io.specs.Reads.{AreSorted, IsChildRead, IsNodeRead, IsStorageRead, MayRefuseFile, MayRefusePlace, MayRefuseStorage, MayRefuseStream, MayWant, chain_fault, directory_in, met, stream_after};
-ghost use Rattle.stream_io.specs.Walks.{IsChildOutlined, IsOutlined, IsPartOutlined, IsWalked, MayRefuseFind};
+ghost use Rattle.stream_io.specs.Reads.{AreSorted, IsChildOutlined, IsChildRead, IsNodeRead, IsOutlined, IsPartOutlined, IsStorageRead, MayRefuseFile, MayRefuseFind, MayRefusePlace, MayRefuseStorage, MayRefuseStream, MayWant, chain_fault, directory_in, met, stream_after};
 ghost use Rattle.file_outline.specs.Streams.{stream_at};
 ghost use Rattle.file_outline.specs.View.{contents, outline_view, shown, table_for};
 ghost use Rattle.stream_io.specs.View.{directory_bytes};
@@ -262,7 +261,7 @@ fn walk<'a>(
 ) -> Result<Layout<'a>, ReadFault>
     requires read { header_read (image_bytes file) ≡ Ok header.now }
     requires whole { IsHeader (image_bytes file) }
-    ensures walked { IfOk result (λ l. IsWalked (image_bytes file.entry) (wanted keep.entry) l) }
+    ensures walked { IfOk result (λ l. IsFileKept (image_bytes file.entry) (contents l.fat l.mini) (wanted keep.entry) l.root) }
     ensures reads { (t : tree.Tree) → Denotes (image_bytes file.entry) t → IfErr result (λ e. e ≡ NoMemory) }
     ensures refused { IfErr result (MayRefuseFile (image_bytes file.entry)) }
 {

@@ -1,5 +1,5 @@
 use Rattle.std.proofs.Common.{Ok, Err}
-use Rattle.stream_io.proofs.ReadingOutlines.{leads}
+use Rattle.outline_entries.proofs.Kept.{placed_leads}
 use Rattle.stream_io.proofs.ReadingTold.{walk_refused}
 use Rattle.stream_io.proofs.read.find_placed.Goals as goal
 
@@ -9,8 +9,8 @@ returns-in-Err-clause-refused c =
 
 pub returns-in-Ok-place_at-clause-found : goal.returns-in-Ok-place_at-clause-found
 returns-in-Ok-place_at-clause-found c =
-    leads c.args.file.now c.args.path.now c.in-Ok.walked c.place_at.result (Ok c.in-Ok-place_at.place) c.in-Ok.ensures.walked c.place_at.ensures c.in-Ok-place_at.is
+    placed_leads c.args.file.now _ c.in-Ok.walked.root c.args.path.now c.place_at.result (Ok c.in-Ok-place_at.place) c.in-Ok.ensures.walked c.place_at.ensures c.in-Ok-place_at.is
 
 pub returns-clause-refused : goal.returns-clause-refused
 returns-clause-refused c =
-    leads c.args.file.now c.args.path.now c.in-Ok.walked c.place_at.result (Err c.in-Err-place_at.fault) c.in-Ok.ensures.walked c.place_at.ensures c.in-Err-place_at.is
+    placed_leads c.args.file.now _ c.in-Ok.walked.root c.args.path.now c.place_at.result (Err c.in-Err-place_at.fault) c.in-Ok.ensures.walked c.place_at.ensures c.in-Err-place_at.is

@@ -3,7 +3,7 @@ use Rattle.std.specs.Result.{IsErrAnd}
 use Rattle.cfb_chain.proofs.Results.{refused_with}
 use Rattle.stream_io.specs.Reads.{MayRefuseFile, chain_fault}
 use Rattle.stream_io.proofs.ReadingRefused.{file_header, same_memory}
-use Rattle.stream_io.proofs.ReadingOutlines.{walked_whole}
+use Rattle.outline_entries.proofs.Kept.{placed_whole}
 use Rattle.stream_io.proofs.read.lay_out.Goals as goal
 
 pub returns-in_err-header-clause-refused : goal.returns-in_err-header-clause-refused
@@ -22,10 +22,10 @@ returns-in_err-layout-clause-refused c =
     refused_with c.from_residual-in_err-layout.result c.in_err-layout.field-0.0 (MayRefuseFile c.args.file.now) again c.in_err-layout.ensures.refused
 
 pub returns-clause-denotes : goal.returns-clause-denotes
-returns-clause-denotes c = ∣ (walked_whole c.args.file.now c.in_ok-layout.layout c.in_ok-layout.ensures.walked).denotes ∣₁
+returns-clause-denotes c = ∣ (placed_whole c.args.file.now _ c.in_ok-layout.layout.root c.in_ok-layout.ensures.walked).denotes ∣₁
 
 pub returns-clause-sized : goal.returns-clause-sized
-returns-clause-sized c = sym (walked_whole c.args.file.now c.in_ok-layout.layout c.in_ok-layout.ensures.walked).outlined
+returns-clause-sized c = sym (placed_whole c.args.file.now _ c.in_ok-layout.layout.root c.in_ok-layout.ensures.walked).outlined
 
 pub returns-clause-placed : goal.returns-clause-placed
-returns-clause-placed c = ∣ walked_whole c.args.file.now c.in_ok-layout.layout c.in_ok-layout.ensures.walked ∣₁
+returns-clause-placed c = ∣ placed_whole c.args.file.now _ c.in_ok-layout.layout.root c.in_ok-layout.ensures.walked ∣₁

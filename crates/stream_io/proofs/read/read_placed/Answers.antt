@@ -3,22 +3,20 @@ use Rattle.std.specs.Result.{IsErrAnd}
 use Rattle.cfb_chain.proofs.Results.{refused_with}
 use Rattle.stream_io.specs.Reads.{MayRefuseFile}
 use Rattle.file_outline.specs.View.{contents, shown}
-use Rattle.outline_entries.specs.Places.{IsPlaced}
-use Rattle.stream_io.specs.declared.read.Layout.{Layout}
-use Rattle.stream_io.proofs.ReadingOutlines.{walked_whole}
+use Rattle.outline_entries.proofs.Kept.{placed_whole}
 use Rattle.stream_io.proofs.ReadingRefused.{same_memory}
 use Rattle.stream_io.proofs.read.read_placed.Goals as goal
 
 pub returns-clause-outlined : goal.returns-clause-outlined
 returns-clause-outlined c =
-    let l : Layout = c.in_ok-walked.walked in
-    let placed : IsPlaced c.args.file.now (shown (contents l.fat l.mini) l.root) l.root = walked_whole c.args.file.now l c.in_ok-walked.ensures.walked in
-    (shown (contents l.fat l.mini) l.root, placed.denotes, placed.outlined)
+    let placed = placed_whole c.args.file.now _ c.in_ok-walked.walked.root c.in_ok-walked.ensures.walked in
+    (shown (contents c.in_ok-walked.walked.fat c.in_ok-walked.walked.mini) c.in_ok-walked.walked.root, placed.denotes, placed.outlined)
 
 pub returns-clause-placed : goal.returns-clause-placed
-returns-clause-placed c =
-    let l : Layout = c.in_ok-walked.walked in
-    (shown (contents l.fat l.mini) l.root, walked_whole c.args.file.now l c.in_ok-walked.ensures.walked)
+returns-clause-placed c = (
+  shown (contents c.in_ok-walked.walked.fat c.in_ok-walked.walked.mini) c.in_ok-walked.walked.root,
+  placed_whole c.args.file.now _ c.in_ok-walked.walked.root c.in_ok-walked.ensures.walked,
+)
 
 pub returns-in_err-walked-clause-reads : goal.returns-in_err-walked-clause-reads
 returns-in_err-walked-clause-reads c = λ t d.

@@ -9,8 +9,7 @@ use Rattle.cfb_directory.specs.Held.{held}
 use Rattle.cfb_directory.specs.Entries.{EntriesValue}
 use Rattle.storage_tree.specs.Tree.{Tree}
 use Rattle.file_model.specs.Denotes.{Denotes, Layout, directory_of}
-use Rattle.stream_io.specs.Reads.{IsStorageRead, MayRefuseFile, base_of, chain_fault, directory_fault}
-use Rattle.stream_io.specs.Walks.{IsOutlined}
+use Rattle.stream_io.specs.Reads.{IsOutlined, IsStorageRead, MayRefuseFile, base_of, chain_fault, directory_fault}
 use Rattle.outline_entries.specs.Places.{IsPlaced, IsTold}
 use Rattle.file_outline.specs.Keeping.{wanted}
 use Rattle.stream_io.specs.declared.read.Reader.{Reader}

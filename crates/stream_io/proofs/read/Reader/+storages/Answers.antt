@@ -1,29 +1,22 @@
-use Rattle.std.proofs.Common.{◌≡◌, ◌+◌, ◌-◌, ◌++◌, List, [], ◌∷◌, ℕ, Option, Some, None, suc, ap, drop, get_or, length, sym, ◌∙◌, subst, rules, arith}
+use Rattle.std.proofs.Common.{◌≡◌, ◌+◌, ◌-◌, ◌++◌, List, [], ℕ, Some, None, suc, ap, drop, get_or, length, sym, ◌∙◌, subst, rules, arith}
 use Rattle.std.specs.Result.{IsErrAnd}
 use Rattle.cfb_chain.proofs.Results.{refused_with}
 use Rattle.cfb_directory.specs.Entries.{entry_at, kind, kind_number}
-use Rattle.file_model.specs.Outline.{nested, part_of, sized}
-use Rattle.storage_tree.specs.Change.{Seen}
-use Rattle.storage_tree.specs.Tree.{Children, Tree}
+use Rattle.storage_tree.specs.Tree.{Tree}
 use Rattle.stream_io.specs.Marks.{IsNext}
-use Rattle.stream_io.specs.Reads.{IsNodeRead, IsStorageRead, MayRefuseStorage, MayWant, directory_fault, directory_in}
-use Rattle.stream_io.specs.Walks.{IsChildOutlined}
+use Rattle.stream_io.specs.Reads.{IsChildOutlined, IsNodeRead, IsStorageRead, MayRefuseStorage, MayWant, directory_fault, directory_in}
 use Rattle.file_outline.specs.Keeping.{Wanted, wanted}
-use Rattle.file_outline.specs.View.{contents, shown_parts}
+use Rattle.file_outline.specs.View.{contents}
 use Rattle.file_outline.specs.declared.outline.Part.{Part}
-use Rattle.file_outline.specs.declared.outline.Part.TheVariants.{Storage, Stream}
 use Rattle.file_outline.specs.declared.outline.Place.{Place}
-use Rattle.outline_entries.specs.Places.{holds, lies}
 use Rattle.stream_io.specs.declared.read.Reader.{Reader}
-use Rattle.outline_entries.proofs.Told.{view_nested, view_sized}
 use Rattle.stream_io.proofs.ReadingChildren.{IsFirstRead}
 use Rattle.file_faults.proofs.EntryKinds.{storage_kind}
-use Rattle.file_outline.proofs.Kept.{kept_child, kept_inner, kept_left, kept_same}
-use Rattle.file_outline.proofs.Outlines.{shown-nested, shown-stream}
+use Rattle.file_outline.proofs.Kept.{kept_child, kept_left}
+use Rattle.outline_entries.proofs.Kept.{nested_kept, stream_kept}
 use Rattle.stream_io.proofs.ReadingMemory.{by_entry, by_place, when_sorted}
-use Rattle.stream_io.proofs.ReadingOutlines.{AreOutlined, outlined_all, outlined_more, outlined_none, stream_read}
 use Rattle.stream_io.proofs.ReadingRefused.{entry_below, never_ok, same_memory, stream_below}
-use Rattle.stream_io.proofs.ReadingSteps.{AreOpen, entry_not_refused, inner_read, next_at, next_below, next_root, next_there, opened, positive}
+use Rattle.stream_io.proofs.ReadingSteps.{AreOpen, AreOutlined, entry_not_refused, inner_read, next_at, next_below, next_root, next_there, opened, outlined_all, outlined_more, outlined_none, positive, stream_read}
 use Rattle.stream_io.proofs.read.Reader.+storages.Goals as goal
 
 pub child_outline-returns-in_err-entry-clause-there : goal.child_outline-returns-in_err-entry-clause-there
@@ -74,22 +67,19 @@ storage_outline-returns-in_err-ids-clause-refused t c = λ b pending at.
 
 pub storage_outline-child_outline-requires : goal.storage_outline-child_outline-requires
 storage_outline-child_outline-requires t c =
-    let items : List ℕ = c.deref-child-items.result.now in
-    let o : AreOpen c.args.id items c.args.self.now c.sorted_children.new.self =
-    opened c.args.id c.in_ok-ids.ids.items items c.args.self.now c.sorted_children.new.self c.deref-child-items.ensures.value c.in_ok-ids.ensures.sorted.0 c.in_ok-ids.ensures.sorted.1 in
-    let i : ℕ = c.loop-child.child-index in
-    let cs : Children = shown_parts (contents c.sorted_children.new.self.fat c.sorted_children.new.self.mini) c.loop-child.invariant.whole in
-    (omega (arith, c.decreases), (next_below c.args.depth c.args.id items c.args.self.now c.sorted_children.new.self o i c.loop-child.self cs c.loop-child.invariant.progress c.requires.root_marked c.loop-child-test.true, next_root c.args.depth c.args.id items c.args.self.now c.sorted_children.new.self o i c.loop-child.self cs c.loop-child.invariant.progress c.requires.root_marked))
+    let o : AreOpen c.args.id c.deref-child-items.result.now c.args.self.now c.sorted_children.new.self =
+    opened c.deref-child-items.ensures.value c.in_ok-ids.ensures.sorted.0 c.in_ok-ids.ensures.sorted.1 in
+    let p = c.loop-child.invariant.progress in
+    (omega (arith, c.decreases), (next_below o p c.requires.root_marked c.loop-child-test.true, next_root o p c.requires.root_marked))
 
 pub storage_outline-returns-in_err-part-clause-there : goal.storage_outline-returns-in_err-part-clause-there
 storage_outline-returns-in_err-part-clause-there t c = λ u new h.
     let items : List ℕ = c.deref-child-items.result.now in
     let o : AreOpen c.args.id items c.args.self.now c.sorted_children.new.self =
-    opened c.args.id c.in_ok-ids.ids.items items c.args.self.now c.sorted_children.new.self c.deref-child-items.ensures.value c.in_ok-ids.ensures.sorted.0 c.in_ok-ids.ensures.sorted.1 in
+    opened c.deref-child-items.ensures.value c.in_ok-ids.ensures.sorted.0 c.in_ok-ids.ensures.sorted.1 in
     let i : ℕ = c.loop-child.child-index in
-    let cs : Children = shown_parts (contents c.sorted_children.new.self.fat c.sorted_children.new.self.mini) c.loop-child.invariant.whole in
     let first : IsFirstRead c.args.depth (get_or items i 0) (drop (i + 1) items) c.loop-child.self new =
-    next_there c.args.depth c.args.id items c.args.self.now c.sorted_children.new.self o i c.loop-child.self cs c.loop-child.invariant.progress u new h c.loop-child-test.true in
+    next_there o c.loop-child.invariant.progress u new h c.loop-child-test.true in
     let again : IsErrAnd c.from_residual-in_err-part.result (λ x. x ≡ c.in_err-part.field-0.0) = search rules in
     same_memory c.from_residual-in_err-part.result c.in_err-part.field-0.0 again
     (c.in_err-part.ensures.there first.k first.name first.node first.next first.first)
@@ -98,11 +88,10 @@ pub storage_outline-returns-in_err-part-clause-refused : goal.storage_outline-re
 storage_outline-returns-in_err-part-clause-refused t c = λ b pending at.
     let items : List ℕ = c.deref-child-items.result.now in
     let o : AreOpen c.args.id items c.args.self.now c.sorted_children.new.self =
-    opened c.args.id c.in_ok-ids.ids.items items c.args.self.now c.sorted_children.new.self c.deref-child-items.ensures.value c.in_ok-ids.ensures.sorted.0 c.in_ok-ids.ensures.sorted.1 in
+    opened c.deref-child-items.ensures.value c.in_ok-ids.ensures.sorted.0 c.in_ok-ids.ensures.sorted.1 in
     let i : ℕ = c.loop-child.child-index in
-    let cs : Children = shown_parts (contents c.sorted_children.new.self.fat c.sorted_children.new.self.mini) c.loop-child.invariant.whole in
     let next : IsNext b c.args.depth (get_or items i 0) (drop (i + 1) items ++ pending) c.loop-child.self =
-    next_at c.args.depth c.args.id items c.args.self.now c.sorted_children.new.self o i c.loop-child.self cs c.loop-child.invariant.progress b pending c.requires.storage at c.loop-child-test.true in
+    next_at o c.loop-child.invariant.progress b pending c.requires.storage at c.loop-child-test.true in
     let again : IsErrAnd c.from_residual-in_err-part.result (λ x. x ≡ c.in_err-part.field-0.0) = search rules in
     refused_with c.from_residual-in_err-part.result c.in_err-part.field-0.0 (MayRefuseStorage b) again
     (c.in_err-part.ensures.refused b (drop (i + 1) items ++ pending) next)
@@ -116,47 +105,29 @@ storage_outline-loop-child-init t c =
 
 pub storage_outline-loop-child-preserved-in_default : goal.storage_outline-loop-child-preserved-in_default
 storage_outline-loop-child-preserved-in_default t c =
-    let items : List ℕ = c.deref-child-items.result.now in
-    let mid : Reader = c.sorted_children.new.self in
-    let o : AreOpen c.args.id items c.args.self.now mid =
-    opened c.args.id c.in_ok-ids.ids.items items c.args.self.now mid c.deref-child-items.ensures.value c.in_ok-ids.ensures.sorted.0 c.in_ok-ids.ensures.sorted.1 in
-    let i : ℕ = c.loop-child.child-index in
     let w : Wanted = wanted c.args.keep in
-    let ps = c.loop-child.parts.items in
-    let r : Reader = c.loop-child.self in
-    let next : Reader = c.child_outline.new.self in
-    let one : IsChildOutlined c.args.depth (get_or items i 0) w None r next =
-    subst (λ (x : Option (List ℕ × Part)). IsChildOutlined c.args.depth (get_or items i 0) w x r next) c.in_default.is c.in_ok-part.ensures.outlined in
-    outlined_more c.args.depth c.args.id items c.args.self.now mid o w i r ps ps None next c.loop-child-test.true c.loop-child.invariant one
-    (kept_left w c.loop-child.invariant.whole ps one.name one.whole c.loop-child.invariant.is_kept one.is_kept)
+    let one : IsChildOutlined c.args.depth (get_or c.deref-child-items.result.now c.loop-child.child-index 0) w None c.loop-child.self c.child_outline.new.self =
+    subst (λ x. IsChildOutlined c.args.depth (get_or c.deref-child-items.result.now c.loop-child.child-index 0) w x c.loop-child.self c.child_outline.new.self)
+    c.in_default.is c.in_ok-part.ensures.outlined in
+    outlined_more c.loop-child-test.true c.loop-child.invariant one
+    (kept_left w c.loop-child.invariant.whole c.loop-child.parts.items one.name one.whole c.loop-child.invariant.is_kept one.is_kept)
 
 pub storage_outline-loop-child-preserved : goal.storage_outline-loop-child-preserved
 storage_outline-loop-child-preserved t c =
-    let items : List ℕ = c.deref-child-items.result.now in
-    let mid : Reader = c.sorted_children.new.self in
-    let o : AreOpen c.args.id items c.args.self.now mid =
-    opened c.args.id c.in_ok-ids.ids.items items c.args.self.now mid c.deref-child-items.ensures.value c.in_ok-ids.ensures.sorted.0 c.in_ok-ids.ensures.sorted.1 in
-    let i : ℕ = c.loop-child.child-index in
     let w : Wanted = wanted c.args.keep in
-    let ps = c.loop-child.parts.items in
-    let p = c.in-Some.part in
-    let r : Reader = c.loop-child.self in
-    let next : Reader = c.child_outline.new.self in
-    let one : IsChildOutlined c.args.depth (get_or items i 0) w (Some p) r next =
-    subst (λ (x : Option (List ℕ × Part)). IsChildOutlined c.args.depth (get_or items i 0) w x r next) c.in-Some.is c.in_ok-part.ensures.outlined in
+    let one : IsChildOutlined c.args.depth (get_or c.deref-child-items.result.now c.loop-child.child-index 0) w (Some c.in-Some.part) c.loop-child.self c.child_outline.new.self =
+    subst (λ x. IsChildOutlined c.args.depth (get_or c.deref-child-items.result.now c.loop-child.child-index 0) w x c.loop-child.self c.child_outline.new.self)
+    c.in-Some.is c.in_ok-part.ensures.outlined in
     rw c.in_ok-push.ensures.items
-    (outlined_more c.args.depth c.args.id items c.args.self.now mid o w i r ps (ps ++ p ∷ []) (Some p) next c.loop-child-test.true c.loop-child.invariant one
-    (kept_child w c.loop-child.invariant.whole ps one.name one.whole p c.loop-child.invariant.is_kept one.is_kept))
+    (outlined_more c.loop-child-test.true c.loop-child.invariant one
+    (kept_child w c.loop-child.invariant.whole c.loop-child.parts.items one.name one.whole c.in-Some.part c.loop-child.invariant.is_kept one.is_kept))
 
 pub storage_outline-returns-clause-outlined : goal.storage_outline-returns-clause-outlined
 storage_outline-returns-clause-outlined t c =
-    let items : List ℕ = c.deref-child-items.result.now in
-    let mid : Reader = c.sorted_children.new.self in
-    let o : AreOpen c.args.id items c.args.self.now mid =
-    opened c.args.id c.in_ok-ids.ids.items items c.args.self.now mid c.deref-child-items.ensures.value c.in_ok-ids.ensures.sorted.0 c.in_ok-ids.ensures.sorted.1 in
-    outlined_all c.args.depth c.args.id items c.args.self.now mid o (wanted c.args.keep) c.loop-child.child-index c.loop-child.self c.in_ok-ids.ids c.loop-child.parts
-    c.from_bytes.result c.args.entry.now.state c.loop-child-test.false (ap length c.deref-child-items.ensures.value) c.loop-child.invariant
-    (c.from_bytes.ensures ∙ c.requires.entry.class) c.requires.entry.state
+    let o : AreOpen c.args.id c.deref-child-items.result.now c.args.self.now c.sorted_children.new.self =
+    opened c.deref-child-items.ensures.value c.in_ok-ids.ensures.sorted.0 c.in_ok-ids.ensures.sorted.1 in
+    outlined_all o c.in_ok-ids.ids c.loop-child.parts c.from_bytes.result c.args.entry.now.state c.loop-child-test.false (ap length c.deref-child-items.ensures.value)
+    c.loop-child.invariant (c.from_bytes.ensures ∙ c.requires.entry.class) c.requires.entry.state
 
 pub child_outline-returns-in-Nothing-clause-outlined : goal.child_outline-returns-in-Nothing-clause-outlined
 child_outline-returns-in-Nothing-clause-outlined t c =
@@ -177,31 +148,21 @@ part_outline-returns-in_ok-mark_stream-in-Stream-clause-outlined t c =
     let place : Place = record { first = c.args.entry.now.first; size = c.args.entry.now.size } in
     let is_stream : kind (entry_at (directory_in old) c.args.id) ≡ 2 = sym c.requires.entry.kind_held ∙ ap kind_number c.in-Stream.is in
     let marked = c.in_ok-mark_stream-in-Stream.ensures in
-    record {
-      whole = Stream place;
-      is_read = subst (λ (s : Seen). IsNodeRead c.args.depth c.args.id s old c.mark_stream.new.self) (sym (shown-stream content place))
-          (stream_read c.args.id place.first place.size (content place) old c.mark_stream.new.self is_stream c.requires.entry.first c.requires.entry.size marked.found);
-      sized = ap part_of (shown-stream content place) ∙ ap sized marked.long ∙ sym (view_sized place);
-      told = lies c.args.id place is_stream c.requires.entry.first c.requires.entry.size;
-      is_kept = kept_same (wanted c.args.keep) (Stream place);
-    }
+    stream_kept (directory_in old) content (wanted c.args.keep) c.args.id (λ s. IsNodeRead c.args.depth c.args.id s old c.mark_stream.new.self) place is_stream
+    c.requires.entry.first c.requires.entry.size marked.long
+    (stream_read c.args.id place.first place.size (content place) old c.mark_stream.new.self is_stream c.requires.entry.first c.requires.entry.size marked.found)
 
 pub part_outline-returns-in_ok-inner-in_default : goal.part_outline-returns-in_ok-inner-in_default
 part_outline-returns-in_ok-inner-in_default t c =
-    let kind_is : kind (entry_at (directory_in c.args.self.now) c.args.id) ≡ 1 =
-    storage_kind c.args.id (kind (entry_at (directory_in c.args.self.now) c.args.id)) c.args.entry.now.kind c.requires.below_root c.requires.entry.allowed
+    let old : Reader = c.args.self.now in
+    let new : Reader = c.storage_outline.new.self in
+    let kind_is : kind (entry_at (directory_in old) c.args.id) ≡ 1 =
+    storage_kind c.args.id (kind (entry_at (directory_in old) c.args.id)) c.args.entry.now.kind c.requires.below_root c.requires.entry.allowed
     c.requires.entry.kind_held c.in_default.not-Stream in
-    let content : Place → List ℕ = contents c.args.self.now.fat c.args.self.now.mini in
-    let h = c.in_ok-inner-in_default.ensures.outlined in
     record {
-      outlined = record {
-        whole = Storage h.whole;
-        is_read = subst (λ (s : Seen). IsNodeRead c.args.depth c.args.id s c.args.self.now c.storage_outline.new.self) (sym (shown-nested content h.whole))
-            (kind_is, positive c.args.depth c.if-depth-eq0.false, h.is_read);
-        sized = ap part_of (shown-nested content h.whole) ∙ ap nested h.sized ∙ sym (view_nested h.whole);
-        told = holds c.args.id h.whole kind_is h.told;
-        is_kept = kept_inner (wanted c.args.keep) h.whole c.in_ok-inner-in_default.inner h.is_kept;
-      };
+      outlined = nested_kept (directory_in old) (contents old.fat old.mini) (wanted c.args.keep) c.args.id (λ s. IsNodeRead c.args.depth c.args.id s old new)
+          (λ u. IsStorageRead (c.args.depth - 1) c.args.id u old new) c.in_ok-inner-in_default.inner kind_is
+          (λ u h. (kind_is, positive c.args.depth c.if-depth-eq0.false, h)) c.in_ok-inner-in_default.ensures.outlined;
       there = λ s new h. tt;
       memory = tt;
       refused = λ b pending at. tt;

@@ -1,6 +1,6 @@
 use Rattle.std.proofs.Common.{◌+◌, ◌*◌}
 use Rattle.file_outline.specs.Keeping.{wanted}
-use Rattle.stream_io.proofs.ReadingOutlines.{AreOutlined}
+use Rattle.stream_io.proofs.ReadingSteps.{AreOutlined}
 use Rattle.stream_io.proofs.read.Reader.+storages.Given as goal
 
 abbrev pub decreases-storage_outline : goal.decreases-storage_outline
