@@ -1,12 +1,7 @@
 -- Children put one after another behind those so far.
-use Rattle.std.proofs.Common.{◌≡◌, ◌∙◌, List, ℕ, [], ◌∷◌, ◌++◌, ap, refl}
-use Rattle.std.proofs.lemmas.List.Elements.{All-head, All-tail}
-use Rattle.std.specs.List.{All}
-use Rattle.std.specs.Ordering.{match_ordering}
-use Rattle.std.specs.declared.cmp.Ordering.TheVariants.{Greater}
-use Rattle.cfb_names.specs.Names.{key_cmp}
-use Rattle.storage_tree.specs.Change.{Seen, bytes, inner, child, place}
-use Rattle.storage_tree.specs.Tree.{Children, none, stream, storage, keys}
+use Rattle.std.proofs.Common.{◌≡◌, List, ℕ, ap, refl}
+use Rattle.storage_tree.specs.Change.{Seen, bytes, inner, child}
+use Rattle.storage_tree.specs.Tree.{Children, none, stream, storage}
 
 -- children with others behind them
 abbrev pub followed : Children → Children → Children
