@@ -6,7 +6,6 @@ ghost use Rattle.cfb_directory.specs.Held.{held};
 ghost use Rattle.std.specs.Prelude.{◌*◌, ◌+◌, ◌/◌, ◌<◌, ◌≡◌, ◌≤◌, IfSome, false, length, true};
 
 use crate::bytes::{ENTRY_LEN, entry_bytes, entry_u32, whole_entry};
-use cfb_bytes::numbers::read_u32;
 use packed_entries::packed::PackedEntries;
 
 /// The bytes of a directory.
@@ -16,16 +15,6 @@ pub enum Directory<'a> {
     Bytes(&'a [u8]),
     /// As entries that take less memory.
     Packed(&'a PackedEntries),
-}
-
-/// The number in four bytes of an entry.
-fn packed_u32(entries: &PackedEntries, id: u32, at: usize) -> u32
-    requires there { 128 * id < length entries.now }
-    requires within { at + 4 ≤ 128 }
-    ensures { result ≡ u32_at (entry_at entries.now id) at }
-{
-    let entry = entries.entry(id as usize);
-    read_u32(&entry, at)
 }
 
 impl<'a> Directory<'a> {
@@ -79,7 +68,7 @@ impl<'a> Directory<'a> {
     {
         match self {
             Directory::Bytes(bytes) => entry_u32(bytes, id, at),
-            Directory::Packed(entries) => packed_u32(entries, id, at),
+            Directory::Packed(entries) => entries.number(id as usize, at),
         }
     }
 }

@@ -1,13 +1,14 @@
 -- The bytes of entries that are held in less memory.
 use Rattle.std.proofs.Common.{◌≡◌, ◌<◌, ◌≤◌, ◌+◌, ◌-◌, ◌*◌, ◌/◌, inl, inr, min, ℕ, zero, suc, List, [], ◌∷◌, ◌++◌, length, take, drop, replicate, get_or, refl, sym, ◌∙◌, ap, arith, append_assoc, drop-drop, length-append, length-drop}
-use Rattle.std.proofs.lemmas.List.{append-nil, drop-replicate, get_or-drop, get_or-take, length-replicate, length-take, length-take-le, take-append-drop, take-append-le, take_all, take_more}
+use Rattle.std.proofs.lemmas.List.{drop-append-le, append-nil, drop-replicate, get_or-drop, get_or-take, length-replicate, length-take, length-take-le, take-append-drop, take-append-le, take_all, take_more}
 use Rattle.std.proofs.Math.ListN.{get_or-append}
 use Rattle.std.proofs.Math.Seq.{drop-append-add, take-append-add}
 use Rattle.std.proofs.lemmas.Bool.{cases_lt}
 use Rattle.std.proofs.lemmas.Grind.{flat_map-append}
 use Rattle.std.specs.Prelude.{slice_set}
 use Rattle.std.specs.List.{flat_map}
-use Rattle.cfb_bytes.specs.Bytes.{block}
+use Rattle.std.specs.Int.{from_le_bytes, w32}
+use Rattle.cfb_bytes.specs.Bytes.{block, u32_at}
 use Rattle.packed_entries.specs.Packed.{entry_of, spelled, unit}
 use Rattle.packed_entries.specs.declared.packed.Short.{Short}
 use Rattle.packed_entries.specs.declared.packed.Slot.{Slot}
@@ -186,16 +187,12 @@ byte_there bytes s j few inside =
 
 -- an entry more of some that are added
 pub entry_more : (old bytes : List ℕ) (k : ℕ) → k < length bytes / 128
-    → (old ++ take (128 * k) bytes) ++ block 128 (take (128 * k + 128 - 128 * k) (drop (128 * k) bytes)) 0 ≡ old ++ take (128 * (k + 1)) bytes
+    → (old ++ take (128 * k) bytes) ++ take 128 (drop (128 * k) bytes) ≡ old ++ take (128 * (k + 1)) bytes
 entry_more old bytes k less =
-    let piece : List ℕ = take 128 (drop (128 * k) bytes) in
-    let e : 128 * k + 128 - 128 * k ≡ 128 = omega arith in
-    let long : length piece ≡ 128 = omega (arith, less, length-take 128 (drop (128 * k) bytes), length-drop (128 * k) bytes) in
     let front : length (take (128 * k) bytes) ≡ 128 * k = omega (arith, less, length-take (128 * k) bytes) in
     let n : 128 * (k + 1) ≡ length (take (128 * k) bytes) + 128 = omega (arith, front) in
     let whole : take (128 * k) bytes ++ drop (128 * k) bytes ≡ bytes = take-append-drop (128 * k) bytes in
-    append_assoc old (take (128 * k) bytes) (block 128 (take (128 * k + 128 - 128 * k) (drop (128 * k) bytes)) 0)
-    ∙ ap (λ xs. old ++ (take (128 * k) bytes ++ xs)) (ap (λ m. block 128 (take m (drop (128 * k) bytes)) 0) e ∙ block_whole 128 piece long)
+    append_assoc old (take (128 * k) bytes) (take 128 (drop (128 * k) bytes))
     ∙ ap (λ xs. old ++ xs)
     (sym (take-append-add (take (128 * k) bytes) (drop (128 * k) bytes) 128)
     ∙ (λ t. take (sym n t) (whole t)))
@@ -207,3 +204,32 @@ back old more slots n is long =
     let few : n ≤ length slots = omega (arith, long, length_entries slots, ap length is, length-append old more) in
     take_entries slots n few ∙ ap (take (128 * n)) is ∙ ap (λ m. take m (old ++ more)) long
     ∙ take-append-le (length old) old more (omega arith) ∙ take_all (length old) old (omega arith)
+
+-- ---- eight bytes at a time
+pub eight_more : (a b : List ℕ) (k : ℕ) → 8 * k + 8 ≤ length a → 8 * k + 8 ≤ length b → take (8 * k) a ≡ take (8 * k) b
+    → take 8 (drop (8 * k) a) ≡ take 8 (drop (8 * k) b) → take (8 * (k + 1)) a ≡ take (8 * (k + 1)) b
+eight_more a b k l m front next =
+    let cut : (xs : List ℕ) → 8 * k + 8 ≤ length xs → take (8 * (k + 1)) xs ≡ take (8 * k) xs ++ take 8 (drop (8 * k) xs) =
+    λ xs long.
+    let n : 8 * (k + 1) ≡ length (take (8 * k) xs) + 8 = omega (arith, length-take-le (8 * k) xs (omega (arith, long))) in
+    (λ t. take (n t) (sym (take-append-drop (8 * k) xs) t)) ∙ take-append-add (take (8 * k) xs) (drop (8 * k) xs) 8 in
+    cut a l ∙ (λ t. front t ++ next t) ∙ sym (cut b m)
+
+-- ---- numbers in the head of an entry
+pub in_head : (s : Short) (at : ℕ) → length s.name ≡ 32 → length s.head ≡ 16 → length s.place ≡ 7 → 64 ≤ at → at + 4 ≤ 80
+    → u32_at s.head (at - 64) ≡ u32_at (block 128 (spelled s) 0) at
+unfolding spelled u32_at
+in_head s at n h p from to =
+    let units : List ℕ = flat_map unit s.name in
+    let zeros : List ℕ = replicate 36 0 in
+    let tail : List ℕ = replicate 5 0 in
+    let rest : List ℕ = zeros ++ (s.place ++ tail) in
+    let behind : List ℕ = drop (at - 64) s.head in
+    let place : at ≡ length units + (at - 64) = omega (arith, from, length_units s.name, n) in
+    let there : at ≤ length (units ++ s.head) = omega (arith, to, length-append units s.head, length_units s.name, n, h) in
+    let some : 4 ≤ length behind = omega (arith, from, to, h, length-drop (at - 64) s.head) in
+    let whole : block 128 (spelled s) 0 ≡ (units ++ s.head) ++ rest =
+    block_whole 128 (spelled s) (length_spelled s n h p) ∙ append_assoc (units ++ s.head ++ zeros) s.place tail ∙ append_assoc (units ++ s.head) zeros (s.place ++ tail) in
+    let cut : drop at ((units ++ s.head) ++ rest) ≡ behind ++ rest =
+    drop-append-le at (units ++ s.head) rest there ∙ ap (λ k. drop k (units ++ s.head) ++ rest) place ∙ ap (λ xs. xs ++ rest) (drop-append-add units s.head (at - 64)) in
+    ap (from_le_bytes w32) (sym (ap (λ xs. take 4 (drop at xs)) whole ∙ ap (take 4) cut ∙ take-append-le 4 behind rest some))

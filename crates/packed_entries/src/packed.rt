@@ -1,10 +1,13 @@
 //! The entries of a directory in less memory than they take in a file.
 
-ghost use Rattle.cfb_bytes.specs.Bytes.{block};
-ghost use Rattle.packed_entries.specs.Packed.{entry_of, spelled, unit};
+ghost use Rattle.cfb_bytes.specs.Bytes.{block, u32_at};
+ghost use Rattle.packed_entries.specs.Packed.{spelled, unit};
+ghost use Rattle.std.specs.Int.{to_le_bytes, w64};
 ghost use Rattle.std.specs.List.{flat_map};
-ghost use Rattle.std.specs.Prelude.{◌+◌, ◌++◌, ◌≡◌, ◌≤◌, drop, length, take, true};
+ghost use Rattle.std.specs.Prelude.{◌*◌, ◌+◌, ◌++◌, ◌≡◌, ◌≤◌, drop, length, take, true};
 
+use byteorder::{ByteOrder, LittleEndian};
+use cfb_bytes::numbers::read_u32;
 use std::alloc::{AllocError, Global};
 use std::marker::Model;
 
@@ -90,15 +93,24 @@ fn shorten(entry: &[u8; 128]) -> Short {
     Short { name, head, place }
 }
 
-/// Whether entries are the same. All bytes are looked at, since that goes many at a time.
+/// Eight bytes of an entry as a number.
+fn word(bytes: &[u8; 128], at: usize) -> u64
+    requires { at + 8 ≤ 128 }
+    ensures { to_le_bytes w64 result ≡ take 8 (drop at bytes.now) }
+{
+    LittleEndian::read_u64(&bytes[at..])
+}
+
+/// Whether entries are the same: eight bytes at a time.
 fn are_equal(a: &[u8; 128], b: &[u8; 128]) -> bool
     ensures { result ≡ true → a.now ≡ b.now }
 {
-    let mut same = true;
-    for k in 0..ENTRY_LEN {
-        same &= a[k] == b[k];
+    for k in 0..ENTRY_LEN / 8 {
+        if word(a, 8 * k) != word(b, 8 * k) {
+            return false;
+        }
     }
-    same
+    true
 }
 
 /// The first bytes, with zeros behind them where there are fewer than an entry has.
@@ -111,9 +123,33 @@ fn front(bytes: &[u8]) -> [u8; 128]
     entry
 }
 
+/// The bytes of one of several entries.
+fn entry_in(bytes: &[u8], k: usize) -> [u8; 128]
+    requires { 128 * k + 128 ≤ length bytes.now }
+    ensures { result ≡ take 128 (drop (128 * k) bytes.now) }
+{
+    let piece = &bytes[ENTRY_LEN * k..ENTRY_LEN * k + ENTRY_LEN];
+    match piece.as_array::<ENTRY_LEN>() {
+        Some(entry) => *entry,
+        None => front(piece),
+    }
+}
+
+/// The number in four bytes of an entry of which most are zero. Those that links have are read where they are kept.
+fn short_number(short: &Short, at: usize) -> u32
+    requires { at + 4 ≤ 128 }
+    ensures { result ≡ u32_at (block 128 (spelled short.now) 0) at }
+{
+    if at >= 64 && at + 4 <= 80 {
+        return read_u32(&short.head, at - 64);
+    }
+    read_u32(&spell(short), at)
+}
+
 impl Slot {
+    ghost use Rattle.cfb_bytes.specs.Bytes.{u32_at};
     ghost use Rattle.packed_entries.specs.Packed.{entry_of};
-    ghost use Rattle.std.specs.Prelude.{◌≡◌, IfOk};
+    ghost use Rattle.std.specs.Prelude.{◌+◌, ◌≡◌, ◌≤◌, IfOk};
 
     /// An entry, in as little memory as it can be held.
     fn of(alloc: Global, entry: &[u8; 128]) -> Result<Slot, AllocError>
@@ -125,6 +161,17 @@ impl Slot {
         }
         let bytes = Vec::from_slice(alloc, entry)?;
         Ok(Slot::Whole(bytes))
+    }
+
+    /// The number in four of its bytes.
+    fn number(&self, at: usize) -> u32
+        requires { at + 4 ≤ 128 }
+        ensures { result ≡ u32_at (entry_of self.now) at }
+    {
+        match self {
+            Slot::Packed(short) => short_number(short, at),
+            Slot::Whole(bytes) => read_u32(&front(bytes), at),
+        }
     }
 
     /// Its bytes.
@@ -149,8 +196,8 @@ impl Model for PackedEntries {
 }
 
 impl PackedEntries {
-    ghost use Rattle.cfb_bytes.specs.Bytes.{block};
-    ghost use Rattle.std.specs.Prelude.{[], ◌*◌, ◌++◌, ◌<◌, ◌≡◌, OnErr, OnOk, length, slice_index, ℕ};
+    ghost use Rattle.cfb_bytes.specs.Bytes.{block, u32_at};
+    ghost use Rattle.std.specs.Prelude.{[], ◌*◌, ◌+◌, ◌++◌, ◌<◌, ◌≡◌, ◌≤◌, OnErr, OnOk, length, slice_index, ℕ};
 
     /// No entries.
     pub fn new(alloc: Global) -> PackedEntries
@@ -184,6 +231,15 @@ impl PackedEntries {
         self.slots[id].bytes()
     }
 
+    /// The number in four bytes of an entry.
+    pub fn number(&self, id: usize, at: usize) -> u32
+        requires there { 128 * id < length self.now }
+        requires within { at + 4 ≤ 128 }
+        ensures { result ≡ u32_at (block 128 self.now (128 * id)) at }
+    {
+        self.slots[id].number(at)
+    }
+
     /// One of all their bytes.
     pub fn byte(&self, at: usize) -> u8
         requires { at < length self.now }
@@ -211,7 +267,7 @@ impl PackedEntries {
     {
         let before = self.slots.len();
         for k in 0..bytes.len() / ENTRY_LEN {
-            let entry = front(&bytes[ENTRY_LEN * k..ENTRY_LEN * k + ENTRY_LEN]);
+            let entry = entry_in(bytes, k);
             match self.push(alloc, &entry) {
                 Ok(()) => {}
                 Err(_) => {

@@ -1,5 +1,5 @@
-use Rattle.std.proofs.Common.{◌≡◌, ◌<◌, true, ℕ, get_or}
+use Rattle.std.proofs.Common.{◌≡◌, ◌*◌, take}
 use Rattle.packed_entries.proofs.packed.are_equal.Given as goal
 
 abbrev pub invariant-loop-k : goal.invariant-loop-k
-invariant-loop-k l = l.same ≡ true → (j : ℕ) → j < l.k → get_or l.a j 0 ≡ get_or l.b j 0
+invariant-loop-k l = take (8 * l.k) l.a ≡ take (8 * l.k) l.b

@@ -14,5 +14,5 @@ returns-in-Err-clause-kept c =
 pub loop-k-preserved : goal.loop-k-preserved
 loop-k-preserved c =
     c.in-Ok.ensures.added
-    ∙ (λ t. c.loop-k.invariant t ++ c.front-entry.ensures t)
+    ∙ (λ t. c.loop-k.invariant t ++ c.entry_in-entry.ensures t)
     ∙ entry_more c.args.self.now c.args.bytes.now c.loop-k.k c.loop-k-test.true
