@@ -15,6 +15,10 @@ use texts::input::InputFault;
 /// A long stream of two pieces, a short one and an empty one.
 const DESCRIPTION: &[u8] = b"storage S\nfill S/Long 70000 61\nstream S/Short 0102\nstream A -\n";
 
+/// Storages in one another, whose streams have the same names.
+const NESTED: &[u8] =
+    b"storage S\nstorage S/T\nstream S/T/A 010203\nstream S/A 0102\nstorage T\nstream T/A 01\n";
+
 /// How many calls it takes to learn where a stream lies: one for the file's length, and one each for its header, the FAT,
 /// the directory and the mini FAT.
 const CALLS: usize = 5;
@@ -48,8 +52,8 @@ impl<'a> Source for Few<'a> {
     }
 }
 
-fn made(rt: &impl Abort, alloc: Global) -> Vec<u8> {
-    let mut text = DESCRIPTION;
+fn made(rt: &impl Abort, alloc: Global, description: &[u8]) -> Vec<u8> {
+    let mut text = description;
     let mut file = Vec::new(alloc);
     make_file(alloc, &mut text, &mut file).expect(rt, "a file");
     file
@@ -131,15 +135,26 @@ fn is_no_tree(rt: &impl Abort, alloc: Global, file: &[u8], path: &str) -> bool {
 
 #[test]
 fn a_stream_is_read_where_it_lies(rt: HostRuntime) {
-    let file = made(&rt, rt.alloc());
+    let file = made(&rt, rt.alloc(), DESCRIPTION);
     assert!(rt; is_got(&rt, rt.alloc(), &file, "S Long", CALLS + 2, 70000));
     assert!(rt; is_got(&rt, rt.alloc(), &file, "S Short", CALLS + 1, 2));
     assert!(rt; is_got(&rt, rt.alloc(), &file, "A", CALLS, 0));
 }
 
 #[test]
+fn a_path_leads_through_storages(rt: HostRuntime) {
+    let file = made(&rt, rt.alloc(), NESTED);
+    assert!(rt; is_got(&rt, rt.alloc(), &file, "S T A", CALLS + 1, 3));
+    assert!(rt; is_got(&rt, rt.alloc(), &file, "s A", CALLS + 1, 2));
+    assert!(rt; is_got(&rt, rt.alloc(), &file, "T a", CALLS + 1, 1));
+    assert!(rt; is_missing(&rt, rt.alloc(), &file, "T T A", TreeFault::NotFound));
+    assert!(rt; is_missing(&rt, rt.alloc(), &file, "S T", TreeFault::WrongKind));
+    assert!(rt; is_missing(&rt, rt.alloc(), &file, "S A A", TreeFault::WrongKind));
+}
+
+#[test]
 fn a_read_that_fails_cuts_a_stream(rt: HostRuntime) {
-    let file = made(&rt, rt.alloc());
+    let file = made(&rt, rt.alloc(), DESCRIPTION);
     assert!(rt; is_cut(&rt, rt.alloc(), &file, "S Long", CALLS + 1, 65536));
     assert!(rt; is_cut(&rt, rt.alloc(), &file, "S Long", CALLS, 0));
     assert!(rt; is_cut(&rt, rt.alloc(), &file, "S Short", CALLS, 0));
@@ -148,7 +163,7 @@ fn a_read_that_fails_cuts_a_stream(rt: HostRuntime) {
 
 #[test]
 fn what_is_no_stream_is_not_read(rt: HostRuntime) {
-    let mut file = made(&rt, rt.alloc());
+    let mut file = made(&rt, rt.alloc(), DESCRIPTION);
     assert!(rt; is_missing(&rt, rt.alloc(), &file, "B", TreeFault::NotFound));
     assert!(rt; is_missing(&rt, rt.alloc(), &file, "S", TreeFault::WrongKind));
     assert!(rt; is_missing(&rt, rt.alloc(), &file, "A B", TreeFault::WrongKind));
@@ -180,7 +195,7 @@ fn is_left(alloc: Global, file: &[u8], calls: usize) -> bool {
 
 #[test]
 fn a_file_is_cleaned_by_places(rt: HostRuntime) {
-    let file = made(&rt, rt.alloc());
+    let file = made(&rt, rt.alloc(), DESCRIPTION);
     assert!(rt; is_cleaned(rt.alloc(), &file, CALLS + 3));
     assert!(rt; is_left(rt.alloc(), &file, CALLS + 2));
     assert!(rt; is_left(rt.alloc(), &file, CALLS));
