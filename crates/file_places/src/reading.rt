@@ -11,7 +11,8 @@ use crate::listing::read_lists;
 use crate::sectors::{read_bytes, read_sectors};
 use crate::source::Source;
 use cfb_header::header::Header;
-use cfb_places::places::{BLOCK, Held, Places};
+pub use cfb_places::places::Held;
+use cfb_places::places::{BLOCK, Places};
 use std::alloc::Global;
 
 /// The most bytes that a file may have.
@@ -22,7 +23,7 @@ const MOST: u64 = 134_217_728;
 pub struct Catalog {
     /// What its header says.
     pub header: Header,
-    /// Its bytes, zero bytes standing for those that weren't read. Those of the directory are held as entries.
+    /// Its bytes, zero bytes standing for those that weren't read.
     pub file: Places,
 }
 
@@ -43,11 +44,34 @@ fn read_len<S: Source>(source: &mut S) -> Result<usize, PlacesFault>
     }
 }
 
+/// For how many blocks of a directory room is made, where its entries are packed.
+fn packed_blocks(held: Held, blocks: usize) -> usize {
+    match held {
+        Held::Plain => 0,
+        Held::Entries => blocks,
+    }
+}
+
 /// Reads of a file the header, the DIFAT, the FAT, the directory and the mini FAT: what its listing needs. Chains are followed as far
 /// as the FAT goes, and what is wrong with them is found as the listing is made.
 ///
 /// Refused: `Unreadable` where a read fails, `TooBig` for more than `MOST` bytes, `NoMemory`, and the fault of a header.
 pub fn read_catalog<S: Source>(alloc: Global, source: &mut S) -> Result<Catalog, PlacesFault>
+    ensures header { IfOk result (λ c. header_read c.file ≡ Ok c.header) }
+    ensures whole { IfOk result (λ c. IsHeader c.file) }
+    ensures alike { IfOk result (λ c. IfSome (S.bytes source.old) (λ a. Alike a c.file)) }
+    ensures refused { IfErr result (λ fault. IfSome (S.bytes source.old) (λ a. MayRefusePlaces a fault)) }
+    ensures kept { S.bytes source.new ≡ S.bytes source.old }
+{
+    read_catalog_as(alloc, source, Held::Plain)
+}
+
+/// The same, the directory held as is asked: as packed entries it takes less than half of the memory, and somewhat longer.
+pub fn read_catalog_as<S: Source>(
+    alloc: Global,
+    source: &mut S,
+    held: Held,
+) -> Result<Catalog, PlacesFault>
     ensures header { IfOk result (λ c. header_read c.file ≡ Ok c.header) }
     ensures whole { IfOk result (λ c. IsHeader c.file) }
     ensures alike { IfOk result (λ c. IfSome (S.bytes source.old) (λ a. Alike a c.file)) }
@@ -64,8 +88,8 @@ pub fn read_catalog<S: Source>(alloc: Global, source: &mut S) -> Result<Catalog,
     file.put(alloc, 0, &front, Held::Plain)?;
     let sectors = read_lists(alloc, source, &mut file, &header)?;
     let chains = find_chains(alloc, &file, &sectors.fat, &header)?;
-    file.reserve_entries(chains.directory.len())?;
-    read_sectors(alloc, source, &mut file, &chains.directory, Held::Entries)?;
+    file.reserve_entries(packed_blocks(held, chains.directory.len()))?;
+    read_sectors(alloc, source, &mut file, &chains.directory, held)?;
     read_sectors(alloc, source, &mut file, &chains.mini_fat, Held::Plain)?;
     Ok(Catalog { header, file })
 }
