@@ -3,7 +3,7 @@
 use crate::reading::{FILE, first_size};
 use crate::texts::{are_all, spelled};
 use file_places::fault::PlacesFault;
-use file_places::reading::{Catalog, read_catalog};
+use file_places::reading::{Catalog, Held, read_catalog, read_catalog_as};
 use file_places::source::{Sought, Source};
 use std::alloc::Global;
 use std::io::{self, Cursor, ErrorKind};
@@ -45,27 +45,40 @@ fn cataloged<S: Source>(alloc: Global, source: &mut S) -> Result<Catalog, Places
     read_catalog(alloc, source)
 }
 
+/// Whether a block has zeros alone.
+fn is_zeros(alloc: Global, catalog: &Catalog, n: u8) -> bool {
+    let mut block = Vec::new(alloc);
+    match catalog.file.push_block(&mut block, n as usize) {
+        Ok(()) => are_all(&block, 0),
+        Err(_) => false,
+    }
+}
+
 /// Whether the header, the FAT, the directory and the mini FAT are there, and the mini stream isn't.
-fn is_small(catalog: &Catalog) -> bool {
+fn is_small(alloc: Global, catalog: &Catalog) -> bool {
     for n in 0..4 {
-        if are_all(catalog.file.part(n), 0) {
+        if is_zeros(alloc, catalog, n) {
             return false;
         }
     }
-    are_all(catalog.file.part(4), 0)
+    is_zeros(alloc, catalog, 4)
 }
 
-fn listed<S: Source>(alloc: Global, source: &mut S) -> Option<u32> {
-    let Ok(catalog) = read_catalog(alloc, source) else {
+fn listed_of(alloc: Global, catalog: Result<Catalog, PlacesFault>) -> Option<u32> {
+    let Ok(catalog) = catalog else {
         return None;
     };
-    if !is_small(&catalog) {
+    if !is_small(alloc, &catalog) {
         return None;
     }
     let Ok(outline) = read_placed(alloc, &catalog.header, &catalog.file) else {
         return None;
     };
     first_size(&outline)
+}
+
+fn listed<S: Source>(alloc: Global, source: &mut S) -> Option<u32> {
+    listed_of(alloc, read_catalog(alloc, source))
 }
 
 fn is_unreadable(answer: Result<Catalog, PlacesFault>) -> bool {
@@ -84,6 +97,13 @@ fn a_listing_reads_its_places(rt: HostRuntime) {
     let file = spelled(&rt, rt.alloc(), FILE);
     assert!(rt; listed(rt.alloc(), &mut file.as_slice()) == Some(3));
     assert!(rt; is_sought(rt.alloc(), &file));
+}
+
+#[test]
+fn a_packed_directory_lists_the_same(rt: HostRuntime) {
+    let file = spelled(&rt, rt.alloc(), FILE);
+    let packed = read_catalog_as(rt.alloc(), &mut file.as_slice(), Held::Entries);
+    assert!(rt; listed_of(rt.alloc(), packed) == Some(3));
 }
 
 fn fails(alloc: Global, bytes: &[u8], calls: usize) -> bool {
