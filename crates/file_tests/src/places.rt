@@ -64,8 +64,8 @@ fn is_small(alloc: Global, catalog: &Catalog) -> bool {
     is_zeros(alloc, catalog, 4)
 }
 
-fn listed_of(alloc: Global, catalog: Result<Catalog, PlacesFault>) -> Option<u32> {
-    let Ok(catalog) = catalog else {
+fn listed<S: Source>(alloc: Global, source: &mut S, held: Held) -> Option<u32> {
+    let Ok(catalog) = read_catalog_as(alloc, source, held) else {
         return None;
     };
     if !is_small(alloc, &catalog) {
@@ -77,10 +77,6 @@ fn listed_of(alloc: Global, catalog: Result<Catalog, PlacesFault>) -> Option<u32
     first_size(&outline)
 }
 
-fn listed<S: Source>(alloc: Global, source: &mut S) -> Option<u32> {
-    listed_of(alloc, read_catalog(alloc, source))
-}
-
 fn is_unreadable(answer: Result<Catalog, PlacesFault>) -> bool {
     match answer {
         Err(fault) => fault == PlacesFault::Unreadable,
@@ -89,21 +85,20 @@ fn is_unreadable(answer: Result<Catalog, PlacesFault>) -> bool {
 }
 
 fn is_sought(alloc: Global, file: &[u8]) -> bool {
-    listed(alloc, &mut Sought::new(Cursor::new(file))) == Some(3)
+    listed(alloc, &mut Sought::new(Cursor::new(file)), Held::Plain) == Some(3)
 }
 
 #[test]
 fn a_listing_reads_its_places(rt: HostRuntime) {
     let file = spelled(&rt, rt.alloc(), FILE);
-    assert!(rt; listed(rt.alloc(), &mut file.as_slice()) == Some(3));
+    assert!(rt; listed(rt.alloc(), &mut file.as_slice(), Held::Plain) == Some(3));
     assert!(rt; is_sought(rt.alloc(), &file));
 }
 
 #[test]
 fn a_packed_directory_lists_the_same(rt: HostRuntime) {
     let file = spelled(&rt, rt.alloc(), FILE);
-    let packed = read_catalog_as(rt.alloc(), &mut file.as_slice(), Held::Entries);
-    assert!(rt; listed_of(rt.alloc(), packed) == Some(3));
+    assert!(rt; listed(rt.alloc(), &mut file.as_slice(), Held::Entries) == Some(3));
 }
 
 fn fails(alloc: Global, bytes: &[u8], calls: usize) -> bool {
@@ -113,7 +108,7 @@ fn fails(alloc: Global, bytes: &[u8], calls: usize) -> bool {
 
 fn is_listed(alloc: Global, bytes: &[u8], calls: usize) -> bool {
     let mut source = Broken { bytes, calls };
-    listed(alloc, &mut source) == Some(3)
+    listed(alloc, &mut source, Held::Plain) == Some(3)
 }
 
 #[test]
