@@ -1,6 +1,6 @@
 -- The entries of siblings as the writer keeps them.
 use Rattle.std.specs.Prelude.{◌≡◌, ◌<◌, ◌^◌, ◌+◌, ℕ, length, if◌then◌else◌, nat_lt}
-use Rattle.cfb_directory.specs.SearchTree.{IsSearchTree}
+use Rattle.directory_model.specs.SearchTree.{IsSearchTree}
 use Rattle.storage_tree.specs.Tree.{Children}
 use Rattle.storage_tree.specs.Change.{Seen, bytes, inner}
 use Rattle.file_model.specs.Limits.{CUTOFF}

@@ -15,9 +15,9 @@ ghost use Rattle.storage_tree.specs.Change.{bytes as content};
 ghost use Rattle.file_layout.specs.Directory.{AreSpelled, balanced as balanced_links, children_in, first_of_stream, ids_from, long_start, long_streams, root_says, short_streams};
 
 use crate::needs::needs_with;
-use cfb_directory::entries::{EntryKind, NO_STREAM};
-use cfb_directory::links::{Links, balanced};
-use cfb_directory::write::EntryFields;
+use directory_model::entries::{EntryKind, NO_STREAM};
+use directory_writing::links::{Links, balanced};
+use directory_writing::write::EntryFields;
 use file_parts::counts::{Counts, chain_start};
 use file_parts::leads::{Directory, Lead, class_bytes, state_bits};
 use file_parts::streams::{is_short, mini_count, sector_count};

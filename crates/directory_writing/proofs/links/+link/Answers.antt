@@ -1,8 +1,8 @@
 use Rattle.std.proofs.Common.{ℕ, subst, arith, ◌<◌, ◌≤◌, length}
-use Rattle.cfb_directory.specs.Entries.{NO_STREAM}
-use Rattle.cfb_directory.specs.SearchTree.{IsSearchTree, empty}
-use Rattle.cfb_directory.proofs.Trees.{tree_joined}
-use Rattle.cfb_directory.proofs.links.+link.Goals as goal
+use Rattle.directory_model.specs.Entries.{NO_STREAM}
+use Rattle.directory_model.specs.SearchTree.{IsSearchTree, empty}
+use Rattle.directory_model.proofs.Trees.{tree_joined}
+use Rattle.directory_writing.proofs.links.+link.Goals as goal
 
 pub returns-then-lo-hi-clause-tree : goal.returns-then-lo-hi-clause-tree
 returns-then-lo-hi-clause-tree t c =

@@ -2,10 +2,10 @@
 use Rattle.std.proofs.Common.{◌≡◌, ◌≤◌, ◌+◌, ◌*◌, ℕ, List, ◌++◌, length, take, drop, replicate, sym}
 use Rattle.std.specs.Prelude.{slice_set}
 use Rattle.std.specs.Int.{w16, w32, to_le_bytes}
-use Rattle.cfb_directory.specs.Entries.{kind_number}
-use Rattle.cfb_directory.specs.Written.{entry_bytes, name_bytes}
+use Rattle.directory_model.specs.Entries.{kind_number}
+use Rattle.directory_model.specs.Written.{entry_bytes, name_bytes}
 use Rattle.directory_model.specs.declared.entries.EntryFields.{EntryFields}
-use Rattle.cfb_directory.proofs.Fields.{head, spread, tail}
+use Rattle.directory_model.proofs.Fields.{head, spread, tail}
 
 -- bytes with a part written over them
 abbrev pub put : ℕ → List ℕ → List ℕ → List ℕ

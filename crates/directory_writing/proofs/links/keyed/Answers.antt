@@ -1,9 +1,9 @@
 use Rattle.std.proofs.Common.{◌≡◌, ◌+◌, ℕ, List, [], ◌∷◌, ◌++◌, length, take, get_or, ◌∙◌, ap, sym, arith}
 use Rattle.std.proofs.lemmas.List.{get_or_default, take_more, length-take-le}
-use Rattle.cfb_directory.specs.Building.{keyed_names}
+use Rattle.directory_writing.specs.Building.{keyed_names}
 use Rattle.cfb_names.specs.Names.{key}
-use Rattle.cfb_directory.proofs.Built.{keyed_from-push}
-use Rattle.cfb_directory.proofs.links.keyed.Goals as goal
+use Rattle.directory_writing.proofs.Built.{keyed_from-push}
+use Rattle.directory_writing.proofs.links.keyed.Goals as goal
 
 pub loop-k-preserved : goal.loop-k-preserved
 loop-k-preserved c =

@@ -1,7 +1,7 @@
 use Rattle.std.proofs.Common.{◌*◌, ◌∙◌, ap, get_or}
 use Rattle.std.specs.Prelude.{slice_set}
-use Rattle.cfb_directory.proofs.Named.{one_more}
-use Rattle.cfb_directory.proofs.write.write_name.Goals as goal
+use Rattle.directory_writing.proofs.Named.{one_more}
+use Rattle.directory_writing.proofs.write.write_name.Goals as goal
 
 pub loop-k-preserved : goal.loop-k-preserved
 loop-k-preserved c =

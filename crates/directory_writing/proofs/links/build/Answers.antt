@@ -4,11 +4,11 @@ use Rattle.std.specs.declared.cmp.Ordering.TheVariants.{Less}
 use Rattle.cfb_names.specs.Names.{name_cmp}
 use Rattle.std.specs.List.Sorted.{IsPermutation}
 use Rattle.std.proofs.lemmas.List.{take-append-le, take_all}
-use Rattle.cfb_directory.specs.SearchTree.{IsTree}
+use Rattle.directory_model.specs.SearchTree.{IsTree}
 use Rattle.cfb_bytes.specs.Marks.{AreDistinct}
-use Rattle.cfb_directory.specs.Building.{AllAdjacentApart, HasEqualNeighbours, keyed_names, places}
-use Rattle.cfb_directory.proofs.Built.{equal_refused, order_inside, order_once, order_permuted, order_sorted}
-use Rattle.cfb_directory.proofs.links.build.Goals as goal
+use Rattle.directory_writing.specs.Building.{AllAdjacentApart, HasEqualNeighbours, keyed_names, places}
+use Rattle.directory_writing.proofs.Built.{equal_refused, order_inside, order_once, order_permuted, order_sorted}
+use Rattle.directory_writing.proofs.links.build.Goals as goal
 
 pub returns-then-not-are_apart-clause-refused : goal.returns-then-not-are_apart-clause-refused
 returns-then-not-are_apart-clause-refused c =

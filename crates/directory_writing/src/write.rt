@@ -1,13 +1,12 @@
 //! Writing entries of the directory (MS-CFB 2.6.1, 2.6.3).
 
-ghost use Rattle.cfb_directory.specs.Entries.{kind_number};
-ghost use Rattle.cfb_directory.specs.Written.{entry_bytes, free_entry_bytes, name_bytes};
+ghost use Rattle.directory_model.specs.Entries.{kind_number};
+ghost use Rattle.directory_model.specs.Written.{entry_bytes, free_entry_bytes, name_bytes};
 ghost use Rattle.std.specs.Int.{to_le_bytes, w16, w32};
 ghost use Rattle.std.specs.Prelude.{◌+◌, ◌++◌, ◌≡◌, ◌≤◌, OnOk, drop, length, replicate, take};
 
-use crate::bytes::ENTRY_LEN;
-use crate::entries::EntryKind;
 pub use directory_model::entries::EntryFields;
+use directory_model::entries::{ENTRY_LEN, EntryKind};
 use std::alloc::AllocError;
 
 /// Writes a number into the two bytes at a place.

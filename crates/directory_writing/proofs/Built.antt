@@ -16,12 +16,12 @@ use Rattle.std.specs.Ordering.{is_lt, ordering_reverse, ordering_then}
 use Rattle.std.specs.declared.cmp.Ordering.{Ordering}
 use Rattle.std.specs.declared.cmp.Ordering.TheVariants.{Less, Equal, Greater}
 use Rattle.cfb_bytes.specs.Marks.{AreDistinct}
-use Rattle.cfb_directory.specs.Building.{AllAdjacentApart, HasEqualNeighbours, KeepsOthers, keyed_from, keyed_names, places}
+use Rattle.directory_writing.specs.Building.{AllAdjacentApart, HasEqualNeighbours, KeepsOthers, keyed_from, keyed_names, places}
 use Rattle.cfb_names.specs.Names.{key, key_cmp, name_cmp}
-use Rattle.cfb_directory.specs.SearchTree.{IsTree, nobody, somebody, MayRefuseBuild}
+use Rattle.directory_model.specs.SearchTree.{IsTree, nobody, somebody, MayRefuseBuild}
 use Rattle.cfb_names.specs.declared.fault.DirFault.TheVariants.{DuplicateName}
 use Rattle.cfb_names.proofs.Keys.{keys_agree, slice_cmp-same}
-use Rattle.cfb_directory.proofs.Marked.{distinct_apart, distinct_behind}
+use Rattle.directory_model.proofs.Marked.{distinct_apart, distinct_behind}
 
 -- names with their keys and places
 pub keyed_from-push : (at : ℕ) (names : List (List ℕ)) (name : List ℕ) → keyed_from at (names ++ name ∷ []) ≡ keyed_from at names ++ (key name, at + length names) ∷ []

@@ -1,10 +1,10 @@
 use Rattle.std.proofs.Common.{◌≡◌, ◌+◌, ◌*◌, ◌++◌, ℕ, List, arith, length, replicate, take, drop, sym, ◌∙◌, ap}
 use Rattle.std.specs.Prelude.{slice_set}
 use Rattle.std.specs.Int.{w16, w32, to_le_bytes}
-use Rattle.cfb_directory.specs.Entries.{kind_number}
+use Rattle.directory_model.specs.Entries.{kind_number}
 use Rattle.directory_model.specs.declared.entries.EntryFields.{EntryFields}
-use Rattle.cfb_directory.proofs.Placed.{numbers_placed, placed, put}
-use Rattle.cfb_directory.proofs.write.written.Goals as goal
+use Rattle.directory_writing.proofs.Placed.{numbers_placed, placed, put}
+use Rattle.directory_writing.proofs.write.written.Goals as goal
 
 -- the fields but for the class, written in turn
 in_turn : (len kind : ℕ) (e : EntryFields) (named left right child state first size : List ℕ)

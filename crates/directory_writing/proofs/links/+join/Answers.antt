@@ -2,9 +2,9 @@ use Rattle.std.proofs.Common.{◌≡◌, ◌≢◌, true, false, ◌+◌, ◌-�
 use Rattle.std.proofs.lemmas.Bool.{eq-eqb, eqb-true}
 use Rattle.std.proofs.lemmas.List.{length-take-le, nil_from_length, take-append-drop, take_all}
 use Rattle.cfb_bytes.specs.Marks.{AreDistinct}
-use Rattle.cfb_directory.specs.SearchTree.{IsTree, nobody}
-use Rattle.cfb_directory.proofs.Built.{kept_around, tree_around}
-use Rattle.cfb_directory.proofs.links.+join.Goals as goal
+use Rattle.directory_model.specs.SearchTree.{IsTree, nobody}
+use Rattle.directory_writing.proofs.Built.{kept_around, tree_around}
+use Rattle.directory_writing.proofs.links.+join.Goals as goal
 
 pub returns-then-is_empty-clause-tree : goal.returns-then-is_empty-clause-tree
 returns-then-is_empty-clause-tree t c =

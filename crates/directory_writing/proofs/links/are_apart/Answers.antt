@@ -2,7 +2,7 @@ use Rattle.std.proofs.Common.{◌≡◌, ◌<◌, ◌+◌, ◌-◌, ℕ, List, [
 use Rattle.std.proofs.lemmas.Bool.{cases_lt}
 use Rattle.std.proofs.lemmas.List.{get_or_default}
 use Rattle.std.specs.Cmp.Lexicographic.{bytes_decides}
-use Rattle.cfb_directory.proofs.links.are_apart.Goals as goal
+use Rattle.directory_writing.proofs.links.are_apart.Goals as goal
 
 pub returns-then-eq-clause-equal : goal.returns-then-eq-clause-equal
 returns-then-eq-clause-equal c = λ _.

@@ -1,16 +1,16 @@
 //! Trees of siblings (MS-CFB 2.6.4).
 
 ghost use Rattle.cfb_bytes.specs.Marks.{AreDistinct};
-ghost use Rattle.cfb_directory.specs.Building.{AllAdjacentApart, HasEqualNeighbours, KeepsOthers, keyed_names, places};
-ghost use Rattle.cfb_directory.specs.SearchTree.{AreKept, IsBuilt, IsSearchTree, IsTree, MayRefuseBuild};
+ghost use Rattle.directory_writing.specs.Building.{AllAdjacentApart, HasEqualNeighbours, KeepsOthers, keyed_names, places};
+ghost use Rattle.directory_model.specs.SearchTree.{AreKept, IsBuilt, IsSearchTree, IsTree, MayRefuseBuild};
 ghost use Rattle.cfb_names.specs.declared.fault.DirFault.TheVariants.{NoMemory};
 ghost use Rattle.std.specs.List.{All};
 ghost use Rattle.std.specs.Prelude.{◌≡◌, ◌<◌, ◌≤◌, IfErr, IfOk, false, length, true};
 
-use crate::entries::NO_STREAM;
 use cfb_names::fault::DirFault;
 use cfb_names::key::Key;
 use cfb_names::name::{Name, key};
+use directory_model::entries::NO_STREAM;
 pub use directory_model::links::Links;
 use std::alloc::{AllocError, Global};
 
