@@ -163,7 +163,7 @@ fn rename(rt: &impl Abort, alloc: Global, tree: &mut Tree, at: &str, new: &str) 
 
 /// Whether the stream at a path of a storage has these bytes.
 fn get(rt: &impl Abort, alloc: Global, root: &Storage, at: &str, text: &str) -> &'static str {
-    match root.get(&path(rt, alloc, at)) {
+    match storage_tree::storage::get(root, &path(rt, alloc, at)) {
         Ok(Found::Stream(bytes)) => whether(bytes.as_slice() == filled(text).as_bytes()),
         Ok(Found::Storage(_)) => "otherwise",
         Err(fault) => fault.name(),

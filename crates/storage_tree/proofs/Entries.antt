@@ -18,7 +18,7 @@ use Rattle.std.specs.Map.{lookup, set_value, remove_entry}
 use Rattle.std.specs.BTreeMap.{insert_entry, is_at}
 use Rattle.std.specs.Ordering.{is_eq, match_ordering, ordering_reverse}
 use Rattle.std.specs.declared.cmp.Ordering.TheVariants.{Less, Equal, Greater}
-use Rattle.storage_tree.specs.Tree.{Tree, Children, none, tree}
+use Rattle.storage_tree.specs.Tree.{Children, none, tree}
 use Rattle.storage_tree.specs.Change.{child, Seen, bytes, inner, find, place, without, map_ok, on_ok, found, change, putting, put_seen, adding, making, removing, look, Outcome}
 use Rattle.cfb_names.specs.Names.{key, key_cmp, key_eq}
 use Rattle.storage_tree.specs.View.{seen, shown, children}

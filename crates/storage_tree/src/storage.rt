@@ -126,7 +126,12 @@ fn copy_node(node: &Node, alloc: Global) -> Result<Node, AllocError>
 
 /// Changes what stands at a path.
 #[cycle(edits)]
-pub(crate) fn edit(storage: &mut Storage, alloc: Global, path: &[Name], edit: Edit) -> Result<(), TreeFault>
+pub(crate) fn edit_at(
+    storage: &mut Storage,
+    alloc: Global,
+    path: &[Name],
+    edit: Edit,
+) -> Result<(), TreeFault>
     ensures change { Changes result edit path.now (inner (view storage.old)) (inner (view storage.new)) }
     ensures names { OnOk result (LeavesNames edit path.now) }
     ensures no_memory { edit ≡ Edit.Remove → result ≢ Err NoMemory }
@@ -142,7 +147,12 @@ pub(crate) fn edit(storage: &mut Storage, alloc: Global, path: &[Name], edit: Ed
 }
 
 /// Changes what stands under a name.
-fn edit_child(storage: &mut Storage, alloc: Global, name: &Name, edit: Edit) -> Result<(), TreeFault>
+fn edit_child(
+    storage: &mut Storage,
+    alloc: Global,
+    name: &Name,
+    edit: Edit,
+) -> Result<(), TreeFault>
     ensures names { IsNewName edit name.now }
     ensures no_memory { edit ≡ Edit.Remove → result ≢ Err NoMemory }
     ensures change { Changes result edit (name.now ∷ []) (inner (view storage.old)) (inner (view storage.new)) }
@@ -231,7 +241,12 @@ fn make_child(
     }
 }
 
-fn rename_child(storage: &mut Storage, alloc: Global, name: &Name, new: Name) -> Result<(), TreeFault>
+fn rename_child(
+    storage: &mut Storage,
+    alloc: Global,
+    name: &Name,
+    new: Name,
+) -> Result<(), TreeFault>
     ensures names { IsName new }
     ensures change { Changes result (Edit.Rename new) (name.now ∷ []) (inner (view storage.old)) (inner (view storage.new)) }
 {
@@ -295,7 +310,7 @@ fn edit_below(node: &mut Node, alloc: Global, path: &[Name], edit: Edit) -> Resu
 {
     match node {
         Node::Stream(_) => Err(TreeFault::WrongKind),
-        Node::Storage(inner) => crate::storage::edit(inner, alloc, path, edit),
+        Node::Storage(inner) => edit_at(inner, alloc, path, edit),
     }
 }
 
