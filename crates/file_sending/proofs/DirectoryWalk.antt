@@ -1,12 +1,12 @@
 -- A walk over the children of a storage, whose entries are sent.
 use Rattle.std.proofs.Common.{◌≡◌, ◌≤◌, ◌+◌, ◌*◌, ℕ, length, length-append, List, ◌∷◌, refl, sym, ◌∙◌, ap, subst, arith, ◌++◌, append_assoc}
-use Rattle.storage_tree.specs.Tree.{Children}
-use Rattle.storage_tree.specs.Change.{Seen, bytes, inner, child}
-use Rattle.storage_tree.specs.View.{children, seen, view}
-use Rattle.storage_tree.specs.declared.storage.Node.{Node}
-use Rattle.storage_tree.specs.declared.storage.Node.TheVariants as variant
-use Rattle.storage_tree.specs.declared.storage.Storage.{Storage}
-use Rattle.storage_tree.proofs.Entries.{seen-storage, seen-stream}
+use Rattle.storage_nodes.specs.Tree.{Children}
+use Rattle.storage_nodes.specs.Child.{Seen, bytes, inner, child}
+use Rattle.storage_nodes.specs.View.{children, seen, view}
+use Rattle.storage_nodes.specs.declared.storage.Node.{Node}
+use Rattle.storage_nodes.specs.declared.storage.Node.TheVariants as variant
+use Rattle.storage_nodes.specs.declared.storage.Storage.{Storage}
+use Rattle.storage_nodes.proofs.Views.{seen-storage, seen-stream}
 use Rattle.file_model.specs.Need.{entries, entries_of}
 use Rattle.file_layout.specs.Directory.{class_in, entries_with}
 use Rattle.directory_model.specs.Written.{entry_bytes}
