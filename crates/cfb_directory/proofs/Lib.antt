@@ -1,6 +1,4 @@
 pub use Rattle.directory_model.proofs.Fields
-pub mod Named
-pub mod Placed
 pub mod Numbers
 pub use Rattle.directory_model.proofs.Linked
 pub use Rattle.directory_model.proofs.Marks
@@ -9,5 +7,4 @@ pub use Rattle.directory_model.proofs.Reading
 pub mod Kept
 pub use Rattle.directory_model.proofs.Marked
 pub use Rattle.directory_model.proofs.Trees
-pub mod Built
 pub use Rattle.directory_model.proofs.Inside

@@ -5,9 +5,7 @@ ghost use Rattle.cfb_bytes.specs.Bytes.{u32_at};
 ghost use Rattle.std.specs.Prelude.{◌≡◌, ◌≤◌, ◌<◌, ◌+◌, ◌-◌, ◌*◌, ◌++◌, length, replicate, IfSome};
 
 use cfb_bytes::numbers::read_u32;
-
-/// How many bytes an entry has.
-pub const ENTRY_LEN: usize = 128;
+use directory_model::entries::ENTRY_LEN;
 
 /// The bytes, with zeros behind them.
 fn padded(part: &[u8]) -> [u8; 128]

@@ -14,12 +14,9 @@ use crate::held::Directory;
 use cfb_bytes::numbers::{read_u16, read_u32};
 use cfb_names::fault::DirFault;
 use cfb_names::name::{Name, is_forbidden};
-pub use directory_model::entries::{Entry, EntryKind};
+pub use directory_model::entries::{Entry, EntryKind, NO_STREAM};
 use std::alloc::Global;
 use std::marker::Model;
-
-/// The value of a link to nobody.
-pub const NO_STREAM: u32 = 0xffff_ffff;
 
 /// The entries of a directory, of which some are marked.
 #[derive(Drop)]

@@ -5,7 +5,8 @@ ghost use Rattle.cfb_directory.specs.Entries.{entry_at};
 ghost use Rattle.cfb_directory.specs.Held.{held};
 ghost use Rattle.std.specs.Prelude.{◌*◌, ◌+◌, ◌/◌, ◌<◌, ◌≡◌, ◌≤◌, IfSome, false, length, true};
 
-use crate::bytes::{ENTRY_LEN, entry_bytes, entry_u32, whole_entry};
+use crate::bytes::{entry_bytes, entry_u32, whole_entry};
+use directory_model::entries::ENTRY_LEN;
 use packed_entries::packed::PackedEntries;
 
 /// The bytes of a directory.

@@ -2,6 +2,12 @@
 
 use cfb_names::name::Name;
 
+/// How many bytes an entry has.
+pub const ENTRY_LEN: usize = 128;
+
+/// The value of a link to nobody.
+pub const NO_STREAM: u32 = 0xffff_ffff;
+
 /// What an entry is.
 #[derive(Clone, Copy, PartialEq, Eq)]
 pub enum EntryKind {

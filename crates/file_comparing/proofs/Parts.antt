@@ -4,8 +4,8 @@ use Rattle.cfb_names.specs.Names.{key}
 use Rattle.storage_tree.specs.Tree.{Children, none, tree}
 use Rattle.storage_tree.specs.Change.{Seen, bytes, inner, child}
 use Rattle.storage_tree.specs.View.{children, seen, view}
-use Rattle.storage_tree.specs.declared.storage.Node.{Node}
-use Rattle.storage_tree.specs.declared.storage.Storage.{Storage}
+use Rattle.storage_nodes.specs.declared.storage.Node.{Node}
+use Rattle.storage_nodes.specs.declared.storage.Storage.{Storage}
 use Rattle.storage_tree.proofs.Entries.{view-out}
 use Rattle.file_model.specs.Outline as model
 use Rattle.file_model.specs.Outline.{Parts, outline, outline_of, outlines_of, nested, part, part_of, sized}

@@ -4,8 +4,8 @@ use Rattle.std.proofs.lemmas.List.{append-nil}
 use Rattle.storage_tree.specs.Tree.{Children}
 use Rattle.storage_tree.specs.Change.{Seen, bytes, child, inner}
 use Rattle.storage_tree.specs.View.{children, seen, shown, view}
-use Rattle.storage_tree.specs.declared.storage.Node.{Node}
-use Rattle.storage_tree.specs.declared.storage.Storage.{Storage}
+use Rattle.storage_nodes.specs.declared.storage.Node.{Node}
+use Rattle.storage_nodes.specs.declared.storage.Storage.{Storage}
 use Rattle.storage_tree.proofs.Entries.{view-out}
 use Rattle.file_folders.specs.Plan.{below_plan, child_plan, folder, folder_plan}
 use Rattle.file_folders.specs.declared.plan.Entry.{Entry}

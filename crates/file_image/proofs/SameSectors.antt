@@ -10,7 +10,7 @@ use Rattle.cfb_chain.specs.Chain.{AreDistinct, IsChain, IsChainOf, IsPresent, St
 use Rattle.cfb_chain.specs.Fat.{IsFat, mini_sectors_of, sectors_in, sectors_of}
 use Rattle.cfb_chain.proofs.Chains.{chain_below}
 use Rattle.cfb_names.specs.Names.{key, key_cmp}
-use Rattle.cfb_directory.specs.Entries.{AreLinked, IsNamed, child, class_of, entry_at, first_of, kind, name_of, size_of, state_of}
+use Rattle.directory_model.specs.Entries.{AreLinked, IsNamed, child, class_of, entry_at, first_of, kind, name_of, size_of, state_of}
 use Rattle.storage_tree.specs.Tree.{Tree, Children, tree, none, stream, storage}
 use Rattle.file_model.specs.Alike.{AgreeOn}
 use Rattle.file_model.specs.Limits.{CUTOFF}

@@ -17,7 +17,7 @@ use Rattle.storage_tree.specs.Change.{Seen, bytes, inner, child}
 use Rattle.storage_tree.specs.Tree.{Children, none, stream, storage, keys}
 use Rattle.storage_tree.specs.View.{children, seen, shown}
 use Rattle.storage_tree.specs.Whole.{AreAbove, AreTrees}
-use Rattle.storage_tree.specs.declared.storage.Node.{Node}
+use Rattle.storage_nodes.specs.declared.storage.Node.{Node}
 use Rattle.file_outline.proofs.Followed.{followed}
 use Rattle.file_outline.proofs.Outlines.{followed-front}
 

@@ -2,9 +2,9 @@
 
 use crate::runs::{Run, sectors_of};
 use crate::tables::{entry_at, first_of};
-use cfb_directory::entries::{EntryKind, NO_STREAM};
-use cfb_directory::links::{Links, balanced};
-use cfb_directory::write::{EntryFields, write_entry, write_free_entry};
+use directory_model::entries::{EntryKind, NO_STREAM};
+use directory_writing::links::{Links, balanced};
+use directory_writing::write::{EntryFields, write_entry, write_free_entry};
 use cfb_names::name::Name;
 use file_model::limit::CUTOFF;
 use std::alloc::{AllocError, Global};

@@ -1,12 +1,12 @@
 -- A step of pushing the entries of siblings.
 use Rattle.std.proofs.Common.{◌≡◌, ◌+◌, ℕ, List, [], ◌∷◌, ◌++◌, length, sym, ◌∙◌, ap, subst, arith, append_assoc, ◌<◌, ◌^◌}
-use Rattle.storage_tree.specs.Tree.{Tree, Children, tree}
-use Rattle.storage_tree.specs.Change.{Seen, bytes, inner, child}
-use Rattle.storage_tree.specs.View.{view, seen, children}
-use Rattle.storage_tree.specs.declared.storage.Node.{Node}
-use Rattle.storage_tree.specs.declared.storage.Node.TheVariants as variant
-use Rattle.storage_tree.specs.declared.storage.Storage.{Storage}
-use Rattle.storage_tree.proofs.Entries.{seen-storage, view-out}
+use Rattle.storage_nodes.specs.Tree.{Tree, Children, tree}
+use Rattle.storage_nodes.specs.Child.{Seen, bytes, inner, child}
+use Rattle.storage_nodes.specs.View.{view, seen, children}
+use Rattle.storage_nodes.specs.declared.storage.Node.{Node}
+use Rattle.storage_nodes.specs.declared.storage.Node.TheVariants as variant
+use Rattle.storage_nodes.specs.declared.storage.Storage.{Storage}
+use Rattle.storage_nodes.proofs.Views.{seen-storage, view-out}
 use Rattle.file_model.specs.Need.{entries_of, over_streams_of, short_pieces, long_pieces}
 use Rattle.file_layout.specs.Directory.{IsSpelled, AreSpelled, children_in, class_in, entries_with, ids_from, state_in}
 use Rattle.file_parts.specs.Streams.{minis_with, sectors_with}

@@ -1,6 +1,6 @@
 -- The links of siblings as the writer keeps them are the balanced ones.
 use Rattle.std.proofs.Common.{◌≡◌, ◌<◌, ℕ, List, slice_index, arith}
-use Rattle.cfb_directory.specs.SearchTree.{IsSearchTree}
+use Rattle.directory_model.specs.SearchTree.{IsSearchTree}
 use Rattle.file_layout.specs.Directory.{balanced}
 use Rattle.file_layout.specs.Directory.{IsLink}
 use Rattle.file_layout.proofs.ContentsIds.{top-link, links-at}

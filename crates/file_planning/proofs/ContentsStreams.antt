@@ -2,10 +2,10 @@
 use Rattle.std.proofs.Common.{◌≡◌, ◌+◌, ℕ, Bool, true, false, List, [], ◌∷◌, ◌++◌, length, if◌then◌else◌, nat_lt, refl, sym, ◌∙◌, ap, append_assoc, arith}
 use Rattle.std.specs.List.{sum}
 use Rattle.std.proofs.lemmas.List.{map-append}
-use Rattle.storage_tree.specs.Tree.{Children}
-use Rattle.storage_tree.specs.Change.{Seen, bytes, inner, child}
-use Rattle.storage_tree.specs.View.{seen, children}
-use Rattle.storage_tree.specs.declared.storage.Node.{Node}
+use Rattle.storage_nodes.specs.Tree.{Children}
+use Rattle.storage_nodes.specs.Child.{Seen, bytes, inner, child}
+use Rattle.storage_nodes.specs.View.{seen, children}
+use Rattle.storage_nodes.specs.declared.storage.Node.{Node}
 use Rattle.file_model.specs.Limits.{CUTOFF}
 use Rattle.file_layout.specs.Image.{pieces_of, run, runs}
 use Rattle.file_layout.proofs.ContentsNext.{longs-sum, shorts-sum}

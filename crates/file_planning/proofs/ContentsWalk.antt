@@ -1,9 +1,9 @@
 -- A walk over the children of a storage, of which each has an id and leads somewhere.
 use Rattle.std.proofs.Common.{◌≡◌, ◌≤◌, ◌<◌, ◌+◌, ℕ, min, List, [], ◌∷◌, refl, sym, ◌∙◌, ap, arith, ◌++◌, append_assoc}
-use Rattle.storage_tree.specs.Tree.{Tree, Children, tree}
-use Rattle.storage_tree.specs.Change.{Seen, bytes, inner, child}
-use Rattle.storage_tree.specs.View.{children, seen}
-use Rattle.storage_tree.specs.declared.storage.Node.{Node}
+use Rattle.storage_nodes.specs.Tree.{Tree, Children, tree}
+use Rattle.storage_nodes.specs.Child.{Seen, bytes, inner, child}
+use Rattle.storage_nodes.specs.View.{children, seen}
+use Rattle.storage_nodes.specs.declared.storage.Node.{Node}
 use Rattle.file_model.specs.Need.{entries, entries_of, over_streams_of, short_pieces, long_pieces, mini_sectors, long_sectors}
 use Rattle.file_layout.specs.Directory.{children_in, entries_with, ids_from}
 use Rattle.file_parts.specs.Leads.{each_lead, leads_below, storage_leads}

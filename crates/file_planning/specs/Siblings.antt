@@ -1,8 +1,8 @@
 -- The entries of siblings as the writer keeps them.
 use Rattle.std.specs.Prelude.{◌≡◌, ◌<◌, ◌^◌, ◌+◌, ℕ, length, if◌then◌else◌, nat_lt}
-use Rattle.cfb_directory.specs.SearchTree.{IsSearchTree}
-use Rattle.storage_tree.specs.Tree.{Children}
-use Rattle.storage_tree.specs.Change.{Seen, bytes, inner}
+use Rattle.directory_model.specs.SearchTree.{IsSearchTree}
+use Rattle.storage_nodes.specs.Tree.{Children}
+use Rattle.storage_nodes.specs.Child.{Seen, bytes, inner}
 use Rattle.file_model.specs.Limits.{CUTOFF}
 use Rattle.file_model.specs.Need.{entries_of, over_streams_of, short_pieces, long_pieces, pieces}
 use Rattle.file_parts.specs.Streams.{minis_with, sectors_with}

@@ -1,7 +1,7 @@
 -- Where the entries of children lead, in the order in which the writer meets them.
 use Rattle.std.specs.Prelude.{◌∷◌, [], ℕ, List, length}
-use Rattle.storage_tree.specs.Tree.{Children}
-use Rattle.storage_tree.specs.Change.{Seen, bytes, inner}
+use Rattle.storage_nodes.specs.Tree.{Children}
+use Rattle.storage_nodes.specs.Child.{Seen, bytes, inner}
 use Rattle.file_parts.specs.Leads.{each_lead, leads_below, storage_leads, stream_leads}
 use Rattle.file_parts.specs.declared.leads.Lead.{Lead}
 use Rattle.file_planning.specs.declared.entries.Cursor.{Cursor}

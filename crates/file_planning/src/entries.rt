@@ -2,7 +2,7 @@
 
 ghost use Rattle.std.specs.Prelude.{◌≡◌, ◌<◌, ◌+◌, ◌^◌, ◌++◌, ℕ, IfOk, OnOk, length};
 ghost use Rattle.std.specs.Vec.{vec_len};
-ghost use Rattle.storage_tree.specs.View.{seen, view};
+ghost use Rattle.storage_nodes.specs.View.{seen, view};
 ghost use Rattle.file_model.specs.Need.{entries, long_sectors};
 ghost use Rattle.file_model.specs.declared.limit.TheConstants.{MANY};
 ghost use Rattle.file_parts.specs.Counted.{AreCounts};
@@ -11,19 +11,19 @@ ghost use Rattle.file_parts.specs.Leads.{IsDirectory, storage_leads, stream_lead
 ghost use Rattle.file_planning.specs.Walked.{child_leads, sibling_leads};
 ghost use Rattle.file_layout.specs.Image.{pieces_of, runs};
 ghost use Rattle.file_parts.specs.Streams.{long_within, short_within};
-ghost use Rattle.storage_tree.specs.Change.{bytes as content};
+ghost use Rattle.storage_nodes.specs.Child.{bytes as content};
 ghost use Rattle.file_layout.specs.Directory.{AreSpelled, balanced as balanced_links, children_in, first_of_stream, ids_from, long_start, long_streams, root_says, short_streams};
 
 use crate::needs::needs_with;
-use cfb_directory::entries::{EntryKind, NO_STREAM};
-use cfb_directory::links::{Links, balanced};
-use cfb_directory::write::EntryFields;
+use directory_model::entries::{EntryKind, NO_STREAM};
+use directory_writing::links::{Links, balanced};
+use directory_writing::write::EntryFields;
 use file_parts::counts::{Counts, chain_start};
 use file_parts::leads::{Directory, Lead, class_bytes, state_bits};
 use file_parts::streams::{is_short, mini_count, sector_count};
 use file_parts::tables::{Tables, push_run};
 use std::alloc::{AllocError, Global};
-use storage_tree::storage::{Node, Storage};
+use storage_nodes::storage::{Node, Storage};
 
 /// The ids of a storage's children, of which the first has this one.
 fn child_ids(alloc: Global, storage: &Storage, first: u32) -> Result<Vec<u32>, AllocError>

@@ -1,7 +1,7 @@
 //! What stands before the streams in the file of a tree: its header, its tables and its directory.
 
 ghost use Rattle.std.specs.Prelude.{◌≡◌, IfOk};
-ghost use Rattle.storage_tree.specs.View.{view};
+ghost use Rattle.storage_nodes.specs.View.{view};
 ghost use Rattle.file_parts.specs.Counted.{AreEnough};
 ghost use Rattle.file_parts.specs.Filled.{fat_numbers, mini_numbers};
 ghost use Rattle.file_parts.specs.Front.{IsFront};
@@ -14,7 +14,7 @@ use file_parts::leads::Directory;
 use file_parts::pieces::ROOM;
 use file_parts::tables::{Tables, fill_table, tables_for};
 use std::alloc::{AllocError, Global};
-use storage_tree::storage::Storage;
+use storage_nodes::storage::Storage;
 
 /// The tables of the file of a tree with these counts, and its directory, of one walk over the tree.
 fn parts_for(

@@ -1,7 +1,7 @@
 //! The room that a tree needs in its file, counted in one walk.
 
 ghost use Rattle.std.specs.Prelude.{◌≡◌, if◌then◌else◌, Err, IfErr, IfOk, Ok, OnOk, min, nat_lt};
-ghost use Rattle.storage_tree.specs.View.{seen, view};
+ghost use Rattle.storage_nodes.specs.View.{seen, view};
 ghost use Rattle.file_layout.specs.Directory.{entries_with};
 ghost use Rattle.file_model.specs.Need.{entries, long_sectors, mini_sectors, pieces};
 ghost use Rattle.file_model.specs.declared.limit.TheConstants.{CUTOFF, MANY};
@@ -14,7 +14,7 @@ use file_model::limit::{MANY, MOST_FAT_SECTORS};
 use file_model::need::fat_sectors;
 use file_parts::counts::Counts;
 use file_parts::streams::{is_short, mini_count, sector_count};
-use storage_tree::storage::{Node, Storage};
+use storage_nodes::storage::{Node, Storage};
 
 /// What a part of a tree needs, each sort of room counted up to the bound: entries, mini sectors and sectors of long streams.
 #[derive(Clone, Copy)]

@@ -1,17 +1,17 @@
 -- A walk over the children of a storage, whose entries are sent.
 use Rattle.std.proofs.Common.{◌≡◌, ◌≤◌, ◌+◌, ◌*◌, ℕ, length, length-append, List, ◌∷◌, refl, sym, ◌∙◌, ap, subst, arith, ◌++◌, append_assoc}
-use Rattle.storage_tree.specs.Tree.{Children}
-use Rattle.storage_tree.specs.Change.{Seen, bytes, inner, child}
-use Rattle.storage_tree.specs.View.{children, seen, view}
-use Rattle.storage_tree.specs.declared.storage.Node.{Node}
-use Rattle.storage_tree.specs.declared.storage.Node.TheVariants as variant
-use Rattle.storage_tree.specs.declared.storage.Storage.{Storage}
-use Rattle.storage_tree.proofs.Entries.{seen-storage, seen-stream}
+use Rattle.storage_nodes.specs.Tree.{Children}
+use Rattle.storage_nodes.specs.Child.{Seen, bytes, inner, child}
+use Rattle.storage_nodes.specs.View.{children, seen, view}
+use Rattle.storage_nodes.specs.declared.storage.Node.{Node}
+use Rattle.storage_nodes.specs.declared.storage.Node.TheVariants as variant
+use Rattle.storage_nodes.specs.declared.storage.Storage.{Storage}
+use Rattle.storage_nodes.proofs.Views.{seen-storage, seen-stream}
 use Rattle.file_model.specs.Need.{entries, entries_of}
 use Rattle.file_layout.specs.Directory.{class_in, entries_with}
-use Rattle.cfb_directory.specs.Written.{entry_bytes}
+use Rattle.directory_model.specs.Written.{entry_bytes}
 use Rattle.directory_model.specs.declared.entries.EntryFields.{EntryFields}
-use Rattle.cfb_directory.proofs.Fields.{length-entry_bytes}
+use Rattle.directory_model.proofs.Fields.{length-entry_bytes}
 use Rattle.file_parts.specs.Leads.{child_led, each_led, lead_in, led_below, storage_led, stream_led}
 use Rattle.file_parts.specs.declared.leads.Lead.{Lead}
 use Rattle.file_parts.proofs.Children.{entries-child}

@@ -1,10 +1,10 @@
 -- A step of a walk over the streams of a storage, which are sent.
 use Rattle.std.proofs.Common.{◌≡◌, ℕ, List, ◌∷◌, ◌++◌, refl, sym, ◌∙◌, ap, append_assoc}
 use Rattle.std.proofs.lemmas.List.Concat.{flat_map-append}
-use Rattle.storage_tree.specs.Tree.{Children}
-use Rattle.storage_tree.specs.Change.{Seen, child}
-use Rattle.storage_tree.specs.View.{seen, children}
-use Rattle.storage_tree.specs.declared.storage.Node.{Node}
+use Rattle.storage_nodes.specs.Tree.{Children}
+use Rattle.storage_nodes.specs.Child.{Seen, child}
+use Rattle.storage_nodes.specs.View.{seen, children}
+use Rattle.storage_nodes.specs.declared.storage.Node.{Node}
 use Rattle.file_layout.specs.Image.{padded, whole_pieces}
 use Rattle.file_layout.specs.Directory.{short_streams_of, long_streams_of}
 use Rattle.file_parts.specs.Streams.{long_within, short_within}

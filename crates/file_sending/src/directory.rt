@@ -7,16 +7,16 @@ ghost use Rattle.file_parts.specs.Counted.{AreCounts};
 ghost use Rattle.file_parts.specs.Leads.{IsDirectory, child_led, lead_in, led_below, storage_led, stream_led};
 ghost use Rattle.file_parts.specs.Sends.{Sends};
 ghost use Rattle.std.specs.Prelude.{◌+◌, ◌*◌, ◌<◌, ◌≡◌, IfOk, OnOk, length};
-ghost use Rattle.storage_tree.specs.View.{seen, view};
+ghost use Rattle.storage_nodes.specs.View.{seen, view};
 
 use crate::entries::{send_entry, send_unused};
-use cfb_directory::entries::{EntryKind, NO_STREAM};
-use cfb_directory::write::EntryFields;
+use directory_model::entries::{EntryKind, NO_STREAM};
+use directory_writing::write::EntryFields;
 use cfb_names::name::Name;
 use file_parts::counts::Counts;
 use file_parts::leads::{Directory, Lead, class_bytes, state_bits};
 use std::io::{self, Write};
-use storage_tree::storage::{Node, Storage};
+use storage_nodes::storage::{Node, Storage};
 
 /// The lead at a place.
 fn lead_at(leads: &[Lead], at: usize) -> Lead

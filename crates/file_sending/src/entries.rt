@@ -1,11 +1,11 @@
 //! Entries of the directory on their way to a writer.
 
-ghost use Rattle.cfb_directory.specs.Written.{entry_bytes, free_entry_bytes};
+ghost use Rattle.directory_model.specs.Written.{entry_bytes, free_entry_bytes};
 ghost use Rattle.file_parts.specs.Sends.{Sends};
 ghost use Rattle.std.specs.List.{concat};
 ghost use Rattle.std.specs.Prelude.{◌≡◌, ◌≤◌, OnOk, length, replicate};
 
-use cfb_directory::write::{EntryFields, write_entry, write_free_entry};
+use directory_writing::write::{EntryFields, write_entry, write_free_entry};
 use file_parts::leads::class_bytes;
 use file_parts::pieces::make_room;
 use std::io::{self, Write};

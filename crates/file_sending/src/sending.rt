@@ -9,7 +9,7 @@ ghost use Rattle.file_model.specs.Need.{data_sectors, long_sectors, mini_sectors
 ghost use Rattle.file_parts.specs.Streams.{long_within, short_within};
 ghost use Rattle.std.specs.Io.KnownBytes.{Appends};
 ghost use Rattle.std.specs.Prelude.{◌*◌, ◌+◌, ◌≡◌, OnOk, length};
-ghost use Rattle.storage_tree.specs.View.{seen, view};
+ghost use Rattle.storage_nodes.specs.View.{seen, view};
 
 use crate::directory::send_directory;
 use file_parts::counts::Counts;
@@ -17,7 +17,7 @@ use file_parts::front::Front;
 use file_parts::pieces::{finish, send, send_numbers, send_zeros};
 use file_parts::streams::{is_short, mini_zeros, sector_zeros};
 use std::io::{self, Write};
-use storage_tree::storage::{Node, Storage};
+use storage_nodes::storage::{Node, Storage};
 
 /// Sends the bytes of a stream, with zeros up to whole mini sectors.
 fn send_minis<W: Write>(writer: &mut W, waiting: &mut Vec<u8>, bytes: &[u8]) -> io::Result<()>

@@ -2,8 +2,8 @@
 
 use crate::texts::{are_all, are_numbers, are_spelled, number, word};
 use cfb_directory::entries::{Entries, EntryKind, NO_STREAM};
-use cfb_directory::links::{Links, balanced, build};
-use cfb_directory::write::{EntryFields, write_entry, write_free_entry};
+use directory_writing::links::{Links, balanced, build};
+use directory_writing::write::{EntryFields, write_entry, write_free_entry};
 use cfb_names::fault::DirFault;
 use cfb_names::name::{LONGEST, Name, key, keys_agree, named};
 use std::alloc::{AllocError, Global};

@@ -5,7 +5,7 @@ use cfb_names::name::{Name, named};
 use std::alloc::Global;
 use std::process::Abort;
 use storage_tree::fault::TreeFault;
-use storage_tree::storage::{Found, Storage};
+use storage_tree::storage::{Found, Storage, copy, names};
 use storage_tree::tree::Tree;
 use stored_values::bytes::Bytes;
 use stored_values::class_id::ClassId;
@@ -163,7 +163,7 @@ fn rename(rt: &impl Abort, alloc: Global, tree: &mut Tree, at: &str, new: &str) 
 
 /// Whether the stream at a path of a storage has these bytes.
 fn get(rt: &impl Abort, alloc: Global, root: &Storage, at: &str, text: &str) -> &'static str {
-    match root.get(&path(rt, alloc, at)) {
+    match storage_tree::storage::get(root, &path(rt, alloc, at)) {
         Ok(Found::Stream(bytes)) => whether(bytes.as_slice() == filled(text).as_bytes()),
         Ok(Found::Storage(_)) => "otherwise",
         Err(fault) => fault.name(),
@@ -185,7 +185,7 @@ fn has(storage: &Storage, with: u8) -> bool {
 
 /// Whether the root's only child is spelled so.
 fn is_named(rt: &impl Abort, alloc: Global, tree: &Tree, text: &str) -> bool {
-    let names = tree.root().names(alloc).expect(rt, "memory");
+    let names = names(tree.root(), alloc).expect(rt, "memory");
     match names.as_slice() {
         [name] => name.as_bytes() == text.as_bytes(),
         _ => false,
@@ -194,7 +194,7 @@ fn is_named(rt: &impl Abort, alloc: Global, tree: &Tree, text: &str) -> bool {
 
 /// Whether a copy of the root, taken before its storage `D` goes, has these bytes.
 fn copied(rt: &impl Abort, alloc: Global, tree: &mut Tree, at: &str, text: &str) -> &'static str {
-    let copy = tree.root().copy(alloc).expect(rt, "memory");
+    let copy = copy(tree.root(), alloc).expect(rt, "memory");
     let _ = remove(rt, alloc, tree, "D");
     if copy.class != tree.root().class || copy.state != tree.root().state {
         return "otherwise";

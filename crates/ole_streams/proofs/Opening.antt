@@ -7,7 +7,7 @@ use Rattle.object_parts.specs.declared.area.Area.{Area}
 use Rattle.storage_tree.specs.Tree.{Children}
 use Rattle.storage_tree.specs.Change.{Seen, bytes, inner, child, without}
 use Rattle.storage_tree.specs.View.{children, shown}
-use Rattle.storage_tree.specs.declared.storage.Node.{Node}
+use Rattle.storage_nodes.specs.declared.storage.Node.{Node}
 use Rattle.document_model.specs.DocOf.{object_pushed, objects_behind}
 use Rattle.document_model.specs.DocTree.{object_name}
 use Rattle.ole_parts.specs.Fields.{on_ok}

@@ -15,19 +15,15 @@ use Rattle.storage_tree.specs.declared.storage.Edit.TheVariants.{Put, Add, Make,
 use Rattle.storage_tree.specs.declared.fault.TreeFault.TheVariants.{NotFound, Exists, WrongKind, NoTransaction, TooDeep, NoMemory}
 use Rattle.std.specs.Option.{option_map}
 use Rattle.std.specs.Map.{lookup, set_value, remove_entry}
-use Rattle.std.specs.BTreeMap.{insert_entry, BTreeMap, is_at}
+use Rattle.std.specs.BTreeMap.{insert_entry, is_at}
 use Rattle.std.specs.Ordering.{is_eq, match_ordering, ordering_reverse}
 use Rattle.std.specs.declared.cmp.Ordering.TheVariants.{Less, Equal, Greater}
-use Rattle.storage_tree.specs.Tree.{Tree, Children, none, tree}
+use Rattle.storage_tree.specs.Tree.{Children, none, tree}
 use Rattle.storage_tree.specs.Change.{child, Seen, bytes, inner, find, place, without, map_ok, on_ok, found, change, putting, put_seen, adding, making, removing, look, Outcome}
 use Rattle.cfb_names.specs.Names.{key, key_cmp, key_eq}
-use Rattle.storage_tree.specs.View.{node_step, storage_step, seen, view, shown, children}
-use Rattle.storage_tree.specs.declared.storage.Node.{Node, fold-roll-Node}
-use Rattle.storage_tree.specs.declared.storage.Node.TheOpen.{Node-F}
-use Rattle.storage_tree.specs.declared.storage.Storage.{Storage, fold-roll-Storage, fold_out-Storage}
-use Rattle.storage_tree.specs.declared.storage.Node.TheViews.{roll-Storage}
-use Rattle.storage_tree.specs.declared.storage.Node.TheVariants.{Stream, rolls-Stream, rolls-Storage}
-use Rattle.storage_tree.specs.declared.storage.Node.TheVariants as variant
+use Rattle.storage_tree.specs.View.{seen, shown, children}
+pub use Rattle.storage_nodes.proofs.Views.{view-out, view-roll, seen-stream, seen-storage}
+use Rattle.storage_nodes.specs.declared.storage.Node.{Node}
 
 pub some_none : {A : Type 0} {x : A} → Some x ≡ None → ⊥
 some_none h = search rules
@@ -46,12 +42,6 @@ pub find-entries : (k : List ℕ) (es : Entries) → find k (children es) ≡ op
 find-entries k [] = refl
 find-entries k (e ∷ es) = find-child k e.0 (shown e.1) (children es)
     ∙ (elim (key_eq k e.0) as (λ b. cond b (Some (shown e.1)) (find k (children es)) ≡ option_map shown (cond b (Some e.1) (lookup (is_at (key_cmp k)) es))) [ true ↦ refl | false ↦ find-entries k es ])
-
-pub view-out : (s : Storage) → view s ≡ tree s.class s.state (children s.children.entries)
-view-out s = fold_out-Storage Seen Tree node_step storage_step s
-
-pub view-roll : (class : List ℕ) (state : ℕ) (m : BTreeMap (List ℕ) (List ℕ × Node)) → view (roll-Storage (record { class = class; state = state; children = m })) ≡ tree class state (children m.entries)
-view-roll class state m = fold-roll-Storage Seen Tree node_step storage_step (record { class = class; state = state; children = m })
 
 pub place-child : (k : List ℕ) (c : List ℕ × Seen) (q : List ℕ) (old : List ℕ × Seen) (cs : Children)
     → place k c (child q old cs) ≡ match_ordering (key_cmp k q) (child k c (child q old cs)) (child q c cs) (child q old (place k c cs))
@@ -97,12 +87,6 @@ without-entries k [] = refl
 without-entries k (e ∷ es) = without-child k e.0 (shown e.1) (children es)
     ∙ (elim (key_eq k e.0) as (λ b. cond b (children es) (child e.0 (shown e.1) (without k (children es))) ≡ children (cond b es (e ∷ remove_entry (is_at (key_cmp k)) es)))
     [ true ↦ refl | false ↦ ap (child e.0 (shown e.1)) (without-entries k es) ])
-
-pub seen-stream : (b : List ℕ) → seen (variant.Stream b) ≡ bytes b
-seen-stream b = ap seen (sym (rolls-Stream b)) ∙ fold-roll-Node Seen Tree node_step storage_step (Node-F.Stream b)
-
-pub seen-storage : (s : Storage) → seen (variant.Storage s) ≡ inner (view s)
-seen-storage s = ap seen (sym (rolls-Storage s)) ∙ fold-roll-Node Seen Tree node_step storage_step (Node-F.Storage s)
 
 pub find-none : (k : List ℕ) (es : Entries) → lookup (is_at (key_cmp k)) es ≡ None → find k (children es) ≡ None
 find-none k es h = find-entries k es ∙ ap (option_map shown) h

@@ -17,7 +17,7 @@ use Rattle.storage_tree.specs.Tree.{Children, tree}
 use Rattle.storage_tree.specs.Change.{Seen, inner, find, place, without, map_ok, change, moving, renaming}
 use Rattle.cfb_names.specs.Names.{key, key_cmp, key_eq}
 use Rattle.storage_tree.specs.View.{seen, children, moved, moved_from, with_node}
-use Rattle.storage_tree.specs.declared.storage.Node.{Node}
+use Rattle.storage_nodes.specs.declared.storage.Node.{Node}
 use Rattle.storage_tree.proofs.Entries.{Entries, some_none, find-none, find-some, key_eq-flip, place-insert, place-set, reflexive, set-same, without-entries}
 
 module _ (k : List ℕ) (v w : List ℕ × Node) where

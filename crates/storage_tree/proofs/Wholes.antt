@@ -1,5 +1,5 @@
 use Rattle.storage_tree.specs.View.{view}
-use Rattle.storage_tree.specs.declared.storage.Storage.{Storage}
+use Rattle.storage_nodes.specs.declared.storage.Storage.{Storage}
 use Rattle.std.proofs.Common.{map, ◌++◌, Result, Ok, Err, ◌≤◌, ◌+◌, length, arith, ◌≡◌, ℕ, zero, suc, List, [], ◌∷◌, refl, sym, ◌∙◌, ap, subst, Bool, true, false, cond, rules, Option, Some, None, Ok}
 use Rattle.std.specs.Cmp.Lexicographic.{nat_list_cmp_total}
 use Rattle.std.specs.FinMap.{slice_cmp-IsAntisymmetric, nat_cmp-IsAntisymmetric}

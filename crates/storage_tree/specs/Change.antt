@@ -2,17 +2,12 @@
 use Rattle.std.specs.Prelude.{ℕ, ◌≡◌, List, [], ◌∷◌, Option, Some, None, Result, Ok, Err, IsOk, Bool, cond}
 use Rattle.std.specs.Ordering.{match_ordering}
 use Rattle.cfb_names.specs.Names.{key, key_cmp, key_eq}
-pub use Rattle.tree_model.specs.Seen.{Seen, bytes, inner}
+pub use Rattle.storage_nodes.specs.Child.{Seen, bytes, inner, child}
 use Rattle.storage_tree.specs.Tree.{Children, tree, none, stream, storage}
 use Rattle.storage_tree.specs.declared.fault.TreeFault.{TreeFault}
 use Rattle.storage_tree.specs.declared.fault.TreeFault.TheVariants.{NotFound, Exists, WrongKind, TooDeep, NoMemory}
 use Rattle.storage_tree.specs.declared.storage.Edit.{Edit}
 use Rattle.storage_tree.specs.declared.storage.Edit.TheVariants.{Put, Add, Make, Remove, Rename}
-
--- a child under a key: its name as it is spelled, and what it is
-abbrev pub child : List ℕ → List ℕ × Seen → Children → Children
-child k (name, bytes b) cs = stream k name b cs
-child k (name, inner t) cs = storage k name t cs
 
 -- the child under a key
 abbrev pub find : List ℕ → Children → Option (List ℕ × Seen)

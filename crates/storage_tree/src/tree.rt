@@ -12,7 +12,7 @@ ghost use Rattle.storage_tree.specs.Whole.{AreWhole, IsTree};
 ghost use Rattle.storage_tree.specs.View.{view};
 
 use crate::fault::TreeFault;
-use crate::storage::{Edit, Found, Storage};
+use crate::storage::{Edit, Found, Storage, edit_at, get};
 use cfb_names::name::Name;
 use std::alloc::Global;
 use stored_values::bytes::Bytes;
@@ -66,7 +66,7 @@ impl Tree {
     pub fn get(&self, path: &[Name]) -> Result<Found<'_>, TreeFault>
         ensures { map_ok found_seen result ≡ look path.now (inner (kept self.now).now) }
     {
-        self.root.get(path)
+        get(&self.root, path)
     }
 
     /// Makes the stream at a path, or replaces its bytes, with its old spelling.
@@ -76,7 +76,7 @@ impl Tree {
     pub fn put_stream(&mut self, path: &[Name], bytes: Bytes) -> Result<(), TreeFault>
         ensures { Outcome result (put path.now bytes (kept self.old)) (kept self.old) (kept self.new) }
     {
-        self.root.edit(self.alloc, path, Edit::Put(bytes))
+        edit_at(&mut self.root, self.alloc, path, Edit::Put(bytes))
     }
 
     /// Makes a stream of these bytes at a path.
@@ -86,7 +86,7 @@ impl Tree {
     pub fn make_stream(&mut self, path: &[Name], bytes: Bytes) -> Result<(), TreeFault>
         ensures { Outcome result (added path.now bytes (kept self.old)) (kept self.old) (kept self.new) }
     {
-        self.root.edit(self.alloc, path, Edit::Add(bytes))
+        edit_at(&mut self.root, self.alloc, path, Edit::Add(bytes))
     }
 
     /// Makes a storage without children at a path.
@@ -103,8 +103,12 @@ impl Tree {
         ensures { Outcome result (made path.now class state (kept self.old)) (kept self.old) (kept self.new) }
     {
         let fits = path.len() <= DEEPEST;
-        self.root
-            .edit(self.alloc, path, Edit::Make(class, state, fits))
+        edit_at(
+            &mut self.root,
+            self.alloc,
+            path,
+            Edit::Make(class, state, fits),
+        )
     }
 
     /// Removes what stands at a path, a storage with all that it holds. It takes no memory.
@@ -114,7 +118,7 @@ impl Tree {
         ensures change { Outcome result (removed path.now (kept self.old)) (kept self.old) (kept self.new) }
         ensures no_memory { result ≢ Err NoMemory }
     {
-        self.root.edit(self.alloc, path, Edit::Remove)
+        edit_at(&mut self.root, self.alloc, path, Edit::Remove)
     }
 
     /// Gives what stands at a path another name in its storage; its own name, spelled otherwise, changes the spelling.
@@ -124,7 +128,7 @@ impl Tree {
     pub fn rename(&mut self, path: &[Name], name: Name) -> Result<(), TreeFault>
         ensures { Outcome result (renamed path.now name (kept self.old)) (kept self.old) (kept self.new) }
     {
-        self.root.edit(self.alloc, path, Edit::Rename(name))
+        edit_at(&mut self.root, self.alloc, path, Edit::Rename(name))
     }
 
     /// Begins a transaction, inside those that are open.
@@ -136,7 +140,7 @@ impl Tree {
         if self.saved.len() >= MOST_OPEN {
             return Err(TreeFault::TooDeep);
         }
-        let Ok(copy) = self.root.copy(self.alloc) else {
+        let Ok(copy) = crate::storage::copy(&self.root, self.alloc) else {
             return Err(TreeFault::NoMemory);
         };
         match self.saved.push(copy) {

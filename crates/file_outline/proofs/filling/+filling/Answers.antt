@@ -7,7 +7,7 @@ use Rattle.storage_tree.proofs.Entries.{seen-storage, view-roll}
 use Rattle.storage_tree.specs.Change.{Seen, child, inner}
 use Rattle.storage_tree.specs.Tree.{Children, Tree, tree}
 use Rattle.storage_tree.specs.View.{children, seen}
-use Rattle.storage_tree.specs.declared.storage.Node.{Node}
+use Rattle.storage_nodes.specs.declared.storage.Node.{Node}
 use Rattle.storage_tree.specs.Whole.{AreTrees, IsTree, IsWhole}
 use Rattle.file_outline.specs.View.{contents, shown, shown_part, shown_parts}
 use Rattle.file_outline.specs.declared.outline.Place.{Place}

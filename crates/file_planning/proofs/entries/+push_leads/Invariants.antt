@@ -1,5 +1,5 @@
 use Rattle.std.proofs.Common.{◌≡◌, ◌+◌, ◌++◌, length}
-use Rattle.storage_tree.specs.View.{children}
+use Rattle.storage_nodes.specs.View.{children}
 use Rattle.file_layout.specs.Directory.{AreSpelled, ids_from, long_streams_of, short_streams_of}
 use Rattle.file_layout.specs.Image.{pieces_of, runs}
 use Rattle.file_planning.specs.Walked.{sibling_leads}

@@ -1,6 +1,6 @@
 use Rattle.std.proofs.Common.{◌+◌, ◌<◌, ℕ, ap, arith}
-use Rattle.storage_tree.specs.View.{children}
-use Rattle.storage_tree.proofs.Entries.{view-out}
+use Rattle.storage_nodes.specs.View.{children}
+use Rattle.storage_nodes.proofs.Views.{view-out}
 use Rattle.file_model.specs.Need.{entries, entries_of}
 use Rattle.file_model.specs.declared.limit.TheConstants.{MANY}
 use Rattle.file_planning.proofs.ContentsWalk.{ids-counted, ids-few, ids-listed}

@@ -1,5 +1,5 @@
 use Rattle.std.proofs.Common.{◌≡◌, ◌≤◌, ◌+◌, ◌++◌, vec_len}
-use Rattle.storage_tree.specs.View.{children}
+use Rattle.storage_nodes.specs.View.{children}
 use Rattle.file_model.specs.Need.{entries_of}
 use Rattle.file_layout.specs.Directory.{ids_from}
 use Rattle.file_planning.proofs.entries.child_ids.Given as goal

@@ -1,7 +1,7 @@
 use Rattle.std.proofs.Common.{◌≡◌, ◌∙◌, ◌++◌, ℕ, List, ap, arith, length, rules}
 use Rattle.std.specs.Vec.{vec_len}
-use Rattle.storage_tree.specs.Tree.{Tree}
-use Rattle.storage_tree.specs.View.{view}
+use Rattle.storage_nodes.specs.Tree.{Tree}
+use Rattle.storage_nodes.specs.View.{view}
 use Rattle.file_layout.specs.Directory.{balanced, parts_of, short_streams}
 use Rattle.file_layout.specs.Image.{behind_fat, counts, own_entries, pieces_of, runs}
 use Rattle.file_layout.proofs.ContentsNext.{shorts-sum}

@@ -1,5 +1,5 @@
 use Rattle.std.proofs.Common.{◌≡◌, ◌+◌, ◌≤◌, min}
-use Rattle.storage_tree.specs.View.{children}
+use Rattle.storage_nodes.specs.View.{children}
 use Rattle.file_model.specs.Limits.{MANY}
 use Rattle.file_model.specs.Need.{entries_of, long_pieces, over_streams_of, short_pieces}
 use Rattle.file_planning.proofs.needs.+count_needs.Given as goal

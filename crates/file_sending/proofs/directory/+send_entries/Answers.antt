@@ -1,6 +1,6 @@
 use Rattle.std.proofs.Common.{◌≡◌, ◌+◌, ◌*◌, ◌++◌, [], ℕ, List, Option, ap, length, rules, subst}
-use Rattle.cfb_directory.specs.Written.{entry_bytes}
-use Rattle.storage_tree.specs.View.{children, seen, view}
+use Rattle.directory_model.specs.Written.{entry_bytes}
+use Rattle.storage_nodes.specs.View.{children, seen, view}
 use Rattle.file_model.specs.Need.{entries_of}
 use Rattle.file_parts.specs.Leads.{child_led, each_led, led_below}
 use Rattle.file_parts.specs.Sends.{Sends}

@@ -1,5 +1,5 @@
 use Rattle.std.proofs.Common.{◌≡◌, ◌+◌, ◌*◌, ◌++◌, List, ℕ, length}
-use Rattle.storage_tree.specs.View.{children}
+use Rattle.storage_nodes.specs.View.{children}
 use Rattle.file_model.specs.Need.{entries_of}
 use Rattle.file_parts.specs.Leads.{each_led}
 use Rattle.file_parts.specs.Sends.{Sends}

@@ -1,9 +1,9 @@
 use Rattle.std.proofs.Common.{◌≡◌, ◌∙◌, ◌+◌, ◌-◌, ◌*◌, ◌++◌, ℕ, List, Option, ap, length, replicate, subst, sym}
 use Rattle.std.specs.List.{concat}
-use Rattle.cfb_directory.specs.Entries.{root_name}
-use Rattle.cfb_directory.specs.Written.{entry_bytes, free_entry_bytes}
-use Rattle.storage_tree.specs.Tree.{Tree}
-use Rattle.storage_tree.specs.View.{view}
+use Rattle.directory_model.specs.Entries.{root_name}
+use Rattle.directory_model.specs.Written.{entry_bytes, free_entry_bytes}
+use Rattle.storage_nodes.specs.Tree.{Tree}
+use Rattle.storage_nodes.specs.View.{view}
 use Rattle.file_model.specs.Need.{directory_sectors, pieces}
 use Rattle.file_layout.specs.Directory.{balanced, entries_below, long_start}
 use Rattle.file_parts.specs.Leads.{led_below}

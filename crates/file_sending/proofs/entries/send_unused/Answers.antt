@@ -1,6 +1,6 @@
 use Rattle.std.proofs.Common.{List, ℕ, replicate, subst, sym}
 use Rattle.std.specs.List.{concat}
-use Rattle.cfb_directory.specs.Written.{free_entry_bytes}
+use Rattle.directory_model.specs.Written.{free_entry_bytes}
 use Rattle.file_layout.proofs.Tables.{concat_more}
 use Rattle.file_parts.specs.Sends.{Sends}
 use Rattle.file_parts.proofs.Sent.{sends_both, sends_none}

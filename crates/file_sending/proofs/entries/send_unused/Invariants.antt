@@ -1,6 +1,6 @@
 use Rattle.std.proofs.Common.{replicate}
 use Rattle.std.specs.List.{concat}
-use Rattle.cfb_directory.specs.Written.{free_entry_bytes}
+use Rattle.directory_model.specs.Written.{free_entry_bytes}
 use Rattle.file_parts.specs.Sends.{Sends}
 use Rattle.file_sending.proofs.entries.send_unused.Given as goal
 

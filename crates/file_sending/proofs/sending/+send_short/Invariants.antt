@@ -1,5 +1,5 @@
 use Rattle.std.proofs.Common.{◌≡◌, ◌++◌, List, ℕ}
-use Rattle.storage_tree.specs.View.{children}
+use Rattle.storage_nodes.specs.View.{children}
 use Rattle.file_layout.specs.Directory.{short_streams_of}
 use Rattle.file_layout.specs.Image.{whole_pieces}
 use Rattle.file_parts.specs.Sends.{Sends}

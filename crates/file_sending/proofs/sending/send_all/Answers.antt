@@ -3,8 +3,8 @@ use Rattle.std.specs.Io.KnownBytes.{Appends}
 use Rattle.file_layout.specs.Directory.{balanced, directory_of_tree, long_streams, short_streams}
 use Rattle.file_layout.specs.Image.{padded, whole_pieces}
 use Rattle.file_layout.proofs.Tables.{numbers_bytes}
-use Rattle.storage_tree.specs.Tree.{Tree}
-use Rattle.storage_tree.specs.View.{view}
+use Rattle.storage_nodes.specs.Tree.{Tree}
+use Rattle.storage_nodes.specs.View.{view}
 use Rattle.file_parts.specs.Sends.{Sends}
 use Rattle.file_parts.proofs.Length.{length-image}
 use Rattle.file_parts.proofs.Sent.{sends_both, sends_wait, sent_all}

@@ -1,4 +1,4 @@
-use Rattle.storage_tree.specs.View.{view}
+use Rattle.storage_nodes.specs.View.{view}
 use Rattle.file_layout.specs.Directory.{long_streams}
 use Rattle.file_layout.specs.Image.{whole_pieces}
 use Rattle.file_parts.proofs.Sent.{no_longs, sends_nothing}

@@ -1,6 +1,6 @@
 use Rattle.std.proofs.Common.{◌≡◌, ◌++◌, ◌-◌, ◌*◌, ◌∙◌, ℕ, List, Option, ap, length, replicate, subst, sym}
-use Rattle.storage_tree.specs.Tree.{Tree}
-use Rattle.storage_tree.specs.View.{view}
+use Rattle.storage_nodes.specs.Tree.{Tree}
+use Rattle.storage_nodes.specs.View.{view}
 use Rattle.file_layout.specs.Directory.{short_streams}
 use Rattle.file_layout.specs.Image.{padded, whole_pieces}
 use Rattle.file_model.specs.Need.{pieces}

@@ -1,7 +1,7 @@
 use Rattle.std.proofs.Common.{ap, sym, subst, ◌∙◌, ◌+◌, length, length-append, arith}
 use Rattle.storage_tree.specs.Change.{inner}
 use Rattle.storage_tree.specs.View.{children, seen}
-use Rattle.storage_tree.specs.declared.storage.Node.TheVariants.{Storage}
+use Rattle.storage_nodes.specs.declared.storage.Node.TheVariants.{Storage}
 use Rattle.storage_tree.specs.Change.{Seen}
 use Rattle.storage_tree.specs.Whole.{IsWhole}
 use Rattle.storage_tree.proofs.Entries.{seen-storage}

@@ -5,4 +5,4 @@ use Rattle.storage_tree.proofs.Wholes.{outcome_keeps}
 use Rattle.storage_tree.proofs.tree.Tree.rename.Goals as goal
 
 pub invariant_of-self : goal.invariant_of-self
-invariant_of-self c = record { whole = ∥∥₁_map c.args.self.now.whole (λ w. (outcome_keeps c.edit.result (Rename c.args.name) c.args.path.now (view c.args.self.now.root) (view c.edit.new.self) c.edit.ensures.names tt w.0 c.edit.ensures.change, w.1)) }
+invariant_of-self c = record { whole = ∥∥₁_map c.args.self.now.whole (λ w. (outcome_keeps c.edit_at.result (Rename c.args.name) c.args.path.now (view c.args.self.now.root) (view c.edit_at.new.storage) c.edit_at.ensures.names tt w.0 c.edit_at.ensures.change, w.1)) }

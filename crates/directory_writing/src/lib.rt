@@ -1,0 +1,5 @@
+//! Writing the directory of a compound file: entries, and trees of siblings (MS-CFB 2.6).
+#![tactic(auto)]
+
+pub mod links;
+pub mod write;

@@ -1,0 +1,3 @@
+pub use Rattle.tree_model.specs.Tree
+pub mod Child
+pub mod View

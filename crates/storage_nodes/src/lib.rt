@@ -1,0 +1,4 @@
+//! Storages and what stands in them.
+#![tactic(auto)]
+
+pub mod storage;
