@@ -2,10 +2,10 @@
 
 use crate::runs::{Run, sectors_of};
 use crate::tables::{entry_at, first_of};
+use cfb_names::name::Name;
 use directory_model::entries::{EntryKind, NO_STREAM};
 use directory_writing::links::{Links, balanced};
 use directory_writing::write::{EntryFields, write_entry, write_free_entry};
-use cfb_names::name::Name;
 use file_model::limit::CUTOFF;
 use std::alloc::{AllocError, Global};
 use storage_tree::storage::{Node, Storage};

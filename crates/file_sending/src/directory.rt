@@ -10,9 +10,9 @@ ghost use Rattle.std.specs.Prelude.{◌+◌, ◌*◌, ◌<◌, ◌≡◌, IfOk, 
 ghost use Rattle.storage_nodes.specs.View.{seen, view};
 
 use crate::entries::{send_entry, send_unused};
+use cfb_names::name::Name;
 use directory_model::entries::{EntryKind, NO_STREAM};
 use directory_writing::write::EntryFields;
-use cfb_names::name::Name;
 use file_parts::counts::Counts;
 use file_parts::leads::{Directory, Lead, class_bytes, state_bits};
 use std::io::{self, Write};

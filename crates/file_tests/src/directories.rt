@@ -2,10 +2,10 @@
 
 use crate::texts::{are_all, are_numbers, are_spelled, number, word};
 use cfb_directory::entries::{Entries, EntryKind, NO_STREAM};
-use directory_writing::links::{Links, balanced, build};
-use directory_writing::write::{EntryFields, write_entry, write_free_entry};
 use cfb_names::fault::DirFault;
 use cfb_names::name::{LONGEST, Name, key, keys_agree, named};
+use directory_writing::links::{Links, balanced, build};
+use directory_writing::write::{EntryFields, write_entry, write_free_entry};
 use std::alloc::{AllocError, Global};
 use std::cmp::Ordering;
 use std::process::Abort;
