@@ -5,7 +5,7 @@ use cfb_names::name::{Name, named};
 use std::alloc::Global;
 use std::process::Abort;
 use storage_tree::fault::TreeFault;
-use storage_tree::storage::{Found, Storage, copy, names};
+use storage_tree::storage::{Found, Storage, copy};
 use storage_tree::tree::Tree;
 use stored_values::bytes::Bytes;
 use stored_values::class_id::ClassId;
@@ -185,7 +185,7 @@ fn has(storage: &Storage, with: u8) -> bool {
 
 /// Whether the root's only child is spelled so.
 fn is_named(rt: &impl Abort, alloc: Global, tree: &Tree, text: &str) -> bool {
-    let names = names(tree.root(), alloc).expect(rt, "memory");
+    let names = storage_tree::storage::names(tree.root(), alloc).expect(rt, "memory");
     match names.as_slice() {
         [name] => name.as_bytes() == text.as_bytes(),
         _ => false,
