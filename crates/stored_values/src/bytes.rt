@@ -18,11 +18,14 @@ pub struct Bytes {
 
 impl Model for Bytes {
     ghost use Rattle.std.specs.Option.{option_map};
-    ghost use Rattle.std.specs.Prelude.{List, [], ℕ, drop, take, unwrap_or};
+    ghost use Rattle.std.specs.Prelude.{◌≡◌, List, [], ℕ, drop, length, take, unwrap_or};
 
     ghost Value = { List ℕ };
 
     ghost view = { λ b. take b.len (drop b.start (unwrap_or (option_map (λ buffer. buffer.value.items) b.buffer) [])) };
+
+    // So how many there are is told without a look at the buffer.
+    ghost invariant = { λ b. length (take b.len (drop b.start (unwrap_or (option_map (λ buffer. buffer.value.items) b.buffer) []))) ≡ b.len };
 }
 
 // Written out, so that letting go of bytes is one call for a proof, with or without a buffer.
@@ -141,14 +144,14 @@ impl Bytes {
     pub fn len(&self) -> usize
         ensures { result ≡ length self.now }
     {
-        self.as_slice().len()
+        self.len
     }
 
     /// Whether there are none.
     pub fn is_empty(&self) -> bool
         ensures { IsTrue result ↔ (self.now ≡ []) }
     {
-        self.as_slice().is_empty()
+        self.len == 0
     }
 
     /// An equal value, which shares the memory of this one and takes none.
