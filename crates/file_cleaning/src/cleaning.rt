@@ -9,6 +9,7 @@ use file_places::source::Source;
 use file_writer::sending::{SendFault, send_file};
 use std::alloc::Global;
 use std::io::Write;
+use storage_tree::storage::Storage;
 use tree_seeking::fault::SourceFault;
 use tree_seeking::reading::read_source;
 
@@ -47,12 +48,31 @@ pub fn clean_source<S: Source, W: Write>(
     ensures refused { IfErr result (λ fault. IfSome (S.bytes source.old) (λ file. MayRefuseClean file fault)) }
     ensures unwritten { IfErr result (λ fault. fault ≢ CleanFault.Unwritable → writer.new ≡ writer.old) }
 {
+    match clean_with_tree(alloc, source, writer) {
+        Ok((count, _)) => Ok(count),
+        Err(fault) => Err(fault),
+    }
+}
+
+/// Does what `clean_source` does, and gives the root of the tree besides: who is about to end needn't give its memory back piece by
+/// piece.
+///
+/// Refused: as `clean_source`.
+pub fn clean_with_tree<S: Source, W: Write>(
+    alloc: Global,
+    source: &mut S,
+    writer: &mut W,
+) -> Result<(usize, Storage), CleanFault>
+    ensures cleaned { IfOk result (λ made. IfSome (S.bytes source.old) (λ file. Cleans file (W.contents writer.old) (W.contents writer.new) made.0)) }
+    ensures refused { IfErr result (λ fault. IfSome (S.bytes source.old) (λ file. MayRefuseClean file fault)) }
+    ensures unwritten { IfErr result (λ fault. fault ≢ CleanFault.Unwritable → writer.new ≡ writer.old) }
+{
     let root = match read_source(alloc, source) {
         Ok(root) => root,
         Err(fault) => return Err(of_source(fault)),
     };
     match send_file(alloc, &root, writer) {
-        Ok(count) => Ok(count),
+        Ok(count) => Ok((count, root)),
         Err(fault) => Err(of_sending(fault)),
     }
 }

@@ -41,6 +41,24 @@ pub fn make_file<R: Read, W: Write>(
     ensures refused { IfErr result (λ fault. IfSome (R.remaining reader.old) (λ text. MayRefuseMake text fault)) }
     ensures unwritten { IfErr result (λ fault. fault ≢ MakeFault.Unwritable → writer.new ≡ writer.old) }
 {
+    match make_with_tree(alloc, reader, writer) {
+        Ok((count, _)) => Ok(count),
+        Err(fault) => Err(fault),
+    }
+}
+
+/// Does what `make_file` does, and gives the tree besides: who is about to end needn't give its memory back piece by piece.
+///
+/// Refused: as `make_file`.
+pub fn make_with_tree<R: Read, W: Write>(
+    alloc: Global,
+    reader: &mut R,
+    writer: &mut W,
+) -> Result<(usize, Tree), MakeFault>
+    ensures made { IfOk result (λ made. IfSome (R.remaining reader.old) (λ text. Makes text (W.contents writer.old) (W.contents writer.new) made.0)) }
+    ensures refused { IfErr result (λ fault. IfSome (R.remaining reader.old) (λ text. MayRefuseMake text fault)) }
+    ensures unwritten { IfErr result (λ fault. fault ≢ MakeFault.Unwritable → writer.new ≡ writer.old) }
+{
     let text = match read_all(alloc, reader) {
         Ok(text) => text,
         Err(fault) => return Err(MakeFault::Input(fault)),
@@ -49,7 +67,7 @@ pub fn make_file<R: Read, W: Write>(
     // Its memory serves the file.
     drop(text);
     match send_file(alloc, tree.root(), writer) {
-        Ok(count) => Ok(count),
+        Ok(count) => Ok((count, tree)),
         Err(fault) => Err(of_sending(fault)),
     }
 }

@@ -3,7 +3,7 @@
 use cfb_names::name::Name;
 use fault_texts::telling::Form as CheckForm;
 use file_checks::checking::{check_file, check_source};
-use file_cleaning::cleaning::clean_source;
+use file_cleaning::cleaning::clean_with_tree;
 use file_commands::cleaning::clean_file;
 use file_commands::commands::list_file;
 use file_commands::fault::{CleanFault, GetFault, ListFault};
@@ -18,6 +18,7 @@ use listing_forms::json_form::Json;
 use listing_forms::long_form::Long;
 use program_ends::ends::{keep, refuse, refuse_path};
 use program_ends::journals::{refuse_unfinished, tell_unfinished};
+use program_ends::making::count_made;
 use program_ends::new_file::NewFile;
 use std::fs::OpenFile;
 use std::process::ExitCode;
@@ -232,7 +233,11 @@ fn clean_open<R: Runtime + AllocGlobal>(
     new: &mut NewFile<'_, R>,
 ) -> Result<usize, CleanFault> {
     if is_sought(&source) {
-        clean_source(rt.alloc(), &mut Sought::new(source), new)
+        count_made(clean_with_tree(
+            rt.alloc(),
+            &mut Sought::new(source),
+            new,
+        ))
     } else {
         clean_file(rt.alloc(), &mut source, new)
     }

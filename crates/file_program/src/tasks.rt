@@ -4,12 +4,12 @@ use crate::command_lines::{CHECK, EXTRACT, FOLDER, FORCE, MAP, PACK};
 use crate::running::{Listing, check, clean, get, list, map};
 use clap::ArgMatches;
 use fault_texts::telling::Form;
-use file_making::making::make_file;
+use file_making::making::make_with_tree;
 use folder_program::extracting::extract;
 use folder_program::packing::pack;
 use program_ends::command_lines::{CLEAN, FILE, GET, JSON, LIST, LONG, MAKE, OUT, PATH};
 use program_ends::ends::refuse;
-use program_ends::making::make;
+use program_ends::making::{count_made, make};
 use std::alloc::Global;
 use std::process::ExitCode;
 use std::rt::Runtime;
@@ -81,7 +81,7 @@ fn make_described<R: Runtime + AllocGlobal>(rt: &R, path: &str) -> ExitCode {
     make(
         rt,
         path,
-        |new| make_file(rt.alloc(), &mut rt.reader(), new),
+        |new| count_made(make_with_tree(rt.alloc(), &mut rt.reader(), new)),
         |path, fault| refuse(rt, &fault.report(path)),
     )
 }

@@ -3,6 +3,7 @@
 use crate::ends::keep;
 use crate::journals::refuse_unfinished;
 use crate::new_file::NewFile;
+use std::mem::ManuallyDrop;
 use std::process::ExitCode;
 use std::rt::Runtime;
 
@@ -27,5 +28,17 @@ where
             new.discard();
             tell(path, &fault)
         }
+    }
+}
+
+/// What is counted of something that was made. What it was made of stays in memory: the process is about to end, and the system takes
+/// all of its memory at once.
+pub fn count_made<T: Drop, E: Drop>(made: Result<(usize, T), E>) -> Result<usize, E> {
+    match made {
+        Ok((count, rest)) => {
+            let _rest = ManuallyDrop::new(rest);
+            Ok(count)
+        }
+        Err(fault) => Err(fault),
     }
 }
