@@ -1,26 +1,20 @@
--- The table of hexadecimal digits.
-use Rattle.std.proofs.Common.{◌≡◌, ◌<◌, ◌++◌, ℕ, zero, suc, List, [], ◌∷◌, replicate, Bool, true, false, cond, nat_eq, nat_lt, bit_or, Option, Some, None, slice_index_or, refl, ap, ◌∙◌, arith, rules}
-use Rattle.texts.specs.Words.{hex_digit, value_told}
+-- The tables of hexadecimal digits.
+use Rattle.std.proofs.Common.{◌≡◌, ◌<◌, ◌≤◌, ◌+◌, ◌*◌, ◌^◌, ◌++◌, ℕ, zero, suc, List, [], ◌∷◌, replicate, Bool, true, false, cond, nat_eq, nat_lt, bit_or, Option, Some, None, slice_index_or, refl, ap, sym, subst, ◌∙◌, arith, lt-ltb, rules}
+use Rattle.std.proofs.lemmas.Nat.{le_or_l, le_or_r, or_shifted}
+use Rattle.texts.specs.Words.{byte_told, hex_digit, pair_value, weighed}
 
-abbrev digits : List ℕ
-digits =
-    replicate 48 255 ++ (0 ∷ 1 ∷ 2 ∷ 3 ∷ 4 ∷ 5 ∷ 6 ∷ 7 ∷ 8 ∷ 9 ∷ []) ++ replicate 7 255 ++ (10 ∷ 11 ∷ 12 ∷ 13 ∷ 14 ∷ 15 ∷ [])
-    ++ replicate 26 255 ++ (10 ∷ 11 ∷ 12 ∷ 13 ∷ 14 ∷ 15 ∷ []) ++ replicate 153 255
+abbrev firsts : List ℕ
+firsts =
+    replicate 48 256 ++ (0 ∷ 16 ∷ 32 ∷ 48 ∷ 64 ∷ 80 ∷ 96 ∷ 112 ∷ 128 ∷ 144 ∷ []) ++ replicate 7 256 ++ (160 ∷ 176 ∷ 192 ∷ 208 ∷ 224 ∷ 240 ∷ [])
+    ++ replicate 26 256 ++ (160 ∷ 176 ∷ 192 ∷ 208 ∷ 224 ∷ 240 ∷ []) ++ replicate 153 256
 
-abbrev same : Option ℕ → Option ℕ → Bool
-same None None = true
-same None (Some b) = false
-same (Some a) None = false
-same (Some a) (Some b) = nat_eq a b
+abbrev seconds : List ℕ
+seconds =
+    replicate 48 256 ++ (0 ∷ 1 ∷ 2 ∷ 3 ∷ 4 ∷ 5 ∷ 6 ∷ 7 ∷ 8 ∷ 9 ∷ []) ++ replicate 7 256 ++ (10 ∷ 11 ∷ 12 ∷ 13 ∷ 14 ∷ 15 ∷ [])
+    ++ replicate 26 256 ++ (10 ∷ 11 ∷ 12 ∷ 13 ∷ 14 ∷ 15 ∷ []) ++ replicate 153 256
 
 equal : (a b : ℕ) → nat_eq a b ≡ true → a ≡ b
 equal a b h = grind (arith, h)
-
-same-is : (x y : Option ℕ) → same x y ≡ true → x ≡ y
-same-is None None h = refl
-same-is None (Some b) h = absurd (search rules)
-same-is (Some a) None h = absurd (search rules)
-same-is (Some a) (Some b) h = ap Some (equal a b h)
 
 abbrev every : (ℕ → Bool) → ℕ → Bool
 every p zero = true
@@ -33,22 +27,46 @@ every-is p (suc n) d h l = elim (p n) as (λ b. p n ≡ b → cond b (every p n)
   | false ↦ λ q g. absurd (search rules)
 ] refl h
 
--- what the table tells of a byte
-abbrev tells : ℕ → Option ℕ
-tells d = value_told (slice_index_or digits d 0)
+-- what the tables tell of a byte
+pub in_firsts : (d n : ℕ) → d < 256 → n ≡ d → slice_index_or firsts n 0 ≡ weighed 16 (hex_digit d)
+in_firsts d n l at =
+    ap (λ k. slice_index_or firsts k 0) at
+    ∙ equal (slice_index_or firsts d 0) (weighed 16 (hex_digit d)) (every-is (λ x. nat_eq (slice_index_or firsts x 0) (weighed 16 (hex_digit x))) 256 d refl l)
 
-tells-is : (d : ℕ) → d < 256 → tells d ≡ hex_digit d
-tells-is d l = same-is (tells d) (hex_digit d) (every-is (λ x. same (tells x) (hex_digit x)) 256 d refl l)
+pub in_seconds : (d n : ℕ) → d < 256 → n ≡ d → slice_index_or seconds n 0 ≡ weighed 1 (hex_digit d)
+in_seconds d n l at =
+    ap (λ k. slice_index_or seconds k 0) at
+    ∙ equal (slice_index_or seconds d 0) (weighed 1 (hex_digit d)) (every-is (λ x. nat_eq (slice_index_or seconds x 0) (weighed 1 (hex_digit x))) 256 d refl l)
 
-pub in_table : (d n : ℕ) → d < 256 → n ≡ d → tells n ≡ hex_digit d
-in_table d n l at = ap tells at ∙ tells-is d l
+-- values of digits are below sixteen
+abbrev is_small : Option ℕ → Bool
+is_small None = true
+is_small (Some n) = nat_lt n 16
 
--- two values of digits have no other bits together than a digit's
+pub small : (d : ℕ) → d < 256 → is_small (hex_digit d) ≡ true
+small d l = every-is (λ x. is_small (hex_digit x)) 256 d refl l
+
 ltb-lt : (a b : ℕ) → nat_lt a b ≡ true → a < b
 ltb-lt a b h = grind (arith, h)
 
-below-sixteen : (a : ℕ) → a < 16 → every (λ b. nat_lt (bit_or a b) 16) 16 ≡ true
-below-sixteen a l = every-is (λ x. every (λ b. nat_lt (bit_or x b) 16) 16) 16 a refl l
+pub told-some : (n : ℕ) → n < 256 → byte_told n ≡ Some n
+told-some n low = ap (λ b. cond b (Some n) None) (lt-ltb n 256 low)
 
-pub or_below : (a b : ℕ) → a < 16 → b < 16 → bit_or a b < 16
-or_below a b l m = ltb-lt (bit_or a b) 16 (every-is (λ x. nat_lt (bit_or a x) 16) 16 b (below-sixteen a l) m)
+not-below : (n : ℕ) → 256 ≤ n → nat_lt n 256 ≡ false
+not-below n big = grind (arith, big)
+
+pub told-none : (n : ℕ) → 256 ≤ n → byte_told n ≡ None
+told-none n big = ap (λ b. cond b (Some n) None) (not-below n big)
+
+-- what two digits give together
+pub both_told : (first second : Option ℕ) → is_small first ≡ true → is_small second ≡ true → byte_told (bit_or (weighed 16 first) (weighed 1 second)) ≡ pair_value first second
+both_told None second a b = told-none (bit_or 256 (weighed 1 second)) (le_or_l 256 (weighed 1 second))
+both_told (Some v) None a b = told-none (bit_or (16 * v) 256) (le_or_r (16 * v) 256)
+both_told (Some v) (Some w) a b =
+    let high : v < 16 = ltb-lt v 16 a in
+    let low : w < 16 = ltb-lt w 16 b in
+    let turned : 16 * v ≡ v * 2 ^ 4 = omega arith in
+    let plain : 1 * w ≡ w = omega arith in
+    let sum : bit_or (16 * v) (1 * w) ≡ 16 * v + w =
+        ap (λ x. bit_or x (1 * w)) turned ∙ ap (bit_or (v * 2 ^ 4)) plain ∙ or_shifted v 4 w low ∙ ap (λ x. x + w) (sym turned) in
+    ap byte_told sum ∙ told-some (16 * v + w) (omega (arith, high, low))

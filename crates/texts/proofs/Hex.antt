@@ -4,9 +4,9 @@ use Rattle.std.specs.Bool.{◌==◌}
 use Rattle.std.specs.Option.{option_map}
 use Rattle.std.proofs.lemmas.List.{take_rest}
 use Rattle.std.proofs.lemmas.Bool.{cases_lt}
-use Rattle.std.proofs.lemmas.Nat.{le_or_l, le_or_r}
-use Rattle.texts.specs.Words.{hex_read, hex_digit, pair_value, onto, value_told}
-use Rattle.texts.proofs.Digits.{or_below}
+use Rattle.std.proofs.lemmas.Nat.{le_or_l, le_or_r, or_of_8}
+use Rattle.texts.specs.Words.{byte_told, hex_read, hex_digit, pair_value, onto}
+use Rattle.texts.proofs.Digits.{told-none, told-some}
 
 -- no bytes before those that are read
 pub behind-nothing : {A : Type 0} (told : Option (List A)) → option_map (λ bs. [] ++ bs) told ≡ told
@@ -28,52 +28,27 @@ hex_turn word out (a ∷ []) b long is same = absurd (omega arith)
 hex_turn word out (a ∷ d ∷ cs) b long is same =
     ap (λ r. option_map (λ bs. (out ++ b ∷ []) ++ bs) (hex_read r)) (take_rest (a ∷ d ∷ cs) 2) ∙ onto-behind out b (pair_value (hex_digit a) (hex_digit d)) (hex_read cs) is ∙ same
 
--- two values of digits, and the bits of all values so far
-told-some : (n : ℕ) (digit : Option ℕ) → value_told n ≡ digit → n < 16 → digit ≡ Some n
-told-some n digit is low = sym is ∙ ap (λ b. cond b (Some n) None) (lt-ltb n 16 low)
-
-not-below : (n : ℕ) → 16 ≤ n → nat_lt n 16 ≡ false
-not-below n big = grind (arith, big)
-
-told-none : (n : ℕ) (digit : Option ℕ) → value_told n ≡ digit → 16 ≤ n → digit ≡ None
-told-none n digit is big = sym is ∙ ap (λ b. cond b (Some n) None) (not-below n big)
-
-no-low : (high : Option ℕ) → pair_value high None ≡ None
-no-low None = refl
-no-low (Some n) = refl
-
 hex-none : (rest : List ℕ) → 2 ≤ length rest → pair_value (hex_digit (get_or rest 0 0)) (hex_digit (get_or rest 1 0)) ≡ None → hex_read rest ≡ None
 hex-none [] long is = absurd (omega arith)
 hex-none (a ∷ []) long is = absurd (omega arith)
 hex-none (a ∷ d ∷ cs) long is = ap (λ told. onto told (hex_read cs)) is
 
-module _ (word out rest : List ℕ) (bits high low byte : ℕ) (long : 2 ≤ length rest)
-    (is-high : value_told high ≡ hex_digit (get_or rest 0 0)) (is-low : value_told low ≡ hex_digit (get_or rest 1 0)) (joined : high < 16 → low < 16 → byte ≡ 16 * high + low)
-    (well : bits < 16 → option_map (λ bs. out ++ bs) (hex_read rest) ≡ hex_read word) where
-  pub hex_well : bit_or bits (bit_or high low) < 16 → option_map (λ bs. (out ++ byte ∷ []) ++ bs) (hex_read (take (length rest - 2) (drop 2 rest))) ≡ hex_read word
+-- what a byte is told to be, and the bits of all of them so far
+module _ (word out rest : List ℕ) (bits told byte : ℕ) (long : 2 ≤ length rest)
+    (is : byte_told told ≡ pair_value (hex_digit (get_or rest 0 0)) (hex_digit (get_or rest 1 0))) (cast : told < 256 → byte ≡ told)
+    (well : bits < 256 → option_map (λ bs. out ++ bs) (hex_read rest) ≡ hex_read word) where
+  pub hex_well : bit_or bits told < 256 → option_map (λ bs. (out ++ byte ∷ []) ++ bs) (hex_read (take (length rest - 2) (drop 2 rest))) ≡ hex_read word
   hex_well few =
-      let before : bits < 16 = omega (arith, few, le_or_l bits (bit_or high low)) in
-      let both : bit_or high low < 16 = omega (arith, few, le_or_r bits (bit_or high low)) in
-      let first : high < 16 = omega (arith, both, le_or_l high low) in
-      let second : low < 16 = omega (arith, both, le_or_r high low) in
-      hex_turn word out rest byte long (
-      ap (λ told. pair_value told (hex_digit (get_or rest 1 0))) (told-some high (hex_digit (get_or rest 0 0)) is-high first)
-      ∙ ap (pair_value (Some high)) (told-some low (hex_digit (get_or rest 1 0)) is-low second)
-      ∙ ap Some (sym (joined first second)))
-      (well before)
+      let before : bits < 256 = omega (arith, few, le_or_l bits told) in
+      let low : told < 256 = omega (arith, few, le_or_r bits told) in
+      hex_turn word out rest byte long (sym is ∙ told-some told low ∙ ap Some (sym (cast low))) (well before)
 
-  stopped : bits < 16 → pair_value (hex_digit (get_or rest 0 0)) (hex_digit (get_or rest 1 0)) ≡ None → hex_read word ≡ None
-  stopped few is = sym (well few) ∙ ap (option_map (λ bs. out ++ bs)) (hex-none rest long is)
-
-  pub hex_ill : (16 ≤ bits → hex_read word ≡ None) → 16 ≤ bit_or bits (bit_or high low) → hex_read word ≡ None
+  pub hex_ill : (256 ≤ bits → hex_read word ≡ None) → 256 ≤ bit_or bits told → hex_read word ≡ None
   hex_ill ill many =
-      elim (cases_lt bits 16) [
-        | inl few ↦ elim (cases_lt high 16) [
-          | inl first ↦ elim (cases_lt low 16) [
-            | inl second ↦ absurd (omega (arith, many, or_below bits (bit_or high low) few (or_below high low first second)))
-            | inr big ↦ stopped few (ap (pair_value (hex_digit (get_or rest 0 0))) (told-none low (hex_digit (get_or rest 1 0)) is-low big) ∙ no-low (hex_digit (get_or rest 0 0)))
-          ]
-          | inr big ↦ stopped few (ap (λ told. pair_value told (hex_digit (get_or rest 1 0))) (told-none high (hex_digit (get_or rest 0 0)) is-high big))
+      elim (cases_lt bits 256) [
+        | inl few ↦ elim (cases_lt told 256) [
+          | inl low ↦ absurd (omega (arith, many, or_of_8 bits told few low))
+          | inr big ↦ sym (well few) ∙ ap (option_map (λ bs. out ++ bs)) (hex-none rest long (sym is ∙ told-none told big))
         ]
         | inr big ↦ ill big
       ]

@@ -11,9 +11,14 @@ lower_digit c = cond (is_ascii_digit c) (Some (c - 48)) (cond (nat_le 97 c && na
 abbrev pub hex_digit : ℕ → Option ℕ
 hex_digit c = cond (nat_le 65 c && nat_le c 70) (Some (c - 55)) (lower_digit c)
 
--- what a number tells of a digit: its value, or that it is none
-abbrev pub value_told : ℕ → Option ℕ
-value_told value = cond (nat_lt value 16) (Some value) None
+-- so many times the value of a digit, or 256 where there is none
+abbrev pub weighed : ℕ → Option ℕ → ℕ
+weighed weight None = 256
+weighed weight (Some value) = weight * value
+
+-- what a number tells of a byte: its value, or that there is none
+abbrev pub byte_told : ℕ → Option ℕ
+byte_told value = cond (nat_lt value 256) (Some value) None
 
 -- two digits as one byte
 abbrev pub pair_value : Option ℕ → Option ℕ → Option ℕ

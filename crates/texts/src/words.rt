@@ -2,7 +2,7 @@
 
 ghost use Rattle.std.specs.Option.{option_map};
 ghost use Rattle.std.specs.Prelude.{◌≡◌, ◌<◌, ◌+◌, ◌*◌, ◌/◌, None, Some, false, length, true, vec_items, is_some, IfErr, IfOk, IfSome, IsSome};
-ghost use Rattle.texts.specs.Words.{byte_read, content_read, hex_digit, hex_read, is_hidden, is_visible, lower_digit, pair_value, value_told};
+ghost use Rattle.texts.specs.Words.{byte_read, byte_told, content_read, hex_digit, hex_read, is_hidden, is_visible, lower_digit, pair_value, weighed};
 
 use std::alloc::{AllocError, Global};
 
@@ -18,43 +18,70 @@ pub fn lower_digit(digit: u8) -> Option<u8>
     }
 }
 
-/// The value of each byte that is a hexadecimal digit of either case; 255 of one that isn't.
-const DIGITS: [u8; 256] = [
-    255, 255, 255, 255, 255, 255, 255, 255, 255, 255, 255, 255, 255, 255, 255, 255, 255, 255, 255,
-    255, 255, 255, 255, 255, 255, 255, 255, 255, 255, 255, 255, 255, 255, 255, 255, 255, 255, 255,
-    255, 255, 255, 255, 255, 255, 255, 255, 255, 255, 0, 1, 2, 3, 4, 5, 6, 7, 8, 9, 255, 255, 255,
-    255, 255, 255, 255, 10, 11, 12, 13, 14, 15, 255, 255, 255, 255, 255, 255, 255, 255, 255, 255,
-    255, 255, 255, 255, 255, 255, 255, 255, 255, 255, 255, 255, 255, 255, 255, 255, 10, 11, 12, 13,
-    14, 15, 255, 255, 255, 255, 255, 255, 255, 255, 255, 255, 255, 255, 255, 255, 255, 255, 255,
-    255, 255, 255, 255, 255, 255, 255, 255, 255, 255, 255, 255, 255, 255, 255, 255, 255, 255, 255,
-    255, 255, 255, 255, 255, 255, 255, 255, 255, 255, 255, 255, 255, 255, 255, 255, 255, 255, 255,
-    255, 255, 255, 255, 255, 255, 255, 255, 255, 255, 255, 255, 255, 255, 255, 255, 255, 255, 255,
-    255, 255, 255, 255, 255, 255, 255, 255, 255, 255, 255, 255, 255, 255, 255, 255, 255, 255, 255,
-    255, 255, 255, 255, 255, 255, 255, 255, 255, 255, 255, 255, 255, 255, 255, 255, 255, 255, 255,
-    255, 255, 255, 255, 255, 255, 255, 255, 255, 255, 255, 255, 255, 255, 255, 255, 255, 255, 255,
-    255, 255, 255, 255, 255, 255, 255, 255, 255, 255, 255, 255, 255, 255, 255, 255, 255, 255, 255,
-    255, 255, 255,
+/// Sixteen times the value of each byte that is a hexadecimal digit of either case; 256 of one that isn't.
+const FIRST: [u16; 256] = [
+    256, 256, 256, 256, 256, 256, 256, 256, 256, 256, 256, 256, 256, 256, 256, 256, 256, 256, 256,
+    256, 256, 256, 256, 256, 256, 256, 256, 256, 256, 256, 256, 256, 256, 256, 256, 256, 256, 256,
+    256, 256, 256, 256, 256, 256, 256, 256, 256, 256, 0, 16, 32, 48, 64, 80, 96, 112, 128, 144, 256,
+    256, 256, 256, 256, 256, 256, 160, 176, 192, 208, 224, 240, 256, 256, 256, 256, 256, 256, 256,
+    256, 256, 256, 256, 256, 256, 256, 256, 256, 256, 256, 256, 256, 256, 256, 256, 256, 256, 256,
+    160, 176, 192, 208, 224, 240, 256, 256, 256, 256, 256, 256, 256, 256, 256, 256, 256, 256, 256,
+    256, 256, 256, 256, 256, 256, 256, 256, 256, 256, 256, 256, 256, 256, 256, 256, 256, 256, 256,
+    256, 256, 256, 256, 256, 256, 256, 256, 256, 256, 256, 256, 256, 256, 256, 256, 256, 256, 256,
+    256, 256, 256, 256, 256, 256, 256, 256, 256, 256, 256, 256, 256, 256, 256, 256, 256, 256, 256,
+    256, 256, 256, 256, 256, 256, 256, 256, 256, 256, 256, 256, 256, 256, 256, 256, 256, 256, 256,
+    256, 256, 256, 256, 256, 256, 256, 256, 256, 256, 256, 256, 256, 256, 256, 256, 256, 256, 256,
+    256, 256, 256, 256, 256, 256, 256, 256, 256, 256, 256, 256, 256, 256, 256, 256, 256, 256, 256,
+    256, 256, 256, 256, 256, 256, 256, 256, 256, 256, 256, 256, 256, 256, 256, 256, 256, 256, 256,
+    256, 256, 256, 256, 256, 256, 256,
 ];
 
-/// The value of a hexadecimal digit of either case, or 255 of a byte that is none.
-fn digit_value(digit: u8) -> u8
-    ensures { value_told result ≡ hex_digit digit }
+/// The value of each byte that is a hexadecimal digit of either case; 256 of one that isn't.
+const SECOND: [u16; 256] = [
+    256, 256, 256, 256, 256, 256, 256, 256, 256, 256, 256, 256, 256, 256, 256, 256, 256, 256, 256,
+    256, 256, 256, 256, 256, 256, 256, 256, 256, 256, 256, 256, 256, 256, 256, 256, 256, 256, 256,
+    256, 256, 256, 256, 256, 256, 256, 256, 256, 256, 0, 1, 2, 3, 4, 5, 6, 7, 8, 9, 256, 256, 256,
+    256, 256, 256, 256, 10, 11, 12, 13, 14, 15, 256, 256, 256, 256, 256, 256, 256, 256, 256, 256,
+    256, 256, 256, 256, 256, 256, 256, 256, 256, 256, 256, 256, 256, 256, 256, 256, 10, 11, 12, 13,
+    14, 15, 256, 256, 256, 256, 256, 256, 256, 256, 256, 256, 256, 256, 256, 256, 256, 256, 256,
+    256, 256, 256, 256, 256, 256, 256, 256, 256, 256, 256, 256, 256, 256, 256, 256, 256, 256, 256,
+    256, 256, 256, 256, 256, 256, 256, 256, 256, 256, 256, 256, 256, 256, 256, 256, 256, 256, 256,
+    256, 256, 256, 256, 256, 256, 256, 256, 256, 256, 256, 256, 256, 256, 256, 256, 256, 256, 256,
+    256, 256, 256, 256, 256, 256, 256, 256, 256, 256, 256, 256, 256, 256, 256, 256, 256, 256, 256,
+    256, 256, 256, 256, 256, 256, 256, 256, 256, 256, 256, 256, 256, 256, 256, 256, 256, 256, 256,
+    256, 256, 256, 256, 256, 256, 256, 256, 256, 256, 256, 256, 256, 256, 256, 256, 256, 256, 256,
+    256, 256, 256, 256, 256, 256, 256, 256, 256, 256, 256, 256, 256, 256, 256, 256, 256, 256, 256,
+    256, 256, 256,
+];
+
+/// What a byte gives as the first digit of two.
+fn first_value(digit: u8) -> u16
+    ensures { result ≡ weighed 16 (hex_digit digit) }
 {
     // A table takes a fifteenth of the time of comparisons, which no processor foresees.
-    DIGITS[usize::from(digit)]
+    FIRST[usize::from(digit)]
+}
+
+/// What a byte gives as the second digit of two.
+fn second_value(digit: u8) -> u16
+    ensures { result ≡ weighed 1 (hex_digit digit) }
+{
+    SECOND[usize::from(digit)]
+}
+
+/// The byte of two hexadecimal digits, or 256 or more where one of them is none.
+fn told_pair(high: u8, low: u8) -> u16
+    ensures { byte_told result ≡ pair_value (hex_digit high) (hex_digit low) }
+{
+    first_value(high) | second_value(low)
 }
 
 /// The byte of two hexadecimal digits.
 fn pair(high: u8, low: u8) -> Option<u8>
     ensures { result ≡ pair_value (hex_digit high) (hex_digit low) }
 {
-    let high_value = digit_value(high);
-    let low_value = digit_value(low);
-    if high_value < 16 && low_value < 16 {
-        Some(16 * high_value + low_value)
-    } else {
-        None
-    }
+    let told = told_pair(high, low);
+    if told < 256 { Some(told as u8) } else { None }
 }
 
 /// A byte in two hexadecimal digits.
@@ -92,13 +119,6 @@ pub fn is_content(word: &[u8]) -> bool
     }
 }
 
-/// The byte of two values of digits.
-fn joined(high: u8, low: u8) -> u8
-    ensures { high < 16 → low < 16 → result ≡ 16 * high + low }
-{
-    high.wrapping_mul(16).wrapping_add(low)
-}
-
 /// Fills a buffer of half as many bytes as a word has with those that it spells in two hexadecimal digits each, and says
 /// whether it spells bytes.
 fn fill_hex(buffer: &mut [u8], word: &[u8]) -> bool
@@ -107,18 +127,17 @@ fn fill_hex(buffer: &mut [u8], word: &[u8]) -> bool
     ensures none { result ≡ false → hex_read word.now ≡ None }
 {
     let mut filled = 0;
-    // The bits of all values together, 16 or more once a byte was no digit. A way out of the loop at each byte takes longer.
-    let mut bits: u8 = 0;
+    // The bits of all bytes together, 256 or more once there was no digit. A way out of the loop at each byte takes longer.
+    let mut bits: u16 = 0;
     let mut rest = word;
     while let [high, low, more @ ..] = rest {
-        let high_value = digit_value(*high);
-        let low_value = digit_value(*low);
-        bits |= high_value | low_value;
-        buffer[filled] = joined(high_value, low_value);
+        let told = told_pair(*high, *low);
+        bits |= told;
+        buffer[filled] = (told % 256) as u8;
         filled += 1;
         rest = more;
     }
-    if bits >= 16 {
+    if bits >= 256 {
         return false;
     }
     rest.is_empty()

@@ -1,4 +1,4 @@
-use Rattle.std.proofs.Common.{◌≡◌, ◌+◌, ◌-◌, ◌<◌, ◌++◌, ℕ, List, length, take, drop, ◌∙◌, ap, arith}
+use Rattle.std.proofs.Common.{◌≡◌, ◌+◌, ◌-◌, ◌<◌, ◌%◌, ◌++◌, ℕ, List, length, take, drop, ◌∙◌, ap, arith}
 use Rattle.std.proofs.lemmas.List.{length-drop, length-set, length-take, take_more_set}
 use Rattle.std.specs.Option.{option_map}
 use Rattle.texts.proofs.Hex.{behind-nothing, hex_ill, hex_well}
@@ -21,13 +21,14 @@ loop-rest-preserved c =
     let room : n < length buffer = omega (arith, c.loop-rest.invariant.room, c.in-len2-up.len_at_least) in
     let more : List ℕ = take (length rest - 2) (drop 2 rest) in
     let behind : length more ≡ length rest - 2 = omega (arith, length-take (length rest - 2) (drop 2 rest), length-drop 2 rest) in
+    let cast : c.told_pair-told.result < 256 → c.told_pair-told.result % 256 ≡ c.told_pair-told.result = λ low. grind (arith, low) in
     record {
-      room = omega (arith, c.loop-rest.invariant.room, behind, long, length-set buffer n c.joined.result);
+      room = omega (arith, c.loop-rest.invariant.room, behind, long, length-set buffer n (c.told_pair-told.result % 256));
       well = λ few.
-          ap (λ xs. option_map (λ bs. xs ++ bs) (hex_read more)) (take_more_set buffer n c.joined.result room)
-          ∙ hex_well c.args.word.now (take n buffer) rest c.loop-rest.bits c.digit_value-high_value.result c.digit_value-low_value.result c.joined.result c.in-len2-up.len_at_least
-          c.digit_value-high_value.ensures c.digit_value-low_value.ensures c.joined.ensures c.loop-rest.invariant.well few;
+          ap (λ xs. option_map (λ bs. xs ++ bs) (hex_read more)) (take_more_set buffer n (c.told_pair-told.result % 256) room)
+          ∙ hex_well c.args.word.now (take n buffer) rest c.loop-rest.bits c.told_pair-told.result (c.told_pair-told.result % 256) c.in-len2-up.len_at_least
+          c.told_pair-told.ensures cast c.loop-rest.invariant.well few;
       ill = λ many.
-          hex_ill c.args.word.now (take n buffer) rest c.loop-rest.bits c.digit_value-high_value.result c.digit_value-low_value.result c.joined.result c.in-len2-up.len_at_least
-          c.digit_value-high_value.ensures c.digit_value-low_value.ensures c.joined.ensures c.loop-rest.invariant.well c.loop-rest.invariant.ill many;
+          hex_ill c.args.word.now (take n buffer) rest c.loop-rest.bits c.told_pair-told.result (c.told_pair-told.result % 256) c.in-len2-up.len_at_least
+          c.told_pair-told.ensures cast c.loop-rest.invariant.well c.loop-rest.invariant.ill many;
     }

@@ -6,8 +6,8 @@ use Rattle.texts.proofs.words.fill_hex.Given as goal
 abbrev pub invariant-loop-rest : goal.invariant-loop-rest
 invariant-loop-rest l = record {
   room : l.filled + length l.rest / 2 ≡ length l.buffer;
-  well : l.bits < 16 → option_map (λ bs. take l.filled l.buffer ++ bs) (hex_read l.rest) ≡ hex_read l.word;
-  ill : 16 ≤ l.bits → hex_read l.word ≡ None;
+  well : l.bits < 256 → option_map (λ bs. take l.filled l.buffer ++ bs) (hex_read l.rest) ≡ hex_read l.word;
+  ill : 256 ≤ l.bits → hex_read l.word ≡ None;
 }
 
 abbrev pub decreases-loop-rest : goal.decreases-loop-rest
