@@ -1,5 +1,5 @@
 -- The tables of hexadecimal digits.
-use Rattle.std.proofs.Common.{◌≡◌, ◌<◌, ◌≤◌, ◌+◌, ◌*◌, ◌^◌, ◌++◌, ℕ, zero, suc, List, [], ◌∷◌, replicate, Bool, true, false, cond, nat_eq, nat_lt, bit_or, Option, Some, None, slice_index_or, refl, ap, sym, subst, ◌∙◌, arith, lt-ltb, rules}
+use Rattle.std.proofs.Common.{◌≡◌, ◌<◌, ◌≤◌, ◌+◌, ◌*◌, ◌^◌, ◌++◌, ℕ, zero, suc, List, [], ◌∷◌, replicate, Bool, true, false, cond, nat_eq, nat_lt, bit_or, Option, Some, None, slice_index_or, refl, ap, sym, ◌∙◌, arith, lt-ltb, rules}
 use Rattle.std.proofs.lemmas.Nat.{le_or_l, le_or_r, or_shifted}
 use Rattle.texts.specs.Words.{byte_told, hex_digit, pair_value, weighed}
 
@@ -68,5 +68,5 @@ both_told (Some v) (Some w) a b =
     let turned : 16 * v ≡ v * 2 ^ 4 = omega arith in
     let plain : 1 * w ≡ w = omega arith in
     let sum : bit_or (16 * v) (1 * w) ≡ 16 * v + w =
-        ap (λ x. bit_or x (1 * w)) turned ∙ ap (bit_or (v * 2 ^ 4)) plain ∙ or_shifted v 4 w low ∙ ap (λ x. x + w) (sym turned) in
+    ap (λ x. bit_or x (1 * w)) turned ∙ ap (bit_or (v * 2 ^ 4)) plain ∙ or_shifted v 4 w low ∙ ap (λ x. x + w) (sym turned) in
     ap byte_told sum ∙ told-some (16 * v + w) (omega (arith, high, low))

@@ -1,5 +1,5 @@
 -- Bytes in hexadecimal.
-use Rattle.std.proofs.Common.{◌≡◌, ◌≤◌, ◌<◌, ◌-◌, ◌++◌, ℕ, List, [], ◌∷◌, Bool, Option, Some, None, true, false, is_some, length, get_or, take, drop, sym, ap, ◌∙◌, arith, append_assoc, refl, inl, inr, rules, ◌+◌, ◌*◌, cond, nat_lt, lt-ltb, bit_or}
+use Rattle.std.proofs.Common.{◌≡◌, ◌≤◌, ◌<◌, ◌-◌, ◌++◌, ℕ, List, [], ◌∷◌, Bool, Option, Some, None, true, false, is_some, length, get_or, take, drop, sym, ap, ◌∙◌, arith, append_assoc, refl, inl, inr, rules, bit_or}
 use Rattle.std.specs.Bool.{◌==◌}
 use Rattle.std.specs.Option.{option_map}
 use Rattle.std.proofs.lemmas.List.{take_rest}

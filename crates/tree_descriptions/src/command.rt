@@ -3,11 +3,12 @@
 ghost use Rattle.tree_descriptions.specs.Commands.{fill_read, line_read, storage_read, stream_of, stream_read};
 ghost use Rattle.std.specs.Prelude.{◌≡◌, IfErr, IfOk, IsSome, is_some};
 ghost use Rattle.texts.specs.Paths.{path_read};
+ghost use Rattle.text_words.specs.Words.{words};
 ghost use Rattle.texts.specs.Words.{content_read};
 
 use std::alloc::{AllocError, Global};
 use stored_values::bytes::Bytes;
-use text_words::words::{Pieces, number};
+use text_words::words::{Pieces, cut, number};
 use texts::path::{Path, is_path};
 use texts::words::{byte, content, is_content};
 
@@ -28,16 +29,16 @@ impl Command {
         ensures read { IfOk result (λ command. command ≡ line_read line.now) }
         ensures within { IfErr result (λ _. IsSome (line_read line.now)) }
     {
-        let mut words = Pieces::new(line, b' ');
-        let Some(name) = words.next_piece() else {
+        // Each command has words behind its name.
+        let (name, Some(rest)) = cut(line, b' ') else {
             return Ok(None);
         };
-        if name == b"storage".as_slice() {
-            storage(alloc, words)
-        } else if name == b"stream".as_slice() {
-            stream(alloc, words)
+        if name == b"stream".as_slice() {
+            stream(alloc, rest)
+        } else if name == b"storage".as_slice() {
+            storage(alloc, Pieces::new(rest, b' '))
         } else if name == b"fill".as_slice() {
-            fill(alloc, words)
+            fill(alloc, Pieces::new(rest, b' '))
         } else {
             Ok(None)
         }
@@ -70,20 +71,25 @@ fn storage(alloc: Global, mut words: Pieces<'_>) -> Result<Option<Command>, Allo
 }
 
 /// The stream that the words behind `stream` ask for.
-fn stream(alloc: Global, mut words: Pieces<'_>) -> Result<Option<Command>, AllocError>
-    ensures read { IfOk result (λ command. command ≡ stream_read words.entry) }
-    ensures within { IfErr result (λ _. IsSome (stream_read words.entry)) }
+fn stream(alloc: Global, rest: &[u8]) -> Result<Option<Command>, AllocError>
+    ensures read { IfOk result (λ command. command ≡ stream_read (words rest.now)) }
+    ensures within { IfErr result (λ _. IsSome (stream_read (words rest.now))) }
 {
-    let (Some(path), Some(bytes), None) = (
-        words.next_piece(),
-        words.next_piece(),
-        words.next_piece(),
-    ) else {
-        return Ok(None);
-    };
+    // What stands behind the path isn't looked through for a space, as it would spell no bytes with one.
+    let (path, behind) = cut(rest, b' ');
+    match behind {
+        Some(bytes) => stream_of(alloc, path, bytes),
+        None => Ok(None),
+    }
+}
+
+/// The stream of a path and of bytes that are spelled so. Want of memory is told of words that ask for one.
+fn stream_of(alloc: Global, path: &[u8], bytes: &[u8]) -> Result<Option<Command>, AllocError>
+    ensures read { IfOk result (λ command. command ≡ stream_of (path_read path.now) (content_read bytes.now)) }
+    ensures within { IfErr result (λ _. IsSome (stream_of (path_read path.now) (content_read bytes.now))) }
+{
     match stream_at(alloc, path, bytes) {
         Ok(command) => Ok(command),
-        // Memory is told to lack only for words that ask for something.
         Err(_) => {
             if !is_path(path) {
                 return Ok(None);
@@ -96,7 +102,7 @@ fn stream(alloc: Global, mut words: Pieces<'_>) -> Result<Option<Command>, Alloc
     }
 }
 
-/// The stream of a path and of bytes that are spelled so.
+/// The same, where want of memory may be told of others too.
 fn stream_at(alloc: Global, path: &[u8], bytes: &[u8]) -> Result<Option<Command>, AllocError>
     ensures { IfOk result (λ command. command ≡ stream_of (path_read path.now) (content_read bytes.now)) }
 {
