@@ -14,7 +14,9 @@ fn write_u16(bytes: &mut [u8], at: usize, n: u16)
     requires { at + 2 ≤ length bytes.old }
     ensures { bytes.new ≡ take at bytes.old ++ to_le_bytes w16 n ++ drop (at + 2) bytes.old }
 {
-    bytes[at..at + 2].copy_from_slice(&n.to_le_bytes());
+    let number = n.to_le_bytes();
+    bytes[at] = number[0];
+    bytes[at + 1] = number[1];
 }
 
 /// Writes a number into the four bytes at a place.
@@ -22,7 +24,11 @@ fn write_u32(bytes: &mut [u8], at: usize, n: u32)
     requires { at + 4 ≤ length bytes.old }
     ensures { bytes.new ≡ take at bytes.old ++ to_le_bytes w32 n ++ drop (at + 4) bytes.old }
 {
-    bytes[at..at + 4].copy_from_slice(&n.to_le_bytes());
+    let number = n.to_le_bytes();
+    bytes[at] = number[0];
+    bytes[at + 1] = number[1];
+    bytes[at + 2] = number[2];
+    bytes[at + 3] = number[3];
 }
 
 /// The number that stands for a kind.
