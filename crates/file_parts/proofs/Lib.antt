@@ -1,6 +1,7 @@
 pub mod Children
 pub mod Denoted
 pub mod Lists
+pub mod Numbers
 pub mod Sent
 pub mod Zeros
 pub mod Led

@@ -1,7 +1,5 @@
 -- What goes on its way to a writer, piece by piece.
-use Rattle.std.proofs.Common.{◌≡◌, ◌<◌, ◌≤◌, ◌+◌, ◌*◌, ◌∙◌, ℕ, List, Option, [], ◌∷◌, ◌++◌, add-one, ap, append_assoc, arith, drop, drop_of_length-le, get_or, length, refl, subst, sym}
-use Rattle.std.proofs.Math.Seq.{drop-cons}
-use Rattle.std.specs.Int.{to_le_bytes, w32}
+use Rattle.std.proofs.Common.{◌≡◌, ◌≤◌, ◌*◌, ◌∙◌, ℕ, List, Option, [], ◌∷◌, ◌++◌, ap, append_assoc, arith, drop, drop_of_length-le, length, refl, subst, sym}
 use Rattle.std.proofs.lemmas.List.{append-nil}
 use Rattle.std.proofs.KnownBytes.{Appends-nil, Appends-trans}
 use Rattle.std.specs.Io.KnownBytes.{Appends}
@@ -77,14 +75,6 @@ pub no_longs : (t : Tree) (longs : ℕ) → longs ≡ long_sectors t → longs �
 no_longs t longs counted none =
     let whole : length (whole_pieces 512 (long_streams t)) ≡ 512 * sum (pieces_of 512 (long_streams t)) = length-whole 512 width-512 (long_streams t) in
     no_bytes (whole_pieces 512 (long_streams t)) (omega (arith, whole, longs-sum t, counted, none))
-
--- one more number is sent
-pub numbers_more : (numbers : List ℕ) (k : ℕ) (sent more whole : List ℕ) → k < length numbers → more ≡ to_le_bytes w32 (get_or numbers k 0)
-    → sent ++ numbers_bytes (drop k numbers) ≡ whole → (sent ++ more) ++ numbers_bytes (drop (k + 1) numbers) ≡ whole
-numbers_more numbers k sent more whole some is h =
-    let here : drop k numbers ≡ get_or numbers k 0 ∷ drop (k + 1) numbers = rw (add-one, drop-cons numbers k 0) refl in
-    append_assoc sent more (numbers_bytes (drop (k + 1) numbers)) ∙ (λ i. sent ++ (is i ++ numbers_bytes (drop (k + 1) numbers)))
-    ∙ ap (λ ns. sent ++ numbers_bytes ns) (sym here) ∙ h
 
 -- all numbers were sent
 pub numbers_sent : (numbers : List ℕ) (k : ℕ) (sent whole : List ℕ) → length numbers ≤ k → sent ++ numbers_bytes (drop k numbers) ≡ whole → sent ≡ whole

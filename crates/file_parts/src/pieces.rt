@@ -4,8 +4,9 @@ ghost use Rattle.file_parts.specs.Sends.{Sends};
 ghost use Rattle.std.specs.Int.{to_le_bytes, w32};
 ghost use Rattle.std.specs.Io.KnownBytes.{Appends};
 ghost use Rattle.std.specs.List.{flat_map};
-ghost use Rattle.std.specs.Prelude.{[], ◌<◌, ◌≡◌, OnOk, replicate};
+ghost use Rattle.std.specs.Prelude.{[], ◌+◌, ◌++◌, ◌<◌, ◌≡◌, ◌≤◌, OnOk, drop, length, replicate, take};
 
+use std::alloc::AllocError;
 use std::io::{self, Write};
 
 /// How many bytes are written at once: where as many wait, they are written before more join them.
@@ -13,6 +14,9 @@ const PIECE: usize = 65536;
 
 /// Room for all that may wait, of which the last bytes are fewer than a piece.
 pub const ROOM: usize = 2 * PIECE;
+
+/// How many numbers are put into bytes at once.
+const NUMBERS: usize = 64;
 
 /// Writes bytes.
 fn write<W: Write>(writer: &mut W, bytes: &[u8]) -> io::Result<()>
@@ -49,8 +53,7 @@ pub fn make_room<W: Write>(writer: &mut W, waiting: &mut Vec<u8>) -> io::Result<
     if waiting.len() < PIECE {
         return Ok(());
     }
-    write_waiting(writer, waiting)?;
-    Ok(())
+    write_waiting(writer, waiting)
 }
 
 /// Lets bytes wait behind others, or writes them all where they are a piece or more.
@@ -80,6 +83,57 @@ pub fn send_zeros<W: Write>(writer: &mut W, waiting: &mut Vec<u8>, count: usize)
     Ok(())
 }
 
+/// Adds bytes and zeros behind them.
+fn push_padded(waiting: &mut Vec<u8>, bytes: &[u8], count: usize) -> Result<(), AllocError>
+    requires { count < 64 }
+    ensures { OnOk result (waiting.new.items ≡ waiting.old.items ++ (bytes.now ++ replicate count 0)) }
+{
+    let zeros = [0; 64];
+    waiting.extend_from_slice(bytes)?;
+    waiting.extend_from_slice(&zeros[..count])?;
+    Ok(())
+}
+
+/// Lets bytes wait, of which there are few, and a few zeros behind them.
+pub fn send_padded<W: Write>(
+    writer: &mut W,
+    waiting: &mut Vec<u8>,
+    bytes: &[u8],
+    count: usize,
+) -> io::Result<()>
+    requires { count < 64 }
+    ensures { OnOk result (Sends (W.contents writer.old) (W.contents writer.new) waiting.old.items waiting.new.items (bytes.now ++ replicate count 0)) }
+{
+    make_room(writer, waiting)?;
+    push_padded(waiting, bytes, count)?;
+    Ok(())
+}
+
+/// Writes a number into the four bytes at a place.
+fn write_number(bytes: &mut [u8], at: usize, n: u32)
+    requires { at + 4 ≤ length bytes.old }
+    ensures { bytes.new ≡ take at bytes.old ++ to_le_bytes w32 n ++ drop (at + 4) bytes.old }
+{
+    let number = n.to_le_bytes();
+    bytes[at] = number[0];
+    bytes[at + 1] = number[1];
+    bytes[at + 2] = number[2];
+    bytes[at + 3] = number[3];
+}
+
+/// Adds as many numbers as are sent at once, or fewer.
+fn push_numbers(waiting: &mut Vec<u8>, numbers: &[u32]) -> Result<(), AllocError>
+    requires { length numbers.now ≤ 64 }
+    ensures { OnOk result (waiting.new.items ≡ waiting.old.items ++ flat_map (to_le_bytes w32) numbers.now) }
+{
+    let mut bytes = [0; 256];
+    for k in 0..numbers.len() {
+        write_number(&mut bytes, 4 * k, numbers[k]);
+    }
+    waiting.extend_from_slice(&bytes[..4 * numbers.len()])?;
+    Ok(())
+}
+
 /// Sends numbers, each in four bytes, least byte first.
 pub fn send_numbers<W: Write>(
     writer: &mut W,
@@ -88,9 +142,12 @@ pub fn send_numbers<W: Write>(
 ) -> io::Result<()>
     ensures { OnOk result (Sends (W.contents writer.old) (W.contents writer.new) waiting.old.items waiting.new.items (flat_map (to_le_bytes w32) numbers.now)) }
 {
-    for n in numbers {
+    let mut at = 0;
+    while at < numbers.len() {
+        let end = (at + NUMBERS).min(numbers.len());
         make_room(writer, waiting)?;
-        waiting.extend_from_slice(&n.to_le_bytes())?;
+        push_numbers(waiting, &numbers[at..end])?;
+        at = end;
     }
     Ok(())
 }
