@@ -14,7 +14,7 @@ ghost use Rattle.storage_nodes.specs.View.{seen, view};
 use crate::directory::send_directory;
 use file_parts::counts::Counts;
 use file_parts::front::Front;
-use file_parts::pieces::{finish, send, send_numbers, send_zeros};
+use file_parts::pieces::{finish, send, send_numbers, send_padded, send_zeros};
 use file_parts::streams::{is_short, mini_zeros, sector_zeros};
 use std::io::{self, Write};
 use storage_nodes::storage::{Node, Storage};
@@ -23,9 +23,7 @@ use storage_nodes::storage::{Node, Storage};
 fn send_minis<W: Write>(writer: &mut W, waiting: &mut Vec<u8>, bytes: &[u8]) -> io::Result<()>
     ensures { OnOk result (Sends (W.contents writer.old) (W.contents writer.new) waiting.old.items waiting.new.items (padded 64 bytes.now)) }
 {
-    send(writer, waiting, bytes)?;
-    send_zeros(writer, waiting, mini_zeros(bytes.len()))?;
-    Ok(())
+    send_padded(writer, waiting, bytes, mini_zeros(bytes.len()))
 }
 
 /// Sends the bytes of a stream, with zeros up to whole sectors.
