@@ -1,5 +1,5 @@
 -- Names that are read into the bytes that they are kept in.
-use Rattle.std.proofs.Common.{◌≡◌, ◌<◌, ◌≤◌, ◌+◌, ◌-◌, ◌*◌, ◌/◌, ◌%◌, ℕ, zero, suc, Bool, false, List, [], ◌∷◌, ◌++◌, length, take, drop, get_or, replicate, nat_le, refl, sym, ◌∙◌, ap, subst, arith, ◌||◌}
+use Rattle.std.proofs.Common.{◌≡◌, ◌≢◌, ◌<◌, ◌≤◌, ◌+◌, ◌-◌, ◌*◌, ◌/◌, ◌%◌, ℕ, zero, suc, Bool, false, List, [], ◌∷◌, ◌++◌, length, take, drop, get_or, replicate, nat_le, Result, Ok, Err, IfErr, refl, sym, ◌∙◌, ap, subst, arith, ◌||◌}
 use Rattle.std.proofs.lemmas.Bool.Decides.{nat_tests}
 use Rattle.std.proofs.lemmas.Grind.{get_or_after_one, same_number_lists}
 use Rattle.std.proofs.lemmas.List.{get_or-drop, get_or-replicate, get_or-take, length-drop, length-replicate, length-take-le, take-append-drop}
@@ -7,8 +7,10 @@ use Rattle.std.specs.List.{list_any}
 use Rattle.cfb_bytes.specs.Bytes.{u16_at}
 use Rattle.cfb_names.specs.Names.{IsName, is_forbidden}
 use Rattle.cfb_names.specs.View.{IsHeld, name_held, units_of}
-use Rattle.cfb_directory.specs.Entries.{IsNamed, name_length}
-use Rattle.cfb_directory.proofs.Reading.{chars}
+use Rattle.cfb_names.specs.declared.fault.DirFault.{DirFault}
+use Rattle.cfb_directory.specs.Entries.{IsNamed, MayRefuseEntry, entry_at, name_length}
+use Rattle.cfb_directory.specs.Walk.{MayRefuseName}
+use Rattle.cfb_directory.proofs.Reading.{chars, name_refused}
 
 -- no element passes a test
 none_of : (p : ℕ → Bool) (xs : List ℕ) → ((k : ℕ) → k < length xs → p (get_or xs k 0) ≡ false) → list_any p xs ≡ false
@@ -92,3 +94,9 @@ module _ (entry units : List ℕ) (room : length units ≡ 32) (some : 4 ≤ nam
       let named : IsNamed entry (take count (drop 1 units)) =
       record { even = n; units = chars entry (drop 1 units) tail_room some short (tail_read read) } in
       subst (IsNamed entry) (sym held_is) named
+
+-- a name that is read of an entry's bytes is refused as the entry is
+pub names_refused : {A : Type 0} (directory : List ℕ) (id : ℕ) (entry : List ℕ) (r : Result A DirFault) → id ≢ 0 → entry ≡ entry_at directory id
+    → IfErr r (MayRefuseName entry) → IfErr r (MayRefuseEntry directory id)
+names_refused directory id entry (Ok name) some is h = tt
+names_refused directory id entry (Err fault) some is h = name_refused directory id fault some (subst (λ (xs : List ℕ). MayRefuseName xs fault) is h)

@@ -5,6 +5,7 @@ pub use Rattle.directory_model.proofs.Marks
 pub mod Walk
 pub use Rattle.directory_model.proofs.Reading
 pub mod Kept
+pub mod Characters
 pub use Rattle.directory_model.proofs.Marked
 pub use Rattle.directory_model.proofs.Trees
 pub use Rattle.directory_model.proofs.Inside

@@ -35,7 +35,8 @@ pub(crate) fn entry_bytes(directory: &[u8], id: u32) -> [u8; 128]
 /// The bytes of an entry where they stand, if all of them are in the directory.
 #[tactic(auto, unfolding(cfb_bytes::specs::Bytes::block))]
 pub(crate) fn whole_entry(directory: &[u8], id: u32) -> Option<&[u8; 128]>
-    ensures { IfSome result (λ entry. entry.now ≡ entry_at directory.now id) }
+    ensures bytes { IfSome result (λ entry. entry.now ≡ entry_at directory.now id) }
+    ensures there { IfSome result (λ entry. 128 * id < length directory.now) }
 {
     let start = ENTRY_LEN * id as usize;
     let end = start + ENTRY_LEN;

@@ -8,15 +8,25 @@ ghost use Rattle.cfb_directory.specs.Held.{held};
 ghost use Rattle.cfb_directory.specs.Walk.{IsTaken, MayRefuseName, unmarked};
 ghost use Rattle.cfb_names.specs.declared.fault.DirFault.TheVariants.{BadEntry, NoMemory};
 ghost use Rattle.std.specs.List.{All};
-ghost use Rattle.std.specs.Prelude.{◌≡◌, ◌<◌, ◌≤◌, ◌*◌, ◌/◌, ◌-◌, ◌∷◌, ◌++◌, [], false, true, replicate, length, vec_capacity, vec_len, IfErr, IfOk, OnErr, OnOk};
+ghost use Rattle.std.specs.Prelude.{◌≡◌, ◌<◌, ◌≤◌, ◌*◌, ◌/◌, ◌-◌, ◌∷◌, ◌++◌, ◌≢◌, [], false, true, replicate, length, vec_capacity, vec_len, IfErr, IfOk, OnErr, OnOk};
 
 use crate::held::Directory;
 use cfb_bytes::numbers::{read_u16, read_u32};
 use cfb_names::fault::DirFault;
-use cfb_names::name::{Name, is_forbidden};
+use cfb_names::name::Name;
 pub use directory_model::entries::{Entry, EntryKind, NO_STREAM};
 use std::alloc::Global;
 use std::marker::Model;
+
+/// The characters of ASCII that a name can hold, each at its own place, and zeros at the places of the others.
+const ALLOWED: [u8; 128] = [
+    0, 1, 2, 3, 4, 5, 6, 7, 8, 9, 10, 11, 12, 13, 14, 15, 16, 17, 18, 19, 20, 21, 22, 23, 24, 25,
+    26, 27, 28, 29, 30, 31, 32, 0, 34, 35, 36, 37, 38, 39, 40, 41, 42, 43, 44, 45, 46, 0, 48, 49,
+    50, 51, 52, 53, 54, 55, 56, 57, 0, 59, 60, 61, 62, 63, 64, 65, 66, 67, 68, 69, 70, 71, 72, 73,
+    74, 75, 76, 77, 78, 79, 80, 81, 82, 83, 84, 85, 86, 87, 88, 89, 90, 91, 0, 93, 94, 95, 96, 97,
+    98, 99, 100, 101, 102, 103, 104, 105, 106, 107, 108, 109, 110, 111, 112, 113, 114, 115, 116,
+    117, 118, 119, 120, 121, 122, 123, 124, 125, 126, 127,
+];
 
 /// The entries of a directory, of which some are marked.
 #[derive(Drop)]
@@ -52,9 +62,20 @@ fn kind_of(id: u32, kind: u8) -> Result<EntryKind, DirFault>
 fn class_of(entry: &[u8; 128]) -> [u8; 16]
     ensures { result ≡ class_of entry.now }
 {
-    let mut class = [0; 16];
-    class.copy_from_slice(&entry[80..96]);
-    class
+    match entry[80..96].as_array::<16>() {
+        Some(class) => *class,
+        None => unreachable!(),
+    }
+}
+
+/// A character of ASCII if a name can hold it, and zero if it can't.
+fn allowed(unit: u16) -> u8
+    requires ascii { unit ≤ 127 }
+    ensures kept { result ≢ 0 → (result ≡ unit) × (is_forbidden unit ≡ false) }
+    ensures forbidden { result ≡ 0 → is_forbidden unit ≡ true }
+{
+    // A table takes half of the instructions of comparisons.
+    ALLOWED[usize::from(unit)]
 }
 
 /// What a name is refused for that has a forbidden character at a place, and none past ASCII before it: one past
@@ -98,10 +119,11 @@ fn read_name(entry: &[u8; 128]) -> Result<Name, DirFault>
         if unit > 127 {
             return Err(DirFault::NameNotAscii);
         }
-        if is_forbidden(unit as u8) {
+        let character = allowed(unit);
+        if character == 0 {
             return Err(forbidden_name(entry, count, k));
         }
-        units[k + 1] = unit as u8;
+        units[k + 1] = character;
     }
     Ok(Name::from_units(units))
 }
@@ -171,13 +193,13 @@ impl<'a> Table<'a> {
         ensures valid { IfOk result (λ e. IsName e.name) }
         ensures refused { IfErr result (MayRefuseEntry self.now.directory id) }
     {
+        if let Some(entry) = self.directory.whole_entry(id) {
+            return self.read(id, entry);
+        }
         if !self.directory.has(id) {
             return Err(DirFault::BadEntry);
         }
-        match self.directory.whole_entry(id) {
-            Some(entry) => self.read(id, entry),
-            None => self.read(id, &self.directory.entry_bytes(id)),
-        }
+        self.read(id, &self.directory.entry_bytes(id))
     }
 
     /// The name of an entry.
@@ -186,13 +208,13 @@ impl<'a> Table<'a> {
         ensures valid { IfOk result IsName }
         ensures refused { IfErr result (MayRefuseEntry self.now.directory id) }
     {
+        if let Some(entry) = self.directory.whole_entry(id) {
+            return self.read_name(id, entry);
+        }
         if !self.directory.has(id) {
             return Err(DirFault::BadEntry);
         }
-        match self.directory.whole_entry(id) {
-            Some(entry) => self.read_name(id, entry),
-            None => self.read_name(id, &self.directory.entry_bytes(id)),
-        }
+        self.read_name(id, &self.directory.entry_bytes(id))
     }
 
     /// The name of an entry that has these bytes, if its kind is one that it may have.
@@ -206,10 +228,7 @@ impl<'a> Table<'a> {
         if id == 0 {
             return Ok(Name::root());
         }
-        match read_name(entry) {
-            Ok(name) => Ok(name),
-            Err(fault) => Err(fault),
-        }
+        read_name(entry)
     }
 
     /// What an entry says that has these bytes.
@@ -221,10 +240,7 @@ impl<'a> Table<'a> {
         ensures refused { IfErr result (MayRefuseEntry self.now.directory id) }
     {
         let kind = kind_of(id, entry[66])?;
-        if id == 0 {
-            return Ok(entry_of(Name::root(), kind, entry));
-        }
-        match read_name(entry) {
+        match self.read_name(id, entry) {
             Ok(name) => Ok(entry_of(name, kind, entry)),
             Err(fault) => Err(fault),
         }
@@ -295,6 +311,9 @@ impl<'a> Table<'a> {
         ensures left { result.0 ≡ left (entry_at self.now.directory id) }
         ensures right { result.1 ≡ right (entry_at self.now.directory id) }
     {
+        if let Some(entry) = self.directory.whole_entry(id) {
+            return (read_u32(entry, 68), read_u32(entry, 72));
+        }
         (
             self.directory.entry_u32(id, 68),
             self.directory.entry_u32(id, 72),

@@ -53,7 +53,8 @@ impl<'a> Directory<'a> {
 
     /// The bytes of an entry where they stand, if all of them stand there.
     pub(crate) fn whole_entry(&self, id: u32) -> Option<&'a [u8; 128]>
-        ensures { IfSome result (λ entry. entry.now ≡ entry_at (held self.now) id) }
+        ensures bytes { IfSome result (λ entry. entry.now ≡ entry_at (held self.now) id) }
+        ensures there { IfSome result (λ entry. 128 * id < length (held self.now)) }
     {
         match self {
             Directory::Bytes(bytes) => whole_entry(bytes, id),

@@ -45,4 +45,4 @@ returns-clause-read c =
     (named_so entry c.loop-k.units c.loop-k.invariant.room some short (λ k h. c.loop-k.invariant.read k (omega (arith, h))) count even)
 
 pub forbidden_name-requires-clause-forbidden : goal.forbidden_name-requires-clause-forbidden
-forbidden_name-requires-clause-forbidden c = ap is_forbidden (sym c.read_u16-unit.ensures) ∙ sym c.is_forbidden.ensures ∙ c.if-is_forbidden.true
+forbidden_name-requires-clause-forbidden c = ap is_forbidden (sym c.read_u16-unit.ensures) ∙ c.allowed-character.ensures.forbidden c.if-character-eq0.true

@@ -1,9 +1,5 @@
-use Rattle.std.proofs.Common.{List, ℕ, subst}
-use Rattle.cfb_directory.specs.Walk.{MayRefuseName}
-use Rattle.cfb_directory.proofs.Reading.{name_refused}
+use Rattle.cfb_directory.proofs.Kept.{names_refused}
 use Rattle.cfb_directory.proofs.entries.Table.read_name.Goals as goal
 
-pub returns-in-Err-clause-refused : goal.returns-in-Err-clause-refused
-returns-in-Err-clause-refused c =
-    name_refused c.args.self.now.directory c.args.id c.in-Err.fault c.if-id-eq0.false
-    (subst (λ (xs : List ℕ). MayRefuseName xs c.in-Err.fault) c.requires.bytes c.in-Err.ensures.refused)
+pub returns-clause-refused : goal.returns-clause-refused
+returns-clause-refused c = names_refused c.args.self.now.directory c.args.id c.args.entry.now c.read_name.result c.if-id-eq0.false c.requires.bytes c.read_name.ensures.refused
