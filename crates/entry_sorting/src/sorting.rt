@@ -6,7 +6,7 @@ ghost use Rattle.cfb_names.specs.Numbers.{AreBytes, eight};
 ghost use Rattle.file_faults.specs.Faults.{key_at};
 ghost use Rattle.std.specs.List.{All, Contains};
 ghost use Rattle.std.specs.List.Sorted.{IsStrictlySortedBy};
-ghost use Rattle.std.specs.Prelude.{[], ◌++◌, ◌+◌, ◌<◌, ◌↔◌, ◌∷◌, ◌≡◌, ◌≢◌, ◌≤◌, IfErr, IfOk, OnOk, false, length, map, slice_index, true, vec_capacity, vec_len, ℕ};
+ghost use Rattle.std.specs.Prelude.{[], ◌++◌, ◌+◌, ◌<◌, ◌↔◌, ◌∷◌, ◌≡◌, ◌≢◌, ◌≤◌, IfErr, IfOk, IfSome, OnOk, drop, false, length, map, slice_index, take, true, vec_capacity, vec_len, ℕ};
 ghost use Rattle.entry_sorting.specs.Sorting.{AllAdjacentApart, AreFronts, AreInOrder, DoRise, HasEqualNeighbours, MayRefuseNames, MayRefuseOneOf, at_each, keyed, places};
 
 use cfb_directory::entries::Entries;
@@ -115,6 +115,21 @@ fn units_of(name: &Option<Name>) -> &[u8] {
     }
 }
 
+/// What follows in a name that begins with these characters.
+fn rest_behind<'n>(units: &'n [u8], shared: &[u8]) -> Option<&'n [u8]>
+    ensures { IfSome result (λ rest. (take (length shared.now) units.now ≡ shared.now) × (rest.now ≡ drop (length shared.now) units.now)) }
+{
+    if shared.len() > units.len() {
+        return None;
+    }
+    for k in 0..shared.len() {
+        if units[k] != shared[k] {
+            return None;
+        }
+    }
+    Some(&units[shared.len()..])
+}
+
 /// Lists for entries whose names begin alike the fronts of the keys of what follows in them, and a zero for each entry, where
 /// there is room for all. Answers whether all names begin so.
 ///
@@ -141,7 +156,7 @@ fn list_fronts(
             Err(fault) => return Err(fault),
         };
         let units = name.as_bytes();
-        let rest = match units.strip_prefix(shared) {
+        let rest = match rest_behind(units, shared) {
             Some(rest) => rest,
             None => return Ok(false),
         };

@@ -1,6 +1,5 @@
 use Rattle.std.proofs.Common.{◌≡◌, ◌+◌, ℕ, List, [], ◌∷◌, ◌++◌, length, map, take, drop, get_or, sym, ◌∙◌, ap, arith, below_more, length-append}
 use Rattle.std.proofs.lemmas.List.{length-map, length-take-le, map-append, take_more}
-use Rattle.std.specs.Cmp.Lexicographic.{bytes_decides}
 use Rattle.cfb_names.specs.Names.{key}
 use Rattle.cfb_names.specs.Numbers.{eight}
 use Rattle.cfb_directory.specs.Entries.{entry_at, name_of}
@@ -25,8 +24,8 @@ loop-id-preserved c =
     let id : ℕ = get_or ids i 0 in
     let units : List ℕ = c.as_bytes-units.result.now in
     let named : units ≡ name_of (entry_at dir id) = c.as_bytes-units.ensures.spelled ∙ name_is dir id c.in-Ok.name (c.requires.below_root i 0 c.loop-id-test.true) c.in-Ok.ensures.read in
-    let front_is : c.front.result ≡ front_at dir shared id = c.front.ensures.number ∙ ap (λ x. eight (key x) 0) (c.in-Some.ensures.cases.1 ∙ ap (drop (length shared)) named) in
-    let begins : Begins dir shared id = begun dir shared units c.in-Some.rest.now id named ((bytes_decides (take (length shared) units) shared).0 c.in-Some.ensures.cases.0) c.in-Some.ensures.cases.1 c.front.ensures.bytes in
+    let front_is : c.front.result ≡ front_at dir shared id = c.front.ensures.number ∙ ap (λ x. eight (key x) 0) (c.in-Some.ensures.1 ∙ ap (drop (length shared)) named) in
+    let begins : Begins dir shared id = begun dir shared units c.in-Some.rest.now id named c.in-Some.ensures.0 c.in-Some.ensures.1 c.front.ensures.bytes in
     let more : take (i + 1) ids ≡ take i ids ++ id ∷ [] = take_more ids i 0 c.loop-id-test.true in (
       c.push_within.ensures.items
           ∙ (λ t. c.loop-id.invariant.0 t ++ front_is t ∷ [])
