@@ -10,7 +10,7 @@ use std::alloc::AllocError;
 use std::io::{self, Write};
 
 /// How many bytes are written at once: where as many wait, they are written before more join them.
-const PIECE: usize = 65536;
+pub const PIECE: usize = 65536;
 
 /// Room for all that may wait, of which the last bytes are fewer than a piece.
 pub const ROOM: usize = 2 * PIECE;
@@ -83,29 +83,14 @@ pub fn send_zeros<W: Write>(writer: &mut W, waiting: &mut Vec<u8>, count: usize)
     Ok(())
 }
 
-/// Adds bytes and zeros behind them.
-fn push_padded(waiting: &mut Vec<u8>, bytes: &[u8], count: usize) -> Result<(), AllocError>
+/// Adds bytes and a few zeros behind them.
+pub fn push_padded(waiting: &mut Vec<u8>, bytes: &[u8], count: usize) -> Result<(), AllocError>
     requires { count < 64 }
     ensures { OnOk result (waiting.new.items ≡ waiting.old.items ++ (bytes.now ++ replicate count 0)) }
 {
     let zeros = [0; 64];
     waiting.extend_from_slice(bytes)?;
     waiting.extend_from_slice(&zeros[..count])?;
-    Ok(())
-}
-
-/// Lets bytes wait, of which there are few, and a few zeros behind them.
-pub fn send_padded<W: Write>(
-    writer: &mut W,
-    waiting: &mut Vec<u8>,
-    bytes: &[u8],
-    count: usize,
-) -> io::Result<()>
-    requires { count < 64 }
-    ensures { OnOk result (Sends (W.contents writer.old) (W.contents writer.new) waiting.old.items waiting.new.items (bytes.now ++ replicate count 0)) }
-{
-    make_room(writer, waiting)?;
-    push_padded(waiting, bytes, count)?;
     Ok(())
 }
 

@@ -8,22 +8,32 @@ ghost use Rattle.file_parts.specs.Sends.{Sends};
 ghost use Rattle.file_model.specs.Need.{data_sectors, long_sectors, mini_sectors};
 ghost use Rattle.file_parts.specs.Streams.{long_within, short_within};
 ghost use Rattle.std.specs.Io.KnownBytes.{Appends};
-ghost use Rattle.std.specs.Prelude.{◌*◌, ◌+◌, ◌≡◌, OnOk, length};
+ghost use Rattle.std.specs.Prelude.{[], ◌*◌, ◌+◌, ◌++◌, ◌∷◌, ◌≡◌, IfSome, OnOk, length};
 ghost use Rattle.storage_nodes.specs.View.{seen, view};
 
 use crate::directory::send_directory;
 use file_parts::counts::Counts;
 use file_parts::front::Front;
-use file_parts::pieces::{finish, send, send_numbers, send_padded, send_zeros};
+use file_parts::pieces::{PIECE, finish, make_room, push_padded, send, send_numbers, send_zeros};
 use file_parts::streams::{is_short, mini_zeros, sector_zeros};
+use std::alloc::AllocError;
 use std::io::{self, Write};
 use storage_nodes::storage::{Node, Storage};
+
+/// Adds the bytes of a stream, with zeros up to whole mini sectors.
+fn push_minis(waiting: &mut Vec<u8>, bytes: &[u8]) -> Result<(), AllocError>
+    ensures { OnOk result (waiting.new.items ≡ waiting.old.items ++ padded 64 bytes.now) }
+{
+    push_padded(waiting, bytes, mini_zeros(bytes.len()))
+}
 
 /// Sends the bytes of a stream, with zeros up to whole mini sectors.
 fn send_minis<W: Write>(writer: &mut W, waiting: &mut Vec<u8>, bytes: &[u8]) -> io::Result<()>
     ensures { OnOk result (Sends (W.contents writer.old) (W.contents writer.new) waiting.old.items waiting.new.items (padded 64 bytes.now)) }
 {
-    send_padded(writer, waiting, bytes, mini_zeros(bytes.len()))
+    make_room(writer, waiting)?;
+    push_minis(waiting, bytes)?;
+    Ok(())
 }
 
 /// Sends the bytes of a stream, with zeros up to whole sectors.
@@ -35,6 +45,22 @@ fn send_sectors<W: Write>(writer: &mut W, waiting: &mut Vec<u8>, bytes: &[u8]) -
     Ok(())
 }
 
+/// The bytes of a child that is a stream shorter than 4,096 bytes.
+fn short_stream(child: &Node) -> Option<&[u8]>
+    ensures { IfSome result (λ bytes. short_within (seen child.now) ≡ bytes.now ∷ []) }
+{
+    match child {
+        Node::Stream(bytes) => {
+            let bytes = bytes.as_slice();
+            if is_short(bytes.len()) {
+                return Some(bytes);
+            }
+            None
+        }
+        Node::Storage(_) => None,
+    }
+}
+
 /// Sends the streams below a storage that are shorter than 4,096 bytes, in the order of their entries, each in whole
 /// mini sectors.
 #[cycle(send_short)]
@@ -42,6 +68,13 @@ fn send_short<W: Write>(writer: &mut W, waiting: &mut Vec<u8>, storage: &Storage
     ensures { OnOk result (Sends (W.contents writer.old) (W.contents writer.new) waiting.old.items waiting.new.items (whole_pieces 64 (short_streams (view storage.now)))) }
 {
     for (_, node) in storage.children.iter() {
+        // where there is room no write is tried, whose result is large
+        if waiting.len() < PIECE {
+            if let Some(bytes) = short_stream(&node.1) {
+                push_minis(waiting, bytes)?;
+                continue;
+            }
+        }
         send_short_child(writer, waiting, &node.1)?;
     }
     Ok(())
