@@ -6,15 +6,19 @@ ghost use Rattle.file_model.specs.declared.limit.TheConstants.{MANY};
 ghost use Rattle.file_parts.specs.Counted.{AreCounts};
 ghost use Rattle.file_parts.specs.Leads.{IsDirectory, child_led, lead_in, led_below, storage_led, stream_led};
 ghost use Rattle.file_parts.specs.Sends.{Sends};
-ghost use Rattle.std.specs.Prelude.{◌+◌, ◌*◌, ◌<◌, ◌≡◌, IfOk, OnOk, length};
+ghost use Rattle.std.specs.Prelude.{◌+◌, ◌++◌, ◌*◌, ◌<◌, ◌≡◌, ◌≤◌, ℕ, List, IfOk, IfSome, OnOk, length};
+ghost use Rattle.directory_model.specs.Written.{entry_bytes};
+ghost use Rattle.file_parts.specs.declared.leads.Lead.{Lead};
 ghost use Rattle.storage_nodes.specs.View.{seen, view};
 
 use crate::entries::{send_entry, send_unused};
 use cfb_names::name::Name;
 use directory_model::entries::{EntryKind, NO_STREAM};
-use directory_writing::write::EntryFields;
+use directory_writing::write::{EntryFields, write_entry};
 use file_parts::counts::Counts;
 use file_parts::leads::{Directory, Lead, class_bytes, state_bits};
+use file_parts::pieces::PIECE;
+use std::alloc::AllocError;
 use std::io::{self, Write};
 use storage_nodes::storage::{Node, Storage};
 
@@ -64,6 +68,25 @@ fn storage_entry(lead: Lead, storage: &Storage) -> EntryFields
     }
 }
 
+/// How many bytes a child has that is a stream.
+fn stream_len(child: &Node) -> Option<usize>
+    ensures led { IfSome result (λ len. (leads : List Lead) (at : ℕ) (name : List ℕ) → child_led leads at name (seen child.now) ≡ entry_bytes name (stream_led (lead_in leads at) len)) }
+    ensures one { IfSome result (λ len. entries_with (seen child.now) ≡ 1) }
+{
+    match child {
+        Node::Stream(bytes) => Some(bytes.len()),
+        Node::Storage(_) => None,
+    }
+}
+
+/// Adds the entry with a name to those that wait.
+fn push_entry(waiting: &mut Vec<u8>, name: &Name, fields: &EntryFields) -> Result<(), AllocError>
+    ensures pushed { OnOk result (waiting.new.items ≡ waiting.old.items ++ entry_bytes name.now fields.now) }
+    ensures short { length name.now ≤ 31 }
+{
+    write_entry(waiting, name.as_bytes(), fields)
+}
+
 /// Sends the entries below a storage, whose leads stand from a place on, and gives the place behind them.
 #[cycle(send_entries)]
 fn send_below<W: Write>(
@@ -80,6 +103,14 @@ fn send_below<W: Write>(
 {
     let mut next = at;
     for (_, child) in storage.children.iter() {
+        // where there is room no write is tried, whose result is large
+        if waiting.len() < PIECE {
+            if let Some(len) = stream_len(&child.1) {
+                push_entry(waiting, &child.0, &stream_entry(lead_at(leads, next), len))?;
+                next += 1;
+                continue;
+            }
+        }
         next = send_child(writer, waiting, child, leads, next)?;
     }
     Ok(next)

@@ -1,11 +1,16 @@
-use Rattle.std.proofs.Common.{◌≡◌, ◌+◌, ◌*◌, ◌++◌, [], ℕ, List, Option, ap, length, rules, subst}
+use Rattle.std.proofs.Common.{◌≡◌, ◌+◌, ◌*◌, ◌++◌, ◌∙◌, [], ℕ, List, Option, ap, length, refl, rules, subst, sym}
 use Rattle.directory_model.specs.Written.{entry_bytes}
+use Rattle.directory_model.specs.declared.entries.EntryFields.{EntryFields}
+use Rattle.directory_model.proofs.Fields.{length-entry_bytes}
 use Rattle.storage_nodes.specs.View.{children, seen, view}
+use Rattle.storage_nodes.specs.declared.storage.Node.{Node}
+use Rattle.file_layout.specs.Directory.{entries_with}
+use Rattle.file_parts.specs.declared.leads.Lead.{Lead}
 use Rattle.file_model.specs.Need.{entries_of}
-use Rattle.file_parts.specs.Leads.{child_led, each_led, led_below}
+use Rattle.file_parts.specs.Leads.{child_led, each_led, lead_in, led_below, stream_led}
 use Rattle.file_parts.specs.Sends.{Sends}
 use Rattle.file_sending.proofs.DirectoryWalk.{Entries, led-counted, led-long, led-more, storage-led, storage-long, stream-long}
-use Rattle.file_parts.proofs.Sent.{sends_both, sends_none}
+use Rattle.file_parts.proofs.Sent.{sends_both, sends_none, sends_wait}
 use Rattle.file_sending.proofs.directory.+send_entries.Goals as goal
 
 pub send_below-loop-child-init : goal.send_below-loop-child-init
@@ -54,3 +59,30 @@ pub send_child-returns-in_ok-next-in-Storage-clause-long : goal.send_child-retur
 send_child-returns-in_ok-next-in-Storage-clause-long g t c =
     storage-long c.args.leads.now c.args.at c.args.child.now.0 c.args.child.now.1 c.as_bytes-name.ensures.valid.short c.in-Storage.inner c.lead_at-lead.result c.storage_entry.result
     c.in-Storage.is c.storage_entry.ensures c.send_entry-in-Storage.ensures.class_id c.in_ok-next-in-Storage.ensures.long
+
+pub send_below-loop-child-preserved-in-Some-stream_len : goal.send_below-loop-child-preserved-in-Some-stream_len
+send_below-loop-child-preserved-in-Some-stream_len g t c =
+    let i = c.loop-child.invariant in
+    let leads : List Lead = c.args.leads.now in
+    let at : ℕ = c.loop-child.next in
+    let name : List ℕ = c.in-Some.child.now.0 in
+    let node : Node = c.in-Some.child.now.1 in
+    let more : List ℕ = child_led leads at name (seen node) in
+    let fields : EntryFields = stream_led (lead_in leads at) c.in-Some-stream_len.len in
+    let w : Option (List ℕ) = g.W.Write.contents c.loop-child.writer in
+    let b : List ℕ = c.loop-child.waiting.items in
+    let d : List ℕ = c.push_entry.new.waiting.items in
+    let is : more ≡ entry_bytes name fields = c.in-Some-stream_len.ensures.led leads at name in
+    let says : c.stream_entry.result ≡ fields = c.stream_entry.ensures ∙ ap (λ (l : Lead). stream_led l c.in-Some-stream_len.len) c.lead_at.ensures in
+    let pushed : d ≡ b ++ more = c.in_ok-push_entry.ensures.pushed ∙ ap (λ (e : EntryFields). b ++ entry_bytes name e) says ∙ ap (λ zs. b ++ zs) (sym is) in
+    let after : at + 1 ≡ at + entries_with (seen node) = ap (λ n. at + n) (sym c.in-Some-stream_len.ensures.one) in
+    let one : length more ≡ 128 * entries_with (seen node) =
+    ap length is ∙ length-entry_bytes name fields c.in_ok-push_entry.ensures.short refl ∙ ap (λ n. 128 * n) (sym c.in-Some-stream_len.ensures.one) in (
+      i.0 ++ more,
+      sends_both (g.W.Write.contents c.args.writer.now) w w c.args.waiting.now.items b d i.0 more i.1 (sends_wait w b d more pushed),
+      led-more leads at (at + 1) c.loop-child.child-iterator c.next.new.self c.in-Some.field-0-0.now c.in-Some.child.now c.in-Some.ensures.steps after i.0
+          (each_led leads c.args.at (children c.args.storage.now.children.entries)) i.2,
+      led-counted leads at (at + 1) c.loop-child.child-iterator c.next.new.self c.in-Some.field-0-0.now c.in-Some.child.now c.in-Some.ensures.steps after
+          (c.args.at + entries_of (children c.args.storage.now.children.entries)) i.3,
+      λ h. i.4 (led-long leads at (at + 1) c.loop-child.child-iterator c.next.new.self c.in-Some.field-0-0.now c.in-Some.child.now c.in-Some.ensures.steps after one h),
+    )
