@@ -54,10 +54,23 @@ fn write_name(bytes: &mut [u8], name: &[u8])
     }
 }
 
-/// The bytes of an entry, its fields where they stand.
-fn written(name: &[u8], fields: &EntryFields) -> [u8; 128]
+/// Writes a class id byte by byte, which costs less than a call.
+fn write_class(bytes: &mut [u8], class: &[u8; 16])
+    requires { length bytes.old ≡ 16 }
+    ensures written { bytes.new ≡ class.now }
+    ensures len { length class.now ≡ 16 }
+{
+    for k in 0..16 {
+        bytes[k] = class[k];
+    }
+}
+
+/// Adds an entry of 128 bytes with a name of at most 31 characters. It is black, and its times are zero.
+///
+/// Where no memory is left, nothing is added.
+pub fn write_entry(out: &mut Vec<u8>, name: &[u8], fields: &EntryFields) -> Result<(), AllocError>
     requires { length name.now ≤ 31 }
-    ensures { result ≡ entry_bytes name.now fields.now }
+    ensures { OnOk result (out.new.items ≡ out.old.items ++ entry_bytes name.now fields.now) }
 {
     let mut entry = [0; ENTRY_LEN];
     write_u16(&mut entry, 64, 2 * name.len() as u16 + 2);
@@ -69,19 +82,9 @@ fn written(name: &[u8], fields: &EntryFields) -> [u8; 128]
     write_u32(&mut entry, 96, fields.state);
     write_u32(&mut entry, 116, fields.first);
     write_u32(&mut entry, 120, fields.size);
-    entry[80..96].copy_from_slice(&fields.class);
+    write_class(&mut entry[80..96], &fields.class);
     write_name(&mut entry[..64], name);
-    entry
-}
-
-/// Adds an entry of 128 bytes with a name of at most 31 characters. It is black, and its times are zero.
-///
-/// Where no memory is left, nothing is added.
-pub fn write_entry(out: &mut Vec<u8>, name: &[u8], fields: &EntryFields) -> Result<(), AllocError>
-    requires { length name.now ≤ 31 }
-    ensures { OnOk result (out.new.items ≡ out.old.items ++ entry_bytes name.now fields.now) }
-{
-    out.extend_from_slice(&written(name, fields))
+    out.extend_from_slice(&entry)
 }
 
 /// Adds an entry of 128 bytes that isn't used: zeros, but for three links to nobody.

@@ -1,10 +1,16 @@
-use Rattle.std.proofs.Common.{◌≡◌, ◌+◌, ◌*◌, ◌++◌, ℕ, List, arith, length, replicate, take, drop, sym, ◌∙◌, ap}
+use Rattle.std.proofs.Common.{◌≡◌, ◌+◌, ◌*◌, ◌++◌, ℕ, List, length, replicate, take, drop, ◌∙◌, ap, Result, Ok, Err, OnOk, if◌then◌else◌, is_ok, subst}
 use Rattle.std.specs.Prelude.{slice_set}
 use Rattle.std.specs.Int.{w16, w32, to_le_bytes}
 use Rattle.directory_model.specs.Entries.{kind_number}
+use Rattle.directory_model.specs.Written.{entry_bytes}
 use Rattle.directory_model.specs.declared.entries.EntryFields.{EntryFields}
 use Rattle.directory_writing.proofs.Placed.{numbers_placed, placed, put}
-use Rattle.directory_writing.proofs.write.written.Goals as goal
+use Rattle.directory_writing.proofs.write.write_entry.Goals as goal
+
+-- what is added where memory is left
+done : {A E : Type 0} (r : Result A E) (new all old : List ℕ) → new ≡ (if is_ok r then all else old) → OnOk r (new ≡ all)
+done (Ok x) new all old h = h
+done (Err x) new all old h = tt
 
 -- the fields but for the class, written in turn
 in_turn : (len kind : ℕ) (e : EntryFields) (named left right child state first size : List ℕ)
@@ -20,15 +26,15 @@ in_turn len kind e named left right child state first size a k b c d f g h =
     (c ∙ ap (put 72 (to_le_bytes w32 e.right))
     (b ∙ (λ t. put 68 (to_le_bytes w32 e.left) (slice_set (slice_set (a t) 66 (k t)) 67 1)))))))
 
-pub copy_from_slice-requires : goal.copy_from_slice-requires
-copy_from_slice-requires c =
+pub write_class-requires : goal.write_class-requires
+write_class-requires c =
     let name : List ℕ = c.args.name.now in
     let e = c.args.fields.now in
     let all : c.write_u32-6.new.bytes ≡ numbers_placed (length name) e =
     in_turn (length name) c.number_of.result e c.write_u16.new.bytes c.write_u32.new.bytes c.write_u32-2.new.bytes c.write_u32-3.new.bytes
     c.write_u32-4.new.bytes c.write_u32-5.new.bytes c.write_u32-6.new.bytes c.write_u16.ensures c.number_of.ensures c.write_u32.ensures
     c.write_u32-2.ensures c.write_u32-3.ensures c.write_u32-4.ensures c.write_u32-5.ensures c.write_u32-6.ensures in
-    ap (λ bs. length (take 16 (drop 80 bs))) all ∙ omega (arith, c.fits-fields)
+    ap (λ bs. length (take 16 (drop 80 bs))) all
 
 pub write_name-requires-clause-zeros : goal.write_name-requires-clause-zeros
 write_name-requires-clause-zeros c =
@@ -38,7 +44,7 @@ write_name-requires-clause-zeros c =
     in_turn (length name) c.number_of.result e c.write_u16.new.bytes c.write_u32.new.bytes c.write_u32-2.new.bytes c.write_u32-3.new.bytes
     c.write_u32-4.new.bytes c.write_u32-5.new.bytes c.write_u32-6.new.bytes c.write_u16.ensures c.number_of.ensures c.write_u32.ensures
     c.write_u32-2.ensures c.write_u32-3.ensures c.write_u32-4.ensures c.write_u32-5.ensures c.write_u32-6.ensures in
-    ap (λ bs. take 64 (take 80 bs ++ (c.copy_from_slice.new.self ++ drop 16 (drop 80 bs)))) all
+    ap (λ bs. take 64 (take 80 bs ++ (c.write_class.new.bytes ++ drop 16 (drop 80 bs)))) all
 
 pub returns : goal.returns
 returns c =
@@ -48,5 +54,7 @@ returns c =
     in_turn (length name) c.number_of.result e c.write_u16.new.bytes c.write_u32.new.bytes c.write_u32-2.new.bytes c.write_u32-3.new.bytes
     c.write_u32-4.new.bytes c.write_u32-5.new.bytes c.write_u32-6.new.bytes c.write_u16.ensures c.number_of.ensures c.write_u32.ensures
     c.write_u32-2.ensures c.write_u32-3.ensures c.write_u32-4.ensures c.write_u32-5.ensures c.write_u32-6.ensures in
-    let class : length e.class ≡ 16 = ap length (sym c.copy_from_slice.ensures.after) ∙ c.copy_from_slice.ensures.len ∙ ap (λ bs. length (take 16 (drop 80 bs))) all in
-    rw (c.write_name.ensures, c.copy_from_slice.ensures.after, all) (placed name e c.requires class)
+    let whole : c.write_name.new.bytes ++ drop 64 (take 80 c.write_u32-6.new.bytes ++ (c.write_class.new.bytes ++ drop 16 (drop 80 c.write_u32-6.new.bytes))) ≡ entry_bytes name e =
+    rw (c.write_name.ensures, c.write_class.ensures.written, all) (placed name e c.requires c.write_class.ensures.len) in
+    subst (λ (bs : List ℕ). OnOk c.extend_from_slice.result (c.extend_from_slice.new.self.items ≡ c.args.out.now.items ++ bs)) whole
+    (done c.extend_from_slice.result _ _ _ c.extend_from_slice.ensures.items)
