@@ -1,6 +1,6 @@
 //! What the entries of a tree say (MS-CFB 2.6).
 
-ghost use Rattle.std.specs.Prelude.{◌≡◌, ◌<◌, ◌+◌, ◌^◌, ◌++◌, ℕ, IfOk, OnOk, length};
+ghost use Rattle.std.specs.Prelude.{[], ◌≡◌, ◌<◌, ◌+◌, ◌^◌, ◌++◌, ◌∷◌, ℕ, List, IfOk, OnOk, length};
 ghost use Rattle.std.specs.Vec.{vec_len};
 ghost use Rattle.storage_nodes.specs.View.{seen, view};
 ghost use Rattle.file_model.specs.Need.{entries, long_sectors};
@@ -176,19 +176,41 @@ impl Cursor {
     }
 }
 
-/// Adds the run of a stream to the table that it lies in.
-fn push_stream(tables: &mut Tables, at: Cursor, bytes: &[u8]) -> Result<(), AllocError>
-    requires { IsBelow (past_stream at (length bytes.now)) MANY }
-    ensures minis { OnOk result (tables.new.minis.items ≡ tables.old.minis.items ++ runs at.mini (pieces_of 64 (short_within (content bytes.now)))) }
-    ensures fat { OnOk result (tables.new.fat.items ≡ tables.old.fat.items ++ runs at.sector (pieces_of 512 (long_within (content bytes.now)))) }
+/// Adds the run of a stream of so many bytes to the table that it lies in.
+fn push_stream(tables: &mut Tables, at: Cursor, len: usize) -> Result<(), AllocError>
+    requires { IsBelow (past_stream at len) MANY }
+    ensures minis { OnOk result ((b : List ℕ) → length b ≡ len → tables.new.minis.items ≡ tables.old.minis.items ++ runs at.mini (pieces_of 64 (short_within (content b)))) }
+    ensures fat { OnOk result ((b : List ℕ) → length b ≡ len → tables.new.fat.items ≡ tables.old.fat.items ++ runs at.sector (pieces_of 512 (long_within (content b)))) }
 {
-    let len = bytes.len();
     if is_short(len) {
         push_run(&mut tables.minis, at.mini, mini_count(len) as u32)?;
         return Ok(());
     }
     push_run(&mut tables.fat, at.sector, sector_count(len) as u32)?;
     Ok(())
+}
+
+/// Adds where the entry of the stream of so many bytes at a place leads, and its run.
+fn push_leaf(
+    leads: &mut Vec<Lead>,
+    tables: &mut Tables,
+    siblings: &Siblings,
+    place: usize,
+    at: Cursor,
+    len: usize,
+) -> Result<Cursor, AllocError>
+    requires joined { IsJoined siblings.now }
+    requires there { place < length siblings.now.ids.items }
+    requires few { IsBelow (past_stream at len) MANY }
+    ensures pushed { OnOk result (leads.new.items ≡ leads.old.items ++ stream_leads siblings.now.ids.items place at.mini at.sector len ∷ []) }
+    ensures minis { OnOk result ((b : List ℕ) → length b ≡ len → tables.new.minis.items ≡ tables.old.minis.items ++ runs at.mini (pieces_of 64 (short_within (content b)))) }
+    ensures fat { OnOk result ((b : List ℕ) → length b ≡ len → tables.new.fat.items ≡ tables.old.fat.items ++ runs at.sector (pieces_of 512 (long_within (content b)))) }
+    ensures next { IfOk result (λ next. next ≡ past_stream at len) }
+    ensures spelled { OnOk result (len < 2 ^ 32) }
+{
+    leads.push(stream_lead(siblings, place, at, len))?;
+    push_stream(tables, at, len)?;
+    Ok(at.past(len))
 }
 
 /// Adds where the entries below a storage lead, whose children these are, and the runs of the streams there.
@@ -212,6 +234,12 @@ fn push_below(
     let mut next = at;
     let mut place = 0;
     for (_, child) in storage.children.iter() {
+        // most children are streams, which need none of what a storage does
+        if let Node::Stream(bytes) = &child.1 {
+            next = push_leaf(leads, tables, siblings, place, next, bytes.len())?;
+            place += 1;
+            continue;
+        }
         next = push_child(alloc, leads, tables, &child.1, siblings, place, next)?;
         place += 1;
     }
@@ -240,11 +268,8 @@ fn push_child(
 {
     match child {
         Node::Stream(bytes) => {
-            let bytes = bytes.as_slice();
-            let len = bytes.len();
-            leads.push(stream_lead(siblings, place, at, len))?;
-            push_stream(tables, at, bytes)?;
-            Ok(at.past(len))
+            let next = push_leaf(leads, tables, siblings, place, at, bytes.len())?;
+            Ok(next)
         }
         Node::Storage(inner) => {
             let below = Cursor {
