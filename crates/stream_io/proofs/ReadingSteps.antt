@@ -1,5 +1,5 @@
 -- The steps of reading a storage.
-use Rattle.std.proofs.Common.{◌≡◌, ◌≢◌, ◌⊎◌, inl, inr, ◌<◌, ◌≤◌, ◌+◌, ◌-◌, ◌*◌, ℕ, zero, suc, true, List, [], ◌∷◌, ◌++◌, Option, length, get_or, drop, take, refl, sym, ap, subst, arith}
+use Rattle.std.proofs.Common.{◌≡◌, ◌≢◌, ◌⊎◌, inl, inr, ◌<◌, ◌≤◌, ◌+◌, ◌-◌, ◌*◌, ℕ, zero, suc, true, List, [], ◌∷◌, ◌++◌, Option, Some, None, length, get_or, drop, take, refl, sym, ap, subst, arith}
 use Rattle.std.specs.Global.{Vec}
 use Rattle.std.specs.List.{Contains}
 use Rattle.std.proofs.lemmas.List.Elements.{Contains-get_or}
@@ -20,13 +20,13 @@ use Rattle.file_outline.specs.View.{contents, part_view, shown_part, shown_parts
 use Rattle.file_outline.specs.declared.outline.Part.{Part}
 use Rattle.file_outline.specs.declared.outline.Part.TheViews.{roll-Outline}
 use Rattle.file_outline.specs.declared.outline.Place.{Place}
-use Rattle.file_outline.proofs.Kept.{kept_none}
+use Rattle.file_outline.proofs.Kept.{kept_child, kept_left, kept_none}
 use Rattle.file_outline.proofs.Outlines.{AreSized, shown-push, sized-push}
 use Rattle.outline_entries.specs.Places.{AreTold, IsPartTold}
 use Rattle.outline_entries.proofs.Kept.{storage_kept}
 use Rattle.outline_entries.proofs.Told.{told_all, told_next, told_none}
 use Rattle.stream_io.specs.Marks.{IsMetBelow, IsNext, IsUnderway}
-use Rattle.stream_io.specs.Reads.{AreRead, AreSorted, IsChildOutlined, IsChildRead, IsNodeRead, IsOutlined, IsStorageRead, IsStreamRead, directory_in, met, stream_after}
+use Rattle.stream_io.specs.Reads.{AreRead, AreSorted, IsChildOutlined, IsChildPushed, IsChildRead, IsNodeRead, IsOutlined, IsStorageRead, IsStreamRead, directory_in, met, stream_after, with_child}
 use Rattle.stream_io.specs.declared.read.Reader.{Reader}
 use Rattle.stream_io.proofs.ReadingChildren.{IsFirstRead, Progress, progress_all, progress_more, progress_next, progress_none}
 use Rattle.file_faults.proofs.EntryKinds.{kind_inside}
@@ -90,6 +90,19 @@ outlined_more {depth} {items} {mid} {w} {i} {r} {next} {parts} {now} {c} lt h on
           (subst (λ (x : List ℕ). IsPartTold x n one.whole) directory one.told);
       is_kept = keeps;
     }
+
+-- the same of a child that is put behind them, if it is kept
+outlined_with : {depth : ℕ} {items : List ℕ} {mid : Reader} {w : Wanted} {i : ℕ} {r next : Reader} {parts now : List (List ℕ × Part)} (c : Option (List ℕ × Part))
+    → i < length items → AreOutlined depth items mid w i r parts → IsChildOutlined depth (get_or items i 0) w c r next → now ≡ with_child parts c
+    → AreOutlined depth items mid w (i + 1) next now
+outlined_with {depth} {items} {mid} {w} {i} {r} {next} {parts} {now} None lt h one is =
+    subst (AreOutlined depth items mid w (i + 1) next) (sym is) (outlined_more lt h one (kept_left w h.whole parts one.name one.whole h.is_kept one.is_kept))
+outlined_with {depth} {items} {mid} {w} {i} {r} {next} {parts} {now} (Some child) lt h one is =
+    subst (AreOutlined depth items mid w (i + 1) next) (sym is) (outlined_more lt h one (kept_child w h.whole parts one.name one.whole child h.is_kept one.is_kept))
+
+pub outlined_pushed : {depth : ℕ} {items : List ℕ} {mid : Reader} {w : Wanted} {i : ℕ} {r next : Reader} {parts now : List (List ℕ × Part)}
+    → i < length items → AreOutlined depth items mid w i r parts → IsChildPushed depth (get_or items i 0) w parts now r next → AreOutlined depth items mid w (i + 1) next now
+outlined_pushed lt h p = outlined_with p.child lt h p.outlined p.pushed
 
 module _ {id : ℕ} {items : List ℕ} {old mid : Reader} (o : AreOpen id items old mid) where
   kept_mid : IsKept old mid

@@ -1,5 +1,5 @@
 -- How a file is read, and which files are refused.
-use Rattle.std.specs.Prelude.{◌≡◌, ◌↔◌, ◌<◌, ◌-◌, ℕ, suc, true, List, [], ◌∷◌, length, map, slice_index_or, take, if◌then◌else◌, nat_lt, Option, Err, codes}
+use Rattle.std.specs.Prelude.{◌≡◌, ◌↔◌, ◌<◌, ◌-◌, ℕ, suc, true, List, [], ◌∷◌, ◌++◌, length, map, slice_index_or, take, if◌then◌else◌, nat_lt, Option, Some, None, Err, codes}
 use Rattle.std.specs.List.{Contains}
 use Rattle.std.specs.List.Sorted.{IsStrictlySortedBy}
 use Rattle.cfb_header.specs.Bytes.{joined}
@@ -124,6 +124,16 @@ IsPartOutlined depth id w part old new = IsPartKept (directory_in old) (contents
 
 abbrev pub IsChildOutlined : ℕ → ℕ → Wanted → Option (List ℕ × Part) → Reader → Reader → Type 0
 IsChildOutlined depth id w child old new = IsChildKept (directory_in old) (contents old.fat old.mini) w id (λ k name s. IsChildRead depth id k name s old new) child
+
+-- An entry outlined, and what is kept of it, if anything is, behind what was kept before.
+abbrev pub with_child : List (List ℕ × Part) → Option (List ℕ × Part) → List (List ℕ × Part)
+with_child parts None = parts
+with_child parts (Some child) = parts ++ child ∷ []
+
+pub record IsChildPushed (depth id : ℕ) (w : Wanted) (parts now : List (List ℕ × Part)) (old new : Reader) : Type 0 where
+  pub child : Option (List ℕ × Part)
+  pub outlined : IsChildOutlined depth id w child old new
+  pub pushed : now ≡ with_child parts child
 
 -- ---- what a file is refused for
 -- what a reader reads from, with the sectors that the system's own parts have

@@ -19,7 +19,7 @@ ghost use Rattle.file_faults.specs.Faults.{Base, IsStorage};
 ghost use Rattle.file_outline.specs.Keeping.{wanted};
 ghost use Rattle.outline_entries.specs.Places.{IsFileKept, IsPlaced, Leads};
 ghost use Rattle.stream_io.specs.Marks.{IsNext};
-ghost use Rattle.stream_io.specs.Reads.{AreSorted, IsChildOutlined, IsChildRead, IsNodeRead, IsOutlined, IsPartOutlined, IsStorageRead, MayRefuseFile, MayRefuseFind, MayRefusePlace, MayRefuseStorage, MayRefuseStream, MayWant, chain_fault, directory_in, met, stream_after};
+ghost use Rattle.stream_io.specs.Reads.{AreSorted, IsChildPushed, IsChildRead, IsNodeRead, IsOutlined, IsPartOutlined, IsStorageRead, MayRefuseFile, MayRefuseFind, MayRefusePlace, MayRefuseStorage, MayRefuseStream, MayWant, chain_fault, directory_in, met, stream_after};
 ghost use Rattle.file_outline.specs.Streams.{stream_at};
 ghost use Rattle.file_outline.specs.View.{contents, outline_view, shown, table_for};
 ghost use Rattle.stream_io.specs.View.{directory_bytes};
@@ -98,7 +98,7 @@ impl<'a, 'd> Reader<'a, 'd> {
     /// What is kept of the outline of the storage of an entry, which may have so many levels below it. All that the storage
     /// takes is marked, whatever is kept of it.
     ///
-    /// Refused: as `sorted_children` and `child_outline`.
+    /// Refused: as `sorted_children` and `push_child`.
     #[cycle(storages)]
     fn storage_outline(
         &mut self,
@@ -119,10 +119,7 @@ impl<'a, 'd> Reader<'a, 'd> {
         let ids = self.sorted_children(alloc, id)?;
         let mut parts = Vec::with_capacity(alloc, keep.room(ids.len()))?;
         for child in &ids {
-            let Some(part) = self.child_outline(alloc, *child, depth, keep)? else {
-                continue;
-            };
-            parts.push(part)?;
+            self.push_child(alloc, *child, depth, keep, &mut parts)?;
         }
         Ok(Outline {
             class: ClassId::from_bytes(entry.class),
@@ -131,31 +128,32 @@ impl<'a, 'd> Reader<'a, 'd> {
         })
     }
 
-    /// The name of an entry and what is kept of the outline of what it holds, in a storage that may have so many levels below
-    /// it. `None` where nothing is kept.
+    /// Puts the name of an entry and what is kept of the outline of what it holds behind those so far, in a storage that may
+    /// have so many levels below it. Nothing where nothing is kept.
     ///
-    /// Refused: as `Entries::entry` and `part_outline`.
+    /// Refused: as `Entries::entry` and `part_outline`, and `NoMemory`.
     #[cycle(storages)]
-    fn child_outline(
+    fn push_child(
         &mut self,
         alloc: Global,
         id: u32,
         depth: u32,
         keep: Keep<'_>,
-    ) -> Result<Option<(Name, Part)>, ReadFault>
+        parts: &mut Vec<(Name, Part)>,
+    ) -> Result<(), ReadFault>
         requires below_root { id ≢ 0 }
         requires root_marked { slice_index_or self.old.entries.used 0 true ≡ true }
-        ensures outlined { IfOk result (λ c. IsChildOutlined depth id (wanted keep.entry) c self.old self.new) }
+        ensures outlined { OnOk result (IsChildPushed depth id (wanted keep.entry) parts.old.items parts.new.items self.old self.new) }
         ensures there { (k name : List ℕ) (s : Seen) (new : reader.Reader) → IsChildRead depth id k name s self.old new → IfErr result (λ e. e ≡ NoMemory) }
-        ensures memory { IfErr result (MayWant self.old.entries id) }
         ensures refused { (b : Base) (pending : List ℕ) → IsNext b depth id pending self.old → IfErr result (MayRefuseStorage b) }
     {
         let entry = self.entries.entry(id)?;
         let below = keep.below(&entry.name);
         let part = self.part_outline(alloc, id, &entry, depth, below)?;
+        // It is pushed here and not by who calls, to whom it would be moved first.
         match below {
-            Keep::Nothing => Ok(None),
-            _ => Ok(Some((entry.name, part))),
+            Keep::Nothing => Ok(()),
+            _ => Ok(parts.push((entry.name, part))?),
         }
     }
 

@@ -1,35 +1,34 @@
-use Rattle.std.proofs.Common.{◌≡◌, ◌+◌, ◌-◌, ◌++◌, List, [], ℕ, Some, None, suc, ap, drop, get_or, length, sym, ◌∙◌, subst, rules, arith}
+use Rattle.std.proofs.Common.{◌≡◌, ◌+◌, ◌-◌, ◌++◌, List, [], ℕ, Some, None, suc, ap, drop, get_or, length, refl, sym, ◌∙◌, subst, rules, arith}
 use Rattle.std.specs.Result.{IsErrAnd}
 use Rattle.cfb_chain.proofs.Results.{refused_with}
 use Rattle.cfb_directory.specs.Entries.{entry_at, kind, kind_number}
 use Rattle.storage_tree.specs.Tree.{Tree}
 use Rattle.stream_io.specs.Marks.{IsNext}
-use Rattle.stream_io.specs.Reads.{IsChildOutlined, IsNodeRead, IsStorageRead, MayRefuseStorage, MayWant, directory_fault, directory_in}
-use Rattle.file_outline.specs.Keeping.{Wanted, wanted}
+use Rattle.stream_io.specs.Reads.{IsNodeRead, IsStorageRead, MayRefuseStorage, MayWant, directory_fault, directory_in}
+use Rattle.file_outline.specs.Keeping.{IsPartKeptOf, Wanted, wanted}
 use Rattle.file_outline.specs.View.{contents}
 use Rattle.file_outline.specs.declared.outline.Part.{Part}
 use Rattle.file_outline.specs.declared.outline.Place.{Place}
 use Rattle.stream_io.specs.declared.read.Reader.{Reader}
 use Rattle.stream_io.proofs.ReadingChildren.{IsFirstRead}
 use Rattle.file_faults.proofs.EntryKinds.{storage_kind}
-use Rattle.file_outline.proofs.Kept.{kept_child, kept_left}
 use Rattle.outline_entries.proofs.Kept.{nested_kept, stream_kept}
-use Rattle.stream_io.proofs.ReadingMemory.{by_entry, by_place, when_sorted}
+use Rattle.stream_io.proofs.ReadingMemory.{by_place, when_sorted}
 use Rattle.stream_io.proofs.ReadingRefused.{entry_below, never_ok, same_memory, stream_below}
-use Rattle.stream_io.proofs.ReadingSteps.{AreOpen, AreOutlined, entry_not_refused, inner_read, next_at, next_below, next_root, next_there, opened, outlined_all, outlined_more, outlined_none, positive, stream_read}
+use Rattle.stream_io.proofs.ReadingSteps.{AreOpen, AreOutlined, entry_not_refused, inner_read, next_at, next_below, next_root, next_there, opened, outlined_all, outlined_none, outlined_pushed, positive, stream_read}
 use Rattle.stream_io.proofs.read.Reader.+storages.Goals as goal
 
-pub child_outline-returns-in_err-entry-clause-there : goal.child_outline-returns-in_err-entry-clause-there
-child_outline-returns-in_err-entry-clause-there t c = λ k name s new h.
+pub push_child-returns-in_err-entry-clause-there : goal.push_child-returns-in_err-entry-clause-there
+push_child-returns-in_err-entry-clause-there t c = λ k name s new h.
     absurd (entry_not_refused c.args.depth c.args.id k name s c.args.self.now new c.in_err-entry.field-0.0 c.requires.below_root h c.in_err-entry.ensures.refused)
 
-pub child_outline-returns-in_err-entry-clause-refused : goal.child_outline-returns-in_err-entry-clause-refused
-child_outline-returns-in_err-entry-clause-refused t c = λ b pending at.
+pub push_child-returns-in_err-entry-clause-refused : goal.push_child-returns-in_err-entry-clause-refused
+push_child-returns-in_err-entry-clause-refused t c = λ b pending at.
     refused_with c.from_residual.result (directory_fault c.in_err-entry.field-0.0) (MayRefuseStorage b) c.from_residual.ensures.1
     (entry_below b c.args.depth c.args.id pending c.args.self.now at c.in_err-entry.field-0.0 c.requires.below_root c.in_err-entry.ensures.refused)
 
-pub child_outline-returns-in_err-part-clause-refused : goal.child_outline-returns-in_err-part-clause-refused
-child_outline-returns-in_err-part-clause-refused t c = λ b pending at.
+pub push_child-returns-in_err-part-clause-refused : goal.push_child-returns-in_err-part-clause-refused
+push_child-returns-in_err-part-clause-refused t c = λ b pending at.
     let again : IsErrAnd c.from_residual-in_err-part.result (λ x. x ≡ c.in_err-part.field-0.0) = search rules in
     refused_with c.from_residual-in_err-part.result c.in_err-part.field-0.0 (MayRefuseStorage b) again (c.in_err-part.ensures.refused b pending at)
 
@@ -65,36 +64,36 @@ storage_outline-returns-in_err-ids-clause-refused t c = λ b pending at.
     refused_with c.from_residual.result c.in_err-ids.field-0.0 (MayRefuseStorage b) again
     (c.in_err-ids.ensures.refused b (suc c.args.depth) pending c.requires.storage at)
 
-pub storage_outline-child_outline-requires : goal.storage_outline-child_outline-requires
-storage_outline-child_outline-requires t c =
+pub storage_outline-push_child-requires : goal.storage_outline-push_child-requires
+storage_outline-push_child-requires t c =
     let o : AreOpen c.args.id c.deref-child-items.result.now c.args.self.now c.sorted_children.new.self =
     opened c.deref-child-items.ensures.value c.in_ok-ids.ensures.sorted.0 c.in_ok-ids.ensures.sorted.1 in
     let p = c.loop-child.invariant.progress in
     (omega (arith, c.decreases), (next_below o p c.requires.root_marked c.loop-child-test.true, next_root o p c.requires.root_marked))
 
-pub storage_outline-returns-in_err-part-clause-there : goal.storage_outline-returns-in_err-part-clause-there
-storage_outline-returns-in_err-part-clause-there t c = λ u new h.
+pub storage_outline-returns-in_err-push_child-clause-there : goal.storage_outline-returns-in_err-push_child-clause-there
+storage_outline-returns-in_err-push_child-clause-there t c = λ u new h.
     let items : List ℕ = c.deref-child-items.result.now in
     let o : AreOpen c.args.id items c.args.self.now c.sorted_children.new.self =
     opened c.deref-child-items.ensures.value c.in_ok-ids.ensures.sorted.0 c.in_ok-ids.ensures.sorted.1 in
     let i : ℕ = c.loop-child.child-index in
     let first : IsFirstRead c.args.depth (get_or items i 0) (drop (i + 1) items) c.loop-child.self new =
     next_there o c.loop-child.invariant.progress u new h c.loop-child-test.true in
-    let again : IsErrAnd c.from_residual-in_err-part.result (λ x. x ≡ c.in_err-part.field-0.0) = search rules in
-    same_memory c.from_residual-in_err-part.result c.in_err-part.field-0.0 again
-    (c.in_err-part.ensures.there first.k first.name first.node first.next first.first)
+    let again : IsErrAnd c.from_residual-in_err-push_child.result (λ x. x ≡ c.in_err-push_child.field-0.0) = search rules in
+    same_memory c.from_residual-in_err-push_child.result c.in_err-push_child.field-0.0 again
+    (c.in_err-push_child.ensures.there first.k first.name first.node first.next first.first)
 
-pub storage_outline-returns-in_err-part-clause-refused : goal.storage_outline-returns-in_err-part-clause-refused
-storage_outline-returns-in_err-part-clause-refused t c = λ b pending at.
+pub storage_outline-returns-in_err-push_child-clause-refused : goal.storage_outline-returns-in_err-push_child-clause-refused
+storage_outline-returns-in_err-push_child-clause-refused t c = λ b pending at.
     let items : List ℕ = c.deref-child-items.result.now in
     let o : AreOpen c.args.id items c.args.self.now c.sorted_children.new.self =
     opened c.deref-child-items.ensures.value c.in_ok-ids.ensures.sorted.0 c.in_ok-ids.ensures.sorted.1 in
     let i : ℕ = c.loop-child.child-index in
     let next : IsNext b c.args.depth (get_or items i 0) (drop (i + 1) items ++ pending) c.loop-child.self =
     next_at o c.loop-child.invariant.progress b pending c.requires.storage at c.loop-child-test.true in
-    let again : IsErrAnd c.from_residual-in_err-part.result (λ x. x ≡ c.in_err-part.field-0.0) = search rules in
-    refused_with c.from_residual-in_err-part.result c.in_err-part.field-0.0 (MayRefuseStorage b) again
-    (c.in_err-part.ensures.refused b (drop (i + 1) items ++ pending) next)
+    let again : IsErrAnd c.from_residual-in_err-push_child.result (λ x. x ≡ c.in_err-push_child.field-0.0) = search rules in
+    refused_with c.from_residual-in_err-push_child.result c.in_err-push_child.field-0.0 (MayRefuseStorage b) again
+    (c.in_err-push_child.ensures.refused b (drop (i + 1) items ++ pending) next)
 
 pub storage_outline-loop-child-init : goal.storage_outline-loop-child-init
 storage_outline-loop-child-init t c =
@@ -103,24 +102,8 @@ storage_outline-loop-child-init t c =
     subst (λ (ps : List (List ℕ × Part)). AreOutlined c.args.depth c.deref-child-items.result.now mid (wanted c.args.keep) 0 mid ps) (sym empty)
     (outlined_none c.args.depth c.deref-child-items.result.now mid (wanted c.args.keep))
 
-pub storage_outline-loop-child-preserved-in_default : goal.storage_outline-loop-child-preserved-in_default
-storage_outline-loop-child-preserved-in_default t c =
-    let w : Wanted = wanted c.args.keep in
-    let one : IsChildOutlined c.args.depth (get_or c.deref-child-items.result.now c.loop-child.child-index 0) w None c.loop-child.self c.child_outline.new.self =
-    subst (λ x. IsChildOutlined c.args.depth (get_or c.deref-child-items.result.now c.loop-child.child-index 0) w x c.loop-child.self c.child_outline.new.self)
-    c.in_default.is c.in_ok-part.ensures.outlined in
-    outlined_more c.loop-child-test.true c.loop-child.invariant one
-    (kept_left w c.loop-child.invariant.whole c.loop-child.parts.items one.name one.whole c.loop-child.invariant.is_kept one.is_kept)
-
 pub storage_outline-loop-child-preserved : goal.storage_outline-loop-child-preserved
-storage_outline-loop-child-preserved t c =
-    let w : Wanted = wanted c.args.keep in
-    let one : IsChildOutlined c.args.depth (get_or c.deref-child-items.result.now c.loop-child.child-index 0) w (Some c.in-Some.part) c.loop-child.self c.child_outline.new.self =
-    subst (λ x. IsChildOutlined c.args.depth (get_or c.deref-child-items.result.now c.loop-child.child-index 0) w x c.loop-child.self c.child_outline.new.self)
-    c.in-Some.is c.in_ok-part.ensures.outlined in
-    rw c.in_ok-push.ensures.items
-    (outlined_more c.loop-child-test.true c.loop-child.invariant one
-    (kept_child w c.loop-child.invariant.whole c.loop-child.parts.items one.name one.whole c.in-Some.part c.loop-child.invariant.is_kept one.is_kept))
+storage_outline-loop-child-preserved t c = outlined_pushed c.loop-child-test.true c.loop-child.invariant c.in_ok-push_child.ensures.outlined
 
 pub storage_outline-returns-clause-outlined : goal.storage_outline-returns-clause-outlined
 storage_outline-returns-clause-outlined t c =
@@ -129,16 +112,36 @@ storage_outline-returns-clause-outlined t c =
     outlined_all o c.in_ok-ids.ids c.loop-child.parts c.from_bytes.result c.args.entry.now.state c.loop-child-test.false (ap length c.deref-child-items.ensures.value)
     c.loop-child.invariant (c.from_bytes.ensures ∙ c.requires.entry.class) c.requires.entry.state
 
-pub child_outline-returns-in-Nothing-clause-outlined : goal.child_outline-returns-in-Nothing-clause-outlined
-child_outline-returns-in-Nothing-clause-outlined t c =
+pub push_child-returns-in-Nothing-clause-outlined : goal.push_child-returns-in-Nothing-clause-outlined
+push_child-returns-in-Nothing-clause-outlined t c =
     let h = c.in_ok-part.ensures.outlined in
     record {
-      name = c.in_ok-entry.entry.name;
-      whole = h.whole;
-      is_read = search rules;
-      sized = h.sized;
-      told = h.told;
-      is_kept = sym c.below-below.ensures ∙ ap wanted c.in-Nothing.is;
+      child = None;
+      outlined = record {
+        name = c.in_ok-entry.entry.name;
+        whole = h.whole;
+        is_read = search rules;
+        sized = h.sized;
+        told = h.told;
+        is_kept = sym c.below-below.ensures ∙ ap wanted c.in-Nothing.is;
+      };
+      pushed = refl;
+    }
+
+pub push_child-returns-in_ok-push-in_default-clause-outlined : goal.push_child-returns-in_ok-push-in_default-clause-outlined
+push_child-returns-in_ok-push-in_default-clause-outlined t c =
+    let h = c.in_ok-part.ensures.outlined in
+    record {
+      child = Some (c.in_ok-entry.entry.name, c.in_ok-part.part);
+      outlined = record {
+        name = c.in_ok-entry.entry.name;
+        whole = h.whole;
+        is_read = search rules;
+        sized = h.sized;
+        told = h.told;
+        is_kept = (refl, subst (λ (x : Wanted). IsPartKeptOf x h.whole c.in_ok-part.part) c.below-below.ensures h.is_kept);
+      };
+      pushed = c.in_ok-push-in_default.ensures.items;
     }
 
 pub part_outline-returns-in_ok-mark_stream-in-Stream-clause-outlined : goal.part_outline-returns-in_ok-mark_stream-in-Stream-clause-outlined
@@ -169,16 +172,6 @@ part_outline-returns-in_ok-inner-in_default t c =
     }
 
 -- want of memory is told only where the children are there
-pub child_outline-returns-in_err-entry-clause-memory : goal.child_outline-returns-in_err-entry-clause-memory
-child_outline-returns-in_err-entry-clause-memory t c =
-    refused_with c.from_residual.result (directory_fault c.in_err-entry.field-0.0) (MayWant c.args.self.now.entries c.args.id) c.from_residual.ensures.1
-    (by_entry c.args.self.now.entries c.args.id (directory_in c.args.self.now) c.in_err-entry.field-0.0 c.in_err-entry.ensures.refused)
-
-pub child_outline-returns-in_err-part-clause-memory : goal.child_outline-returns-in_err-part-clause-memory
-child_outline-returns-in_err-part-clause-memory t c =
-    let again : IsErrAnd c.from_residual-in_err-part.result (λ x. x ≡ c.in_err-part.field-0.0) = search rules in
-    refused_with c.from_residual-in_err-part.result c.in_err-part.field-0.0 (MayWant c.args.self.now.entries c.args.id) again c.in_err-part.ensures.memory
-
 pub part_outline-returns-in_err-mark_stream-in-Stream-clause-memory : goal.part_outline-returns-in_err-mark_stream-in-Stream-clause-memory
 part_outline-returns-in_err-mark_stream-in-Stream-clause-memory t c =
     let again : IsErrAnd c.from_residual.result (λ x. x ≡ c.in_err-mark_stream-in-Stream.field-0.0) = search rules in
@@ -195,10 +188,6 @@ pub storage_outline-returns-in_err-parts-clause-memory : goal.storage_outline-re
 storage_outline-returns-in_err-parts-clause-memory t c =
     when_sorted c.args.self.now.entries c.args.id c.from_residual-in_err-parts.result c.in_ok-ids.ids.items c.requires.entry.inside c.in_ok-ids.ensures.sorted.0
 
-pub storage_outline-returns-in_err-part-clause-memory : goal.storage_outline-returns-in_err-part-clause-memory
-storage_outline-returns-in_err-part-clause-memory t c =
-    when_sorted c.args.self.now.entries c.args.id c.from_residual-in_err-part.result c.in_ok-ids.ids.items c.requires.entry.inside c.in_ok-ids.ensures.sorted.0
-
-pub storage_outline-returns-in_err-push-clause-memory : goal.storage_outline-returns-in_err-push-clause-memory
-storage_outline-returns-in_err-push-clause-memory t c =
-    when_sorted c.args.self.now.entries c.args.id c.from_residual-in_err-push.result c.in_ok-ids.ids.items c.requires.entry.inside c.in_ok-ids.ensures.sorted.0
+pub storage_outline-returns-in_err-push_child-clause-memory : goal.storage_outline-returns-in_err-push_child-clause-memory
+storage_outline-returns-in_err-push_child-clause-memory t c =
+    when_sorted c.args.self.now.entries c.args.id c.from_residual-in_err-push_child.result c.in_ok-ids.ids.items c.requires.entry.inside c.in_ok-ids.ensures.sorted.0

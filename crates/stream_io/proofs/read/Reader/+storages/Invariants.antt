@@ -6,8 +6,8 @@ use Rattle.stream_io.proofs.read.Reader.+storages.Given as goal
 abbrev pub decreases-storage_outline : goal.decreases-storage_outline
 decreases-storage_outline l = 3 * l.depth + 2
 
-abbrev pub decreases-child_outline : goal.decreases-child_outline
-decreases-child_outline l = 3 * l.depth + 1
+abbrev pub decreases-push_child : goal.decreases-push_child
+decreases-push_child l = 3 * l.depth + 1
 
 abbrev pub decreases-part_outline : goal.decreases-part_outline
 decreases-part_outline l = 3 * l.depth
