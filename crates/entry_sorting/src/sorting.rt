@@ -212,8 +212,11 @@ fn walk_in_order(fronts: &[u64], order: &mut [u32])
     let mut waiting = order.len();
     for k in 0..fronts.len() {
         (done, waiting) = finish_before(fronts, fronts[k], order, done, waiting);
+        let Ok(index) = u32::try_from(k) else {
+            return;
+        };
         waiting -= 1;
-        order[waiting] = u32::try_from(k).unwrap_or(u32::MAX);
+        order[waiting] = index;
     }
 }
 
