@@ -3,5 +3,6 @@
 
 pub mod fault;
 pub mod laws;
+pub mod rising;
 pub mod storage;
 pub mod tree;

@@ -162,6 +162,18 @@ of_tree-is : (r : Result Kept TreeFault) (x : Kept) → of_tree r ≡ Ok x → r
 of_tree-is (Ok k) x h = cc
 of_tree-is (Err fault) x h = absurd (search (rules))
 
+some-name : (path : List (List ℕ)) → 1 ≤ length path → false ≡ (length path == 0)
+some-name [] h = absurd (omega (arith, h))
+some-name (name ∷ rest) h = grind (arith)
+
+-- a stream that is made is told, and makes the tree grow by its bytes
+pub made-grows : (k x : Kept) (path : List (List ℕ)) (new : List ℕ) → 1 ≤ length path → added path new k ≡ Ok x
+    → (stream_made new k path ≡ Ok x) × (over_streams length k.now + length new ≤ over_streams length x.now)
+made-grows k x path new named h =
+    let told : stream_made new k path ≡ Ok x = sym (made-is k path new (some-name path named)) ∙ ap of_tree h in
+    let free = free-from k x path new told in
+    (told, put-grows k x path new free (of_tree-is (put path new k) x (sym (free-put k path new free) ∙ told)))
+
 -- a stream is put with its bytes
 pub whole-put : (b b' : Building) (k : Kept) (path : List (List ℕ)) (new : List ℕ) → IsBuilt b k → b.spent + length new ≤ room → false ≡ (length path == 0)
     → added path new (kept b.tree) ≡ Ok (kept b'.tree) → b'.spent ≡ b.spent + length new → (x : Kept) × (stream_made new k path ≡ Ok x) × IsBuilt b' x

@@ -1,7 +1,7 @@
 -- The lines of a description, one after another.
-use Rattle.std.proofs.Common.{◌≡◌, ◌++◌, ◌⊎◌, ℕ, List, [], ◌∷◌, Option, Some, None, Result, Ok, Err, cond, refl, sym, ap, ◌∙◌, subst, inl, inr, rules}
+use Rattle.std.proofs.Common.{◌≡◌, ◌<◌, ◌+◌, ◌++◌, length, arith, ◌⊎◌, ℕ, List, [], ◌∷◌, Option, Some, None, Result, Ok, Err, cond, refl, sym, ap, ◌∙◌, subst, inl, inr, rules}
 use Rattle.std.specs.Option.{option_map}
-use Rattle.std.specs.Prelude.{IsOk, IsSome, is_some}
+use Rattle.std.specs.Prelude.{IsOk, IsSome, MatchOption, is_some}
 use Rattle.storage_tree.specs.Kept.{Kept}
 use Rattle.text_words.specs.Words.{lines}
 use Rattle.texts.specs.Lines.{RefusesText, asking, put_first}
@@ -9,12 +9,10 @@ use Rattle.texts.specs.declared.lines.SyntaxFault.{SyntaxFault}
 use Rattle.texts.specs.declared.lines.SyntaxFault.TheVariants as syntax_fault
 use Rattle.texts.proofs.Asking.{all-asked, asked, asked-so-far, asked-turn, bad-at, lacking_at, one-more}
 use Rattle.texts.proofs.LineByLine.{behind}
-use Rattle.tree_descriptions.specs.Building.{IsBuilt}
 use Rattle.tree_descriptions.specs.Commands.{commands_read, line_read, numbered_read}
 use Rattle.tree_descriptions.specs.Description.{Refuses, RefusesDescription, MayLackRoom, carried, carried_out, at_line, described, nothing, of_syntax, then_by}
 use Rattle.tree_descriptions.specs.Faults.{of_syntax_fault}
 use Rattle.tree_descriptions.specs.Refusal.{refusal}
-use Rattle.tree_descriptions.specs.declared.building.Building.{Building}
 use Rattle.tree_descriptions.specs.declared.command.Command.{Command}
 use Rattle.tree_descriptions.specs.declared.fault.LineFault.{LineFault}
 use Rattle.tree_descriptions.specs.declared.fault.LineFault.TheVariants.{Bad, Name, Tree, NoMemory}
@@ -117,20 +115,48 @@ rest-of : (left : List (ℕ × List ℕ)) (told : ℕ × LineFault) → Rest lef
 rest-of [] told = inl ([], refl, refl)
 rest-of ((n, line) ∷ left) told = rest-behind n line left told (line_read line) refl (rest-of left told)
 
+-- how many lines are to come: the next one, and those behind it
+abbrev pub to_come : {A : Type 0} → Option A → List (ℕ × List ℕ) → ℕ
+to_come None left = 0
+to_come (Some x) left = length left + 1
+
+-- the next one is the first of all
+pub next-is : {A : Type 0} (next : Option A) (x : A) (coming left : List (ℕ × List ℕ)) (f : A → ℕ × List ℕ) → next ≡ Some x
+    → MatchOption next ((coming ≡ []) × (left ≡ [])) (λ y. coming ≡ f y ∷ left) → coming ≡ f x ∷ left
+next-is next x coming left f is h = subst (λ o. MatchOption o ((coming ≡ []) × (left ≡ [])) (λ y. coming ≡ f y ∷ left)) is h
+
+pub none-left : {A : Type 0} (next : Option A) (coming left : List (ℕ × List ℕ)) (f : A → ℕ × List ℕ) → next ≡ None
+    → MatchOption next ((coming ≡ []) × (left ≡ [])) (λ y. coming ≡ f y ∷ left) → coming ≡ []
+none-left next coming left f is h = (subst (λ o. MatchOption o ((coming ≡ []) × (left ≡ [])) (λ y. coming ≡ f y ∷ left)) is h).0
+
+fewer-left : {A : Type 0} (next : Option A) (coming left : List (ℕ × List ℕ)) (f : A → ℕ × List ℕ)
+    → MatchOption next ((coming ≡ []) × (left ≡ [])) (λ y. coming ≡ f y ∷ left) → to_come next left < length coming + 1
+fewer-left None coming left f h = omega arith
+fewer-left (Some x) coming left f h = let longer : length coming ≡ length (f x ∷ left) = ap length h in omega (arith, longer)
+
+-- with each line there are fewer
+pub fewer : {A : Type 0} (now next : Option A) (x : A) (coming left : List (ℕ × List ℕ)) (f : A → ℕ × List ℕ) → now ≡ Some x
+    → MatchOption next ((coming ≡ []) × (left ≡ [])) (λ y. coming ≡ f y ∷ left) → to_come next left < to_come now coming
+fewer now next x coming left f is h = subst (λ o. to_come next left < to_come o coming) (sym is) (fewer-left next coming left f h)
+
 -- some lines of a description were carried out, and others are left
-pub record IsUnderway (text : List ℕ) (left : List (ℕ × List ℕ)) (b : Building) : Type 0 where
+pub record IsUnderway (text : List ℕ) (left : List (ℕ × List ℕ)) (Built : Kept → Type 0) : Type 0 where
   pub gone : List (ℕ × List ℕ)
   pub commands : List (ℕ × Command)
   pub k : Kept
   pub parts : asking 1 (lines text) ≡ gone ++ left
   pub read : asked numbered_read gone ≡ Ok commands
   pub so_far : carried commands nothing ≡ Ok k
-  pub built : IsBuilt b k
+  pub built : Built k
 
-pub begins : (text : List ℕ) (left : List (ℕ × List ℕ)) (b : Building) → left ≡ asking 1 (lines text) → IsBuilt b nothing → IsUnderway text left b
-begins text left b all built = record { gone = []; commands = []; k = nothing; parts = sym all; read = refl; so_far = refl; built = built }
+pub begins : (text : List ℕ) (left : List (ℕ × List ℕ)) (Built : Kept → Type 0) → left ≡ asking 1 (lines text) → Built nothing → IsUnderway text left Built
+begins text left Built all built = record { gone = []; commands = []; k = nothing; parts = sym all; read = refl; so_far = refl; built = built }
 
-module _ (text : List ℕ) (left : List (ℕ × List ℕ)) (b : Building) (u : IsUnderway text left b) where
+module _ (text : List ℕ) (left : List (ℕ × List ℕ)) (Built : Kept → Type 0) (u : IsUnderway text left Built) where
+  -- what was built is built otherwise
+  pub rebuilt : (Other : Kept → Type 0) → ((k : Kept) → Built k → Other k) → IsUnderway text left Other
+  rebuilt Other other = record { gone = u.gone; commands = u.commands; k = u.k; parts = u.parts; read = u.read; so_far = u.so_far; built = other u.k u.built }
+
   -- all lines were carried out
   pub ends : left ≡ [] → described text ≡ Ok u.k
   ends none = ran-through text u.commands u.k (all-asked numbered_read text u.gone left u.commands u.parts u.read none) u.so_far
@@ -140,8 +166,8 @@ module _ (text : List ℕ) (left : List (ℕ × List ℕ)) (b : Building) (u : I
     parts-here = u.parts ∙ ap (λ l. u.gone ++ l) taken
 
     -- one more was
-    pub goes_on : (command : Command) (next : Building) → Some command ≡ line_read line → (k : Kept) × (carried_out command u.k ≡ Ok k) × IsBuilt next k → IsUnderway text rest next
-    goes_on command next is (k, carries, built) = record {
+    pub goes_on : (command : Command) (Next : Kept → Type 0) → Some command ≡ line_read line → (k : Kept) × (carried_out command u.k ≡ Ok k) × Next k → IsUnderway text rest Next
+    goes_on command Next is (k, carries, built) = record {
       gone = u.gone ++ (n, line) ∷ [];
       commands = u.commands ++ (n, command) ∷ [];
       k = k;

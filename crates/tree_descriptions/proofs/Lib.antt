@@ -1,3 +1,4 @@
+pub mod Runs
 pub mod Described
 pub mod Outlines
 pub mod Totals

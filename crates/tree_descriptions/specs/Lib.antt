@@ -4,3 +4,4 @@ pub mod Outline
 pub mod Description
 pub mod Refusal
 pub mod Building
+pub mod Run

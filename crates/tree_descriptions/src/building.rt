@@ -1,12 +1,14 @@
 //! Trees that are built from descriptions.
 
 ghost use Rattle.tree_descriptions.specs.Building.{Builds, IsBuilt, IsDescribed, room};
+ghost use Rattle.tree_descriptions.specs.Run.{IsRun};
 ghost use Rattle.tree_descriptions.specs.Description.{Refuses, of_tree, nothing, stream_made, zero_class};
 ghost use Rattle.std.specs.Prelude.{◌≡◌, ◌+◌, ◌<◌, ◌≤◌, List, [], ℕ, Ok, false, length, is_ok, replicate, IfErr, IfOk, OnOk};
 ghost use Rattle.storage_tree.specs.Change.{inner, look};
 ghost use Rattle.storage_tree.specs.Kept.{Kept, kept, made, put};
 
 use crate::fault::LineFault;
+use crate::run::Run;
 use cfb_names::name::Name;
 use file_model::limit::MOST_BYTES;
 use std::alloc::{AllocError, Global};
@@ -39,6 +41,17 @@ impl Building {
             tree: Tree::new(alloc, ClassId::from_bytes([0; 16]), 0),
             spent: 0,
         }
+    }
+
+    /// The tree of a run of streams.
+    pub fn from_run(alloc: Global, run: Run) -> Result<Building, AllocError>
+        ensures { IfOk result (λ building. (k : Kept) → IsRun run k → IsBuilt building k) }
+    {
+        let Run { tree, spent } = run;
+        Ok(Building {
+            tree: tree.into_tree(alloc)?,
+            spent,
+        })
     }
 
     /// What was built.
@@ -157,7 +170,7 @@ impl Building {
 }
 
 /// So many bytes that are all the same.
-fn filled(alloc: Global, count: u32, byte: u8) -> Result<Bytes, AllocError>
+pub fn filled(alloc: Global, count: u32, byte: u8) -> Result<Bytes, AllocError>
     ensures { IfOk result (λ bytes. bytes ≡ replicate count byte) }
 {
     Bytes::from_vec(alloc, vec![in alloc; byte; count as usize]?)

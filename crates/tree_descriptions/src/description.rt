@@ -10,6 +10,7 @@ use crate::building::Building;
 pub use crate::building::Described;
 use crate::command::{Command, is_command};
 use crate::fault::LineFault;
+use crate::run::Run;
 use std::alloc::Global;
 use texts::lines::Lines;
 
@@ -22,9 +23,26 @@ pub fn describe(alloc: Global, text: &[u8]) -> Result<Described, (usize, LineFau
     ensures made { IfOk result (λ d. (k : Kept) × (described text.now ≡ Ok k) × IsDescribed k d) }
     ensures refused { IfErr result (RefusesDescription text.now) }
 {
-    let mut building = Building::new(alloc);
     let mut left = Lines::new(text);
-    while let Some((number, line)) = left.next_line() {
+    let mut next = left.next_line();
+    // Nearly all descriptions begin with streams of the root in name order: they are put into the tree at once.
+    let mut run = Run::new(alloc);
+    while let Some((_, line)) = next {
+        if !run.take_line(alloc, line) {
+            break;
+        }
+        next = left.next_line();
+    }
+    let mut building = match Building::from_run(alloc, run) {
+        Ok(building) => building,
+        Err(_) => {
+            // Where that took more memory than was left, the tree is built line by line, to tell the line at which it lacks.
+            left = Lines::new(text);
+            next = left.next_line();
+            Building::new(alloc)
+        }
+    };
+    while let Some((number, line)) = next {
         match Command::parse(alloc, line) {
             Ok(Some(command)) => match carry_out(alloc, &mut building, command) {
                 Ok(()) => {}
@@ -37,6 +55,7 @@ pub fn describe(alloc: Global, text: &[u8]) -> Result<Described, (usize, LineFau
             Ok(None) => return Err((number, LineFault::Bad)),
             Err(_) => return Err((number, LineFault::NoMemory)),
         }
+        next = left.next_line();
     }
     Ok(building.finish())
 }

@@ -5,3 +5,4 @@ mod building;
 mod command;
 pub mod description;
 pub mod fault;
+mod run;

@@ -1,0 +1,106 @@
+//! Trees whose streams are made in name order.
+
+ghost use Rattle.cfb_names.specs.Names.{key_cmp};
+ghost use Rattle.std.proofs.Props.{props};
+ghost use Rattle.std.specs.List.{AllByRecursion};
+ghost use Rattle.std.specs.List.Sorted.{IsStrictlySortedBy};
+ghost use Rattle.std.specs.Map.{keys_of};
+ghost use Rattle.std.specs.Prelude.{◌≡◌, ◌∷◌, [], IfOk, Ok, false, true};
+ghost use Rattle.std.specs.declared.cmp.Ordering.TheVariants.{Less};
+ghost use Rattle.storage_tree.specs.Tree.{none, tree};
+ghost use Rattle.storage_tree.specs.View.{children};
+ghost use Rattle.storage_tree.specs.Whole.{IsTree};
+
+use crate::storage::{Node, Storage, key_of};
+use crate::tree::Tree;
+use cfb_names::key::Key;
+use cfb_names::name::Name;
+use std::alloc::{AllocError, Global};
+use std::collections::BTreeMap;
+use stored_values::bytes::Bytes;
+use stored_values::class_id::ClassId;
+
+/// A tree whose root has streams alone, each made behind all others. They wait in a row and are made into the root's
+/// children at once, which takes less time than one after another.
+#[derive(Drop)]
+pub struct Rising {
+    class: ClassId,
+    state: u32,
+    streams: Vec<(Key, (Name, Node))>,
+    ghost ascending: { IsStrictlySortedBy key_cmp (keys_of streams.items) } by { Prim.hlevel props },
+    ghost whole: { ∥ IsTree 32 (tree class state (children streams.items)) ∥₁ },
+}
+
+impl Rising {
+    ghost use Rattle.storage_tree.specs.Kept.{added, kept};
+    ghost use Rattle.storage_tree.specs.Rising.{rising};
+
+    /// A root without children, with this class id and these state bits.
+    pub fn new(alloc: Global, class: ClassId, state: u32) -> Rising
+        ensures { rising result ≡ record { now = tree class state none; saved = [] } }
+    {
+        Rising {
+            class,
+            state,
+            streams: Vec::new(alloc),
+        }
+    }
+
+    /// Makes a stream of these bytes, where its name comes behind those of all others, and says whether it did. It didn't
+    /// where the name comes before another or is one of them, or where no memory was left; then nothing has changed.
+    pub fn make_last(&mut self, name: &Name, bytes: Bytes) -> bool
+        ensures made { result ≡ true → added (name.now ∷ []) bytes (rising self.old) ≡ Ok (rising self.new) }
+        ensures kept { result ≡ false → rising self.new ≡ rising self.old }
+    {
+        let key = key_of(name);
+        if !is_behind(&self.streams, &key) {
+            return false;
+        }
+        let stream = (name.copy(), Node::Stream(bytes));
+        if self.streams.push((key, stream)).is_err() {
+            return false;
+        }
+        true
+    }
+
+    /// The tree, outside transactions. What later calls take comes from this allocator.
+    pub fn into_tree(self, alloc: Global) -> Result<Tree, AllocError>
+        ensures { IfOk result (λ tree. kept tree ≡ rising self) }
+    {
+        let Rising {
+            class,
+            state,
+            streams,
+        } = self;
+        let children = map_of(alloc, streams)?;
+        Ok(Tree::from_root(
+            alloc,
+            Storage {
+                class,
+                state,
+                children,
+            },
+        ))
+    }
+}
+
+/// Whether a key is greater than all of these, which ascend.
+fn is_behind(streams: &[(Key, (Name, Node))], key: &Key) -> bool
+    requires { IsStrictlySortedBy key_cmp (keys_of streams.now) }
+    ensures { result ≡ true → AllByRecursion (λ other. key_cmp other key.now ≡ Less) (keys_of streams.now) }
+{
+    match streams.last() {
+        Some(last) => last.0.cmp(key).is_lt(),
+        None => true,
+    }
+}
+
+/// The map of children whose keys ascend, made at once.
+fn map_of(
+    alloc: Global,
+    streams: Vec<(Key, (Name, Node))>,
+) -> Result<BTreeMap<Key, (Name, Node)>, AllocError>
+    ensures { IfOk result (λ map. IsStrictlySortedBy key_cmp (keys_of streams.items) → map.entries ≡ streams.items) }
+{
+    streams.into_iter().collect(alloc)
+}

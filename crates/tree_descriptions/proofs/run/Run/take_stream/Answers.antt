@@ -1,0 +1,9 @@
+use Rattle.std.proofs.Common.{arith}
+use Rattle.tree_descriptions.proofs.Runs.{put-behind}
+use Rattle.tree_descriptions.proofs.run.Run.take_stream.Goals as goal
+
+pub returns : goal.returns
+returns c = λ k run.
+    put-behind c.args.self.now (record { tree = c.make_last.new.self; spent = c.saturating_add-spent.result }) k c.args.path.now c.name-item.result c.args.bytes
+    c.name-item.is c.in-len1.len_at_least c.in-len1.len_below run (c.make_last.ensures.made c.if-not-make_last.false) (omega (arith, c.saturating_add-spent.ensures, c.len.ensures))
+    c.if-spent-gt-MOST_BYTES.false
