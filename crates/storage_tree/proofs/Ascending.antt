@@ -20,26 +20,30 @@ use Rattle.storage_nodes.specs.declared.storage.Node.{Node}
 use Rattle.storage_nodes.specs.declared.storage.Node.TheVariants.{Stream}
 use Rattle.storage_tree.specs.Change.{change, inner}
 use Rattle.storage_tree.specs.Tree.{tree}
-use Rattle.storage_tree.specs.View.{children, view}
+use Rattle.storage_tree.specs.View.{AreBelow, children, view}
 use Rattle.storage_tree.specs.Whole.{IsTree}
 use Rattle.storage_tree.specs.declared.storage.Edit.TheVariants.{Add}
 use Rattle.storage_tree.proofs.Entries.{Entries, add-new, seen-stream, view-roll}
 use Rattle.storage_tree.proofs.Wholes.{change_keeps}
 
--- every key of these is below k
-abbrev pub Below : List ℕ → List (List ℕ) → Type 0
-Below k ks = AllByRecursion (λ q. key_cmp q k ≡ Less) ks
-
 -- a key above the last one is above all
 pub above-last : (es : Entries) (last : List ℕ × (List ℕ × Node)) (k : List ℕ) → IsStrictlySortedBy key_cmp (keys_of es) → slice_get es (length es - 1) ≡ Some last
-    → key_cmp last.0 k ≡ Less → Below k (keys_of es)
+    → key_cmp last.0 k ≡ Less → AreBelow k (keys_of es)
 above-last [] last k up is h = tt
 above-last (e ∷ []) last k up is h =
     let same : e ≡ last = search (rules, is) in
     (ap (λ (x : List ℕ × (List ℕ × Node)). key_cmp x.0 k) same ∙ h, tt)
 above-last (e ∷ next ∷ es) last k up is h =
-    let rest : Below k (keys_of (next ∷ es)) = above-last (next ∷ es) last k (sorted_tail key_cmp e.0 (keys_of (next ∷ es)) up) (search (rules, is)) h in
+    let rest : AreBelow k (keys_of (next ∷ es)) = above-last (next ∷ es) last k (sorted_tail key_cmp e.0 (keys_of (next ∷ es)) up) (search (rules, is)) h in
     (nat_list_cmp_total.trans e.0 next.0 k (sorted_head key_cmp e.0 (keys_of (next ∷ es)) up).0 rest.0, rest)
+
+-- and where it is above all, it is above the last one
+pub last-below : (es : Entries) (last : List ℕ × (List ℕ × Node)) (k : List ℕ) → slice_get es (length es - 1) ≡ Some last → AreBelow k (keys_of es) → key_cmp last.0 k ≡ Less
+last-below [] last k is h = absurd (search (rules, is))
+last-below (e ∷ []) last k is h =
+    let same : e ≡ last = search (rules, is) in
+    ap (λ (x : List ℕ × (List ℕ × Node)). key_cmp x.0 k) (sym same) ∙ h.0
+last-below (e ∷ next ∷ es) last k is h = last-below (next ∷ es) last k (search (rules, is)) h.1
 
 pub lesser : (o : Ordering) → is_lt o ≡ true → o ≡ Less
 lesser Less h = refl
@@ -50,12 +54,12 @@ greater : (q k : List ℕ) → key_cmp q k ≡ Less → key_cmp k q ≡ Greater
 greater q k h = nat_list_cmp_total.antisymm k q ∙ ap ordering_reverse h
 
 -- it stands there under none
-absent : (es : Entries) (k : List ℕ) → Below k (keys_of es) → lookup (is_at (key_cmp k)) es ≡ None
+absent : (es : Entries) (k : List ℕ) → AreBelow k (keys_of es) → lookup (is_at (key_cmp k)) es ≡ None
 absent [] k h = refl
 absent (e ∷ es) k h = ap (λ o. cond (is_eq o) (Some e.1) (lookup (is_at (key_cmp k)) es)) (greater e.0 k h.0) ∙ absent es k h.1
 
 -- its entry goes behind them
-behind : (es : Entries) (k : List ℕ) (v : List ℕ × Node) → Below k (keys_of es) → insert_entry key_cmp es k v ≡ es ++ (k, v) ∷ []
+behind : (es : Entries) (k : List ℕ) (v : List ℕ × Node) → AreBelow k (keys_of es) → insert_entry key_cmp es k v ≡ es ++ (k, v) ∷ []
 behind [] k v h = refl
 behind (e ∷ es) k v h =
     ap (λ o. match_ordering o ((k, v) ∷ e ∷ es) ((e.0, v) ∷ es) (e ∷ insert_entry key_cmp es k v)) (greater e.0 k h.0) ∙ ap (λ x. e ∷ x) (behind es k v h.1)
@@ -65,28 +69,28 @@ all-behind P [] k v all h = (h, tt)
 all-behind P (e ∷ es) k v all h = (all.0, all-behind P es k v all.1 h)
 
 -- and all ascend with it
-pub ascend : (es : Entries) (k : List ℕ) (v : List ℕ × Node) → IsStrictlySortedBy key_cmp (keys_of es) → Below k (keys_of es) → IsStrictlySortedBy key_cmp (keys_of (es ++ (k, v) ∷ []))
+pub ascend : (es : Entries) (k : List ℕ) (v : List ℕ × Node) → IsStrictlySortedBy key_cmp (keys_of es) → AreBelow k (keys_of es) → IsStrictlySortedBy key_cmp (keys_of (es ++ (k, v) ∷ []))
 unfolding IsStrictlySortedBy
 ascend [] k v up h = (tt, tt)
 ascend (e ∷ es) k v up h = (all-behind (λ q. key_cmp e.0 q ≡ Less) es k v up.0 h.0, ascend es k v up.1 h.1)
 
 -- a stream is made behind all others
-pub made-behind : (class : List ℕ) (state : ℕ) (es : Entries) (name new : List ℕ) → Below (key name) (keys_of es)
+pub made-behind : (class : List ℕ) (state : ℕ) (es : Entries) (name new : List ℕ) → AreBelow (key name) (keys_of es)
     → change (Add new) (name ∷ []) (inner (tree class state (children es))) ≡ Ok (inner (tree class state (children (es ++ (key name, (name, Stream new)) ∷ []))))
 made-behind class state es name new h =
     add-new name new class state es (es ++ (key name, (name, Stream new)) ∷ []) (Stream new) (absent es (key name) h) (seen-stream new) (sym (behind es (key name) (name, Stream new) h))
 
 -- which leaves the tree whole
-pub whole-behind : (class : List ℕ) (state : ℕ) (es : Entries) (name new : List ℕ) → IsName name → Below (key name) (keys_of es) → IsTree 32 (tree class state (children es))
+pub whole-behind : (class : List ℕ) (state : ℕ) (es : Entries) (name new : List ℕ) → IsName name → AreBelow (key name) (keys_of es) → IsTree 32 (tree class state (children es))
     → IsTree 32 (tree class state (children (es ++ (key name, (name, Stream new)) ∷ [])))
 whole-behind class state es name new valid h whole =
     change_keeps (Add new) (name ∷ []) (inner (tree class state (children es))) (inner (tree class state (children (es ++ (key name, (name, Stream new)) ∷ [])))) 33
     valid tt whole (made-behind class state es name new h)
 
 -- what a stream that is pushed behind all others leaves
-module _ (class : List ℕ) (state : ℕ) (es es' : Entries) (k name n new : List ℕ) (is : k ≡ key name) (copied : n ≡ name) (h : Below k (keys_of es)) (pushed : es' ≡ es ++ (k, (n, Stream new)) ∷ []) where
-  below : Below (key name) (keys_of es)
-  below = subst (λ q. Below q (keys_of es)) is h
+module _ (class : List ℕ) (state : ℕ) (es es' : Entries) (k name n new : List ℕ) (is : k ≡ key name) (copied : n ≡ name) (h : AreBelow k (keys_of es)) (pushed : es' ≡ es ++ (k, (n, Stream new)) ∷ []) where
+  below : AreBelow (key name) (keys_of es)
+  below = subst (λ q. AreBelow q (keys_of es)) is h
 
   left : es' ≡ es ++ (key name, (name, Stream new)) ∷ []
   left = pushed ∙ ap (λ q. es ++ (q, (n, Stream new)) ∷ []) is ∙ ap (λ (m : List ℕ). es ++ (key name, (m, Stream new)) ∷ []) copied
@@ -104,10 +108,6 @@ module _ (class : List ℕ) (state : ℕ) (es es' : Entries) (k name n new : Lis
 pub either : (P : Entries → Type 0) (b : Bool) (es more es' : Entries) → es' ≡ (if b then more else es) → P es → P more → P es'
 either P true es more es' is p q = subst P (sym is) q
 either P false es more es' is p q = subst P (sym is) p
-
-pub took : (b : Bool) (es more es' : Entries) → es' ≡ (if b then more else es) → b ≡ true → es' ≡ more
-took true es more es' is h = is
-took false es more es' is h = absurd (search rules)
 
 -- none of them
 pub none-ascending : (es : Entries) → es ≡ [] → IsStrictlySortedBy key_cmp (keys_of es)

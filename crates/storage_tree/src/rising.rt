@@ -2,13 +2,11 @@
 
 ghost use Rattle.cfb_names.specs.Names.{key_cmp};
 ghost use Rattle.std.proofs.Props.{props};
-ghost use Rattle.std.specs.List.{AllByRecursion};
 ghost use Rattle.std.specs.List.Sorted.{IsStrictlySortedBy};
 ghost use Rattle.std.specs.Map.{keys_of};
-ghost use Rattle.std.specs.Prelude.{◌≡◌, ◌∷◌, [], IfOk, Ok, false, true};
-ghost use Rattle.std.specs.declared.cmp.Ordering.TheVariants.{Less};
+ghost use Rattle.std.specs.Prelude.{◌≡◌, ◌↔◌, [], IfOk, IsTrue};
 ghost use Rattle.storage_tree.specs.Tree.{none, tree};
-ghost use Rattle.storage_tree.specs.View.{children};
+ghost use Rattle.storage_tree.specs.View.{AreBelow, children};
 ghost use Rattle.storage_tree.specs.Whole.{IsTree};
 
 use crate::storage::{Node, Storage, key_of};
@@ -32,8 +30,8 @@ pub struct Rising {
 }
 
 impl Rising {
-    ghost use Rattle.storage_tree.specs.Kept.{added, kept};
-    ghost use Rattle.storage_tree.specs.Rising.{rising};
+    ghost use Rattle.storage_tree.specs.Kept.{kept};
+    ghost use Rattle.storage_tree.specs.Rising.{MakesLast, rising};
 
     /// A root without children, with this class id and these state bits.
     pub fn new(alloc: Global, class: ClassId, state: u32) -> Rising
@@ -46,21 +44,19 @@ impl Rising {
         }
     }
 
-    /// Makes a stream of these bytes, where its name comes behind those of all others, and says whether it did. It didn't
-    /// where the name comes before another or is one of them, or where no memory was left; then nothing has changed.
-    pub fn make_last(&mut self, name: &Name, bytes: Bytes) -> bool
-        ensures made { result ≡ true → added (name.now ∷ []) bytes (rising self.old) ≡ Ok (rising self.new) }
-        ensures kept { result ≡ false → rising self.new ≡ rising self.old }
+    /// Makes a stream of these bytes, where its name comes behind those of all others, and says whether it did.
+    ///
+    /// Refused: want of memory. A refusal changes nothing.
+    pub fn make_last(&mut self, name: &Name, bytes: Bytes) -> Result<bool, AllocError>
+        ensures { MakesLast result name.now bytes self.old self.new }
     {
         let key = key_of(name);
         if !is_behind(&self.streams, &key) {
-            return false;
+            return Ok(false);
         }
         let stream = (name.copy(), Node::Stream(bytes));
-        if self.streams.push((key, stream)).is_err() {
-            return false;
-        }
-        true
+        self.streams.push((key, stream))?;
+        Ok(true)
     }
 
     /// The tree, outside transactions. What later calls take comes from this allocator.
@@ -87,7 +83,7 @@ impl Rising {
 /// Whether a key is greater than all of these, which ascend.
 fn is_behind(streams: &[(Key, (Name, Node))], key: &Key) -> bool
     requires { IsStrictlySortedBy key_cmp (keys_of streams.now) }
-    ensures { result ≡ true → AllByRecursion (λ other. key_cmp other key.now ≡ Less) (keys_of streams.now) }
+    ensures { IsTrue result ↔ AreBelow key.now (keys_of streams.now) }
 {
     match streams.last() {
         Some(last) => last.0.cmp(key).is_lt(),

@@ -84,7 +84,10 @@ impl Run {
         if spent > MOST_BYTES {
             return false;
         }
-        if !self.tree.make_last(name, bytes) {
+        let Ok(made) = self.tree.make_last(name, bytes) else {
+            return false;
+        };
+        if !made {
             return false;
         }
         self.spent = spent;

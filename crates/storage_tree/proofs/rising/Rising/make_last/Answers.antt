@@ -8,9 +8,9 @@ use Rattle.storage_nodes.specs.declared.storage.Node.TheVariants.{Stream}
 use Rattle.storage_tree.specs.Change.{Seen, map_ok}
 use Rattle.storage_tree.specs.Kept.{tree_of}
 use Rattle.storage_tree.specs.Tree.{tree}
-use Rattle.storage_tree.specs.View.{children}
+use Rattle.storage_tree.specs.View.{AreBelow, children}
 use Rattle.storage_tree.specs.Whole.{IsTree}
-use Rattle.storage_tree.proofs.Ascending.{Below, either, left-ascending, left-whole, left-made, took}
+use Rattle.storage_tree.proofs.Ascending.{either, left-ascending, left-whole, left-made}
 use Rattle.storage_tree.proofs.rising.Rising.make_last.Goals as goal
 
 pub invariant_of-self : goal.invariant_of-self
@@ -18,7 +18,7 @@ invariant_of-self c =
     let s = c.args.self.now in
     let k = c.key_of-key.result in
     let more : List (List ℕ × (List ℕ × Node)) = s.streams.items ++ (k, (c.copy.result, Stream c.args.bytes)) ∷ [] in
-    let h : Below k (keys_of s.streams.items) = subst (λ xs. Below k (keys_of xs)) c.deref.ensures.value (c.is_behind.ensures c.if-not-is_behind.false) in
+    let h : AreBelow k (keys_of s.streams.items) = subst (λ xs. AreBelow k (keys_of xs)) c.deref.ensures.value (c.is_behind.ensures.0 c.if-not-is_behind.false) in
     record {
       ascending = either (λ xs. IsStrictlySortedBy key_cmp (keys_of xs)) (is_ok c.push.result) s.streams.items more c.push.new.self.items c.push.ensures.items s.ascending
           (left-ascending s.class s.state s.streams.items more k c.args.name.now c.copy.result c.args.bytes c.key_of-key.ensures.key c.copy.ensures h refl s.ascending);
@@ -26,12 +26,12 @@ invariant_of-self c =
           (∥∥₁_map s.whole (left-whole s.class s.state s.streams.items more k c.args.name.now c.copy.result c.args.bytes c.key_of-key.ensures.key c.copy.ensures h refl c.key_of-key.ensures.valid));
     }
 
-pub returns-clause-made : goal.returns-clause-made
-returns-clause-made c = λ _.
+pub returns : goal.returns
+returns c =
     let s = c.args.self.now in
     let k = c.key_of-key.result in
-    let more : List (List ℕ × (List ℕ × Node)) = s.streams.items ++ (k, (c.copy.result, Stream c.args.bytes)) ∷ [] in
-    let h : Below k (keys_of s.streams.items) = subst (λ xs. Below k (keys_of xs)) c.deref.ensures.value (c.is_behind.ensures c.if-not-is_behind.false) in
-    ap (map_ok (λ (x : Seen). record { now = tree_of x (tree s.class s.state (children s.streams.items)); saved = [] }))
-    (left-made s.class s.state s.streams.items c.push.new.self.items k c.args.name.now c.copy.result c.args.bytes c.key_of-key.ensures.key c.copy.ensures h
-    (took (is_ok c.push.result) s.streams.items more c.push.new.self.items c.push.ensures.items c.if-is_err.ensures.negation))
+    let h : AreBelow k (keys_of s.streams.items) = subst (λ xs. AreBelow k (keys_of xs)) c.deref.ensures.value (c.is_behind.ensures.0 c.if-not-is_behind.false) in (
+      subst (λ q. AreBelow q (keys_of s.streams.items)) c.key_of-key.ensures.key h,
+      ap (map_ok (λ (x : Seen). record { now = tree_of x (tree s.class s.state (children s.streams.items)); saved = [] }))
+          (left-made s.class s.state s.streams.items c.push.new.self.items k c.args.name.now c.copy.result c.args.bytes c.key_of-key.ensures.key c.copy.ensures h c.in_ok-push.ensures.items),
+    )

@@ -5,5 +5,5 @@ use Rattle.tree_descriptions.proofs.run.Run.take_stream.Goals as goal
 pub returns : goal.returns
 returns c = λ k run.
     put-behind c.args.self.now (record { tree = c.make_last.new.self; spent = c.saturating_add-spent.result }) k c.args.path.now c.name-item.result c.args.bytes
-    c.name-item.is c.in-len1.len_at_least c.in-len1.len_below run (c.make_last.ensures.made c.if-not-make_last.false) (omega (arith, c.saturating_add-spent.ensures, c.len.ensures))
+    c.name-item.is c.in-len1.len_at_least c.in-len1.len_below run (rw c.if-not-made.false at c.in-Ok.ensures).1 (omega (arith, c.saturating_add-spent.ensures, c.len.ensures))
     c.if-spent-gt-MOST_BYTES.false
