@@ -1,7 +1,5 @@
 -- What is found in a storage, and entries that move in it.
-use Rattle.std.specs.Prelude.{◌≡◌, ℕ, List, Option, Some, None}
-use Rattle.std.specs.List.{AllByRecursion}
-use Rattle.std.specs.declared.cmp.Ordering.TheVariants.{Less}
+use Rattle.std.specs.Prelude.{ℕ, List, Option, Some, None}
 use Rattle.std.specs.BTreeMap.{is_at}
 use Rattle.std.specs.Map.{lookup, set_value, remove_entry}
 use Rattle.cfb_names.specs.Names.{key_cmp}
@@ -26,7 +24,3 @@ moved_from k new es (Some c) = with_node new c.1 (remove_entry (is_at (key_cmp k
 
 abbrev pub moved : List ℕ → List ℕ → List (List ℕ × (List ℕ × Node)) → List (List ℕ × (List ℕ × Node))
 moved k new es = moved_from k new es (lookup (is_at (key_cmp k)) es)
-
--- every one of these keys is below another
-abbrev pub AreBelow : List ℕ → List (List ℕ) → Type 0
-AreBelow k keys = AllByRecursion (λ other. key_cmp other k ≡ Less) keys

@@ -3,6 +3,5 @@
 
 pub mod fault;
 pub mod laws;
-pub mod rising;
 pub mod storage;
 pub mod tree;

@@ -44,7 +44,7 @@ pub enum Edit {
 }
 
 /// The key of a name.
-pub(crate) fn key_of(name: &Name) -> Key
+fn key_of(name: &Name) -> Key
     ensures key { result ≡ key name.now }
     ensures valid { IsName name.now }
 {

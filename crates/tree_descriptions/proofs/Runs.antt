@@ -1,7 +1,7 @@
 -- Streams that are put behind all others.
 use Rattle.std.proofs.Common.{◌≡◌, ◌≤◌, ◌<◌, ◌+◌, ℕ, List, [], ◌∷◌, Ok, get_or, length, arith, refl, sym, ap, ◌∙◌}
 use Rattle.storage_tree.specs.Kept.{Kept, added}
-use Rattle.storage_tree.specs.Rising.{rising}
+use Rattle.rising_trees.specs.Rising.{rising}
 use Rattle.tree_descriptions.specs.Building.{room}
 use Rattle.tree_descriptions.specs.Description.{stream_made}
 use Rattle.tree_descriptions.specs.Run.{IsRun}

@@ -1,7 +1,7 @@
 -- The tree of a description that so far has streams of the root alone, in name order.
 use Rattle.std.specs.Prelude.{◌≡◌, ◌≤◌, ℕ, Bool, true, false, List, length, Result, Ok, Some}
 use Rattle.storage_tree.specs.Kept.{Kept}
-use Rattle.storage_tree.specs.Rising.{rising}
+use Rattle.rising_trees.specs.Rising.{rising}
 use Rattle.file_model.specs.Need.{over_streams}
 use Rattle.tree_descriptions.specs.Building.{room}
 use Rattle.tree_descriptions.specs.Commands.{line_read}

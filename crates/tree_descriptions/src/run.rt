@@ -11,7 +11,7 @@ use crate::command::Command;
 use cfb_names::name::Name;
 use file_model::limit::MOST_BYTES;
 use std::alloc::Global;
-use storage_tree::rising::Rising;
+use rising_trees::rising::Rising;
 use stored_values::bytes::Bytes;
 use stored_values::class_id::ClassId;
 

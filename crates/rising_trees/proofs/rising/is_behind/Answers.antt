@@ -1,7 +1,7 @@
 use Rattle.std.proofs.Common.{sym, ◌∙◌, ap}
 use Rattle.std.specs.Ordering.{is_lt}
-use Rattle.storage_tree.proofs.Ascending.{above-last, last-below, lesser}
-use Rattle.storage_tree.proofs.rising.is_behind.Goals as goal
+use Rattle.rising_trees.proofs.Ascending.{above-last, last-below, lesser}
+use Rattle.rising_trees.proofs.rising.is_behind.Goals as goal
 
 pub returns-in-Some : goal.returns-in-Some
 returns-in-Some c =

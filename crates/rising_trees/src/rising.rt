@@ -1,20 +1,21 @@
 //! Trees whose streams are made in name order.
 
-ghost use Rattle.cfb_names.specs.Names.{key_cmp};
+ghost use Rattle.cfb_names.specs.Names.{IsName, key, key_cmp};
 ghost use Rattle.std.proofs.Props.{props};
 ghost use Rattle.std.specs.List.Sorted.{IsStrictlySortedBy};
 ghost use Rattle.std.specs.Map.{keys_of};
 ghost use Rattle.std.specs.Prelude.{◌≡◌, ◌↔◌, [], IfOk, IsTrue};
 ghost use Rattle.storage_tree.specs.Tree.{none, tree};
-ghost use Rattle.storage_tree.specs.View.{AreBelow, children};
+ghost use Rattle.rising_trees.specs.Below.{AreBelow};
+ghost use Rattle.storage_tree.specs.View.{children};
 ghost use Rattle.storage_tree.specs.Whole.{IsTree};
 
-use crate::storage::{Node, Storage, key_of};
-use crate::tree::Tree;
 use cfb_names::key::Key;
-use cfb_names::name::Name;
+use cfb_names::name::{Name, key};
 use std::alloc::{AllocError, Global};
 use std::collections::BTreeMap;
+use storage_nodes::storage::{Node, Storage};
+use storage_tree::tree::Tree;
 use stored_values::bytes::Bytes;
 use stored_values::class_id::ClassId;
 
@@ -31,7 +32,7 @@ pub struct Rising {
 
 impl Rising {
     ghost use Rattle.storage_tree.specs.Kept.{kept};
-    ghost use Rattle.storage_tree.specs.Rising.{MakesLast, rising};
+    ghost use Rattle.rising_trees.specs.Rising.{MakesLast, rising};
 
     /// A root without children, with this class id and these state bits.
     pub fn new(alloc: Global, class: ClassId, state: u32) -> Rising
@@ -78,6 +79,16 @@ impl Rising {
             },
         ))
     }
+}
+
+/// The key of a name.
+fn key_of(name: &Name) -> Key
+    ensures key { result ≡ key name.now }
+    ensures valid { IsName name.now }
+{
+    // The characters are read for what is promised of them: that the name is valid.
+    let _ = name.as_bytes();
+    key(name)
 }
 
 /// Whether a key is greater than all of these, which ascend.

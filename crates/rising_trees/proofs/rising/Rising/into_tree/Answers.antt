@@ -1,8 +1,8 @@
 use Rattle.std.proofs.Common.{ap, ◌∙◌, []}
 use Rattle.storage_tree.specs.Kept.{Kept}
 use Rattle.storage_tree.specs.Tree.{Tree}
-use Rattle.storage_tree.proofs.Ascending.{rolled}
-use Rattle.storage_tree.proofs.rising.Rising.into_tree.Goals as goal
+use Rattle.rising_trees.proofs.Ascending.{rolled}
+use Rattle.rising_trees.proofs.rising.Rising.into_tree.Goals as goal
 
 pub returns : goal.returns
 returns c =

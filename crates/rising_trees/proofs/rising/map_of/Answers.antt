@@ -5,8 +5,8 @@ use Rattle.std.specs.BTreeMap.{IsFromIterResult}
 use Rattle.std.specs.List.Sorted.{IsStrictlySortedBy}
 use Rattle.std.specs.Map.{keys_of}
 use Rattle.cfb_names.specs.Names.{key_cmp}
-use Rattle.storage_tree.proofs.Ascending.{made_sorted}
-use Rattle.storage_tree.proofs.rising.map_of.Goals as goal
+use Rattle.rising_trees.proofs.Ascending.{made_sorted}
+use Rattle.rising_trees.proofs.rising.map_of.Goals as goal
 
 pub returns : goal.returns
 returns c =

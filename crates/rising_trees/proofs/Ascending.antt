@@ -20,7 +20,8 @@ use Rattle.storage_nodes.specs.declared.storage.Node.{Node}
 use Rattle.storage_nodes.specs.declared.storage.Node.TheVariants.{Stream}
 use Rattle.storage_tree.specs.Change.{change, inner}
 use Rattle.storage_tree.specs.Tree.{tree}
-use Rattle.storage_tree.specs.View.{AreBelow, children, view}
+use Rattle.rising_trees.specs.Below.{AreBelow}
+use Rattle.storage_tree.specs.View.{children, view}
 use Rattle.storage_tree.specs.Whole.{IsTree}
 use Rattle.storage_tree.specs.declared.storage.Edit.TheVariants.{Add}
 use Rattle.storage_tree.proofs.Entries.{Entries, add-new, seen-stream, view-roll}

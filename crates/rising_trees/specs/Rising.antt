@@ -3,10 +3,11 @@ use Rattle.std.specs.Prelude.{◌≡◌, ℕ, Bool, true, false, List, [], ◌�
 use Rattle.std.specs.Map.{keys_of}
 use Rattle.std.specs.declared.alloc.AllocError.{AllocError}
 use Rattle.cfb_names.specs.Names.{key}
+use Rattle.rising_trees.specs.Below.{AreBelow}
 use Rattle.storage_tree.specs.Tree.{tree}
 use Rattle.storage_tree.specs.Kept.{Kept, added}
-use Rattle.storage_tree.specs.View.{AreBelow, children}
-use Rattle.storage_tree.specs.declared.rising.Rising.{Rising}
+use Rattle.storage_tree.specs.View.{children}
+use Rattle.rising_trees.specs.declared.rising.Rising.{Rising}
 
 -- the tree, outside transactions
 abbrev pub rising : Rising → Kept

@@ -1,5 +1,5 @@
-use Rattle.storage_tree.proofs.Ascending.{none-ascending, none-whole}
-use Rattle.storage_tree.proofs.rising.Rising.new.Goals as goal
+use Rattle.rising_trees.proofs.Ascending.{none-ascending, none-whole}
+use Rattle.rising_trees.proofs.rising.Rising.new.Goals as goal
 
 pub invariant_of-result : goal.invariant_of-result
 invariant_of-result c = record { ascending = none-ascending c.new.result.items c.new.ensures.items; whole = ∣ none-whole c.args.class c.args.state c.new.result.items c.new.ensures.items ∣₁ }

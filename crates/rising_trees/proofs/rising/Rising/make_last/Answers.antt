@@ -8,10 +8,11 @@ use Rattle.storage_nodes.specs.declared.storage.Node.TheVariants.{Stream}
 use Rattle.storage_tree.specs.Change.{Seen, map_ok}
 use Rattle.storage_tree.specs.Kept.{tree_of}
 use Rattle.storage_tree.specs.Tree.{tree}
-use Rattle.storage_tree.specs.View.{AreBelow, children}
+use Rattle.rising_trees.specs.Below.{AreBelow}
+use Rattle.storage_tree.specs.View.{children}
 use Rattle.storage_tree.specs.Whole.{IsTree}
-use Rattle.storage_tree.proofs.Ascending.{either, left-ascending, left-whole, left-made}
-use Rattle.storage_tree.proofs.rising.Rising.make_last.Goals as goal
+use Rattle.rising_trees.proofs.Ascending.{either, left-ascending, left-whole, left-made}
+use Rattle.rising_trees.proofs.rising.Rising.make_last.Goals as goal
 
 pub invariant_of-self : goal.invariant_of-self
 invariant_of-self c =

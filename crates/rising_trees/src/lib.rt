@@ -1,0 +1,4 @@
+//! Trees that are made of streams in name order.
+#![tactic(auto)]
+
+pub mod rising;
