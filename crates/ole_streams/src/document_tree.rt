@@ -3,7 +3,7 @@
 ghost use Rattle.std.specs.Prelude.{[], ◌≡◌, ◌≤◌, ◌<◌, ℕ, IfOk, OnOk, length, true};
 ghost use Rattle.cfb_names.specs.Names.{IsName};
 ghost use Rattle.document_model.specs.DocOf.{is_object};
-ghost use Rattle.document_model.specs.DocTree.{doc_tree, object_children, object_tree, placed, with_objects, with_ole_streams, with_streams};
+ghost use Rattle.document_model.specs.DocTree.{doc_tree, object_children, object_tree, placed, with_objects, with_ole_streams, with_picture, with_streams};
 ghost use Rattle.ole_parts.specs.CompObjs.{PAST_USER_TYPE};
 ghost use Rattle.ole_streams.specs.Docs.{AreHeld};
 ghost use Rattle.ole_streams.specs.declared.doc.TheConstants.{MOST_OBJECTS};
@@ -65,6 +65,17 @@ fn with_streams(alloc: Global, streams: Vec<NamedStream>) -> Result<Entries, All
     Ok(entries)
 }
 
+/// Puts the stream of a picture, unless that is empty.
+fn place_picture(entries: &mut Entries, picture: Bytes) -> Result<(), AllocError>
+    ensures value { OnOk result (children entries.new.entries ≡ with_picture picture (children entries.old.entries)) }
+    ensures whole { OnOk result ((depth : ℕ) → AreTrees depth (children entries.old.entries) → AreTrees depth (children entries.new.entries)) }
+{
+    if picture.is_empty() {
+        return Ok(());
+    }
+    place_stream(entries, ole_pres(), picture)
+}
+
 /// Puts the three OLE streams of an object beside its own.
 fn place_ole_streams(
     alloc: Global,
@@ -80,10 +91,7 @@ fn place_ole_streams(
     let says_ole = Vec::from_slice(alloc, &OleStream.write())?;
     place_stream(entries, ole(), Bytes::from_vec(alloc, says_ole)?)?;
     place_stream(entries, comp_obj(), write_stream(alloc, class, user_type)?)?;
-    if !picture.is_empty() {
-        place_stream(entries, ole_pres(), picture)?;
-    }
-    Ok(())
+    place_picture(entries, picture)
 }
 
 /// The storage of an object.
