@@ -6,6 +6,7 @@ pub mod laws;
 pub mod lines;
 pub mod output;
 pub mod path;
+pub mod reading;
 
 pub use fault_lines::report;
 
