@@ -88,19 +88,17 @@ makes text k t old new count is same whole sent = record {
   counted = sent.counted;
 }
 
-pub known_makes : (known : Option (List ℕ)) (text seen : List ℕ) (k : Kept) (t : Tree) (old new : Option (List ℕ)) (count : ℕ) → IfSome known (λ x. text ≡ x) → seen ≡ text
-    → described seen ≡ Ok k → t ≡ k.now → ∥ IsTree 32 t ∥₁ → WritesFile t old new count → IfSome known (λ x. Makes x old new count)
-known_makes None text seen k t old new count w s is same whole sent = tt
-known_makes (Some x) text seen k t old new count w s is same whole sent =
-    subst (λ y. Makes y old new count) (s ∙ w) (makes seen k t old new count is same whole sent)
+pub known_makes : (known : Option (List ℕ)) (k : Kept) (t : Tree) (old new : Option (List ℕ)) (count : ℕ) → IfSome known (λ text. described text ≡ Ok k) → t ≡ k.now → ∥ IsTree 32 t ∥₁
+    → WritesFile t old new count → IfSome known (λ text. Makes text old new count)
+known_makes None k t old new count is same whole sent = tt
+known_makes (Some text) k t old new count is same whole sent = makes text k t old new count is same whole sent
 
 refused : (text : List ℕ) (k : Kept) (fault : SendFault) → described text ≡ Ok k → ∥ IsTree 32 k.now ∥₁ → MayRefuseSend k.now fault → MayRefuseMake text (of_send_fault fault)
 refused text k (send.Write fault) is whole r = (k, is, r)
 refused text k send.Unwritable is whole r = file_made text k is whole r
 
-pub known_refused : (known : Option (List ℕ)) (text seen : List ℕ) (k : Kept) (t : Tree) (fault : SendFault) → IfSome known (λ x. text ≡ x) → seen ≡ text
-    → described seen ≡ Ok k → t ≡ k.now → ∥ IsTree 32 t ∥₁ → MayRefuseSend t fault → IfSome known (λ x. MayRefuseMake x (of_send_fault fault))
-known_refused None text seen k t fault w s is same whole r = tt
-known_refused (Some x) text seen k t fault w s is same whole r =
-    subst (λ y. MayRefuseMake y (of_send_fault fault)) (s ∙ w)
-    (refused seen k fault is (subst (λ u. ∥ IsTree 32 u ∥₁) same whole) (subst (λ u. MayRefuseSend u fault) same r))
+pub known_refused : (known : Option (List ℕ)) (k : Kept) (t : Tree) (fault : SendFault) → IfSome known (λ text. described text ≡ Ok k) → t ≡ k.now → ∥ IsTree 32 t ∥₁ → MayRefuseSend t fault
+    → IfSome known (λ text. MayRefuseMake text (of_send_fault fault))
+known_refused None k t fault is same whole r = tt
+known_refused (Some text) k t fault is same whole r =
+    refused text k fault is (subst (λ u. ∥ IsTree 32 u ∥₁) same whole) (subst (λ u. MayRefuseSend u fault) same r)

@@ -2,9 +2,8 @@
 
 ghost use Rattle.file_making.specs.Faults.{of_send_fault};
 ghost use Rattle.file_making.specs.Run.{Makes, MayRefuseMake};
-ghost use Rattle.std.specs.Prelude.{◌≡◌, ◌≢◌, ◌≤◌, Ok, length, IfErr, IfOk, IfSome};
+ghost use Rattle.std.specs.Prelude.{◌≡◌, ◌≢◌, Ok, IfErr, IfOk, IfSome};
 ghost use Rattle.storage_tree.specs.Kept.{kept};
-ghost use Rattle.texts.specs.Input.{most};
 ghost use Rattle.tree_descriptions.specs.Description.{described};
 
 use crate::fault::MakeFault;
@@ -13,8 +12,8 @@ use file_writer::sending::{SendFault, send_file};
 use std::alloc::Global;
 use std::io::{Read, Write};
 use storage_tree::tree::Tree;
-use texts::input::read_all;
 use tree_descriptions::description::{Described, describe};
+use tree_descriptions::fault::TextFault;
 
 /// A fault of a described tree that is written.
 fn of_sending(fault: SendFault) -> MakeFault
@@ -59,31 +58,25 @@ pub fn make_with_tree<R: Read, W: Write>(
     ensures refused { IfErr result (λ fault. IfSome (R.remaining reader.old) (λ text. MayRefuseMake text fault)) }
     ensures unwritten { IfErr result (λ fault. fault ≢ MakeFault.Unwritable → writer.new ≡ writer.old) }
 {
-    let text = match read_all(alloc, reader) {
-        Ok(text) => text,
-        Err(fault) => return Err(MakeFault::Input(fault)),
-    };
-    let tree = described_tree(alloc, &text)?;
-    // Its memory serves the file.
-    drop(text);
+    let tree = described_tree(alloc, reader)?;
     match send_file(alloc, tree.root(), writer) {
         Ok(count) => Ok((count, tree)),
         Err(fault) => Err(of_sending(fault)),
     }
 }
 
-/// The tree that a description describes.
+/// The tree that a reader's description describes.
 ///
 /// Refused: as `make_file`, and also where its streams have more bytes than a file.
 #[tactic(auto, using(tree_descriptions::proofs::Room::too_large))]
-fn described_tree(alloc: Global, text: &[u8]) -> Result<Tree, MakeFault>
-    requires { length text.now ≤ most }
-    ensures made { IfOk result (λ tree. described text.now ≡ Ok (kept tree)) }
-    ensures refused { IfErr result (MayRefuseMake text.now) }
+fn described_tree<R: Read>(alloc: Global, reader: &mut R) -> Result<Tree, MakeFault>
+    ensures made { IfOk result (λ tree. IfSome (R.remaining reader.old) (λ text. described text ≡ Ok (kept tree))) }
+    ensures refused { IfErr result (λ fault. IfSome (R.remaining reader.old) (λ text. MayRefuseMake text fault)) }
 {
-    match describe(alloc, text) {
+    match describe(alloc, reader) {
         Ok(Described::Whole(tree)) => Ok(tree),
         Ok(Described::Outline(_)) => Err(MakeFault::Write(WriteFault::TooBig)),
-        Err((number, fault)) => Err(MakeFault::Line(number, fault)),
+        Err(TextFault::Input(fault)) => Err(MakeFault::Input(fault)),
+        Err(TextFault::Line(number, fault)) => Err(MakeFault::Line(number, fault)),
     }
 }

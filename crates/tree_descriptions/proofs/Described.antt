@@ -1,7 +1,7 @@
 -- The lines of a description, one after another.
-use Rattle.std.proofs.Common.{◌≡◌, ◌<◌, ◌+◌, ◌++◌, length, arith, ◌⊎◌, ℕ, List, [], ◌∷◌, Option, Some, None, Result, Ok, Err, cond, refl, sym, ap, ◌∙◌, subst, inl, inr, rules}
+use Rattle.std.proofs.Common.{◌≡◌, ◌++◌, ◌⊎◌, ℕ, List, [], ◌∷◌, Option, Some, None, Result, Ok, Err, cond, refl, sym, ap, ◌∙◌, subst, inl, inr, rules}
 use Rattle.std.specs.Option.{option_map}
-use Rattle.std.specs.Prelude.{IsOk, IsSome, MatchOption, is_some}
+use Rattle.std.specs.Prelude.{IsOk, IsSome, is_some}
 use Rattle.storage_tree.specs.Kept.{Kept}
 use Rattle.text_words.specs.Words.{lines}
 use Rattle.texts.specs.Lines.{RefusesText, asking, put_first}
@@ -114,30 +114,6 @@ rest-behind n line left told (Some command) is (inr (m, first, other)) = inr (
 rest-of : (left : List (ℕ × List ℕ)) (told : ℕ × LineFault) → Rest left told
 rest-of [] told = inl ([], refl, refl)
 rest-of ((n, line) ∷ left) told = rest-behind n line left told (line_read line) refl (rest-of left told)
-
--- how many lines are to come: the next one, and those behind it
-abbrev pub to_come : {A : Type 0} → Option A → List (ℕ × List ℕ) → ℕ
-to_come None left = 0
-to_come (Some x) left = length left + 1
-
--- the next one is the first of all
-pub next-is : {A : Type 0} (next : Option A) (x : A) (coming left : List (ℕ × List ℕ)) (f : A → ℕ × List ℕ) → next ≡ Some x
-    → MatchOption next ((coming ≡ []) × (left ≡ [])) (λ y. coming ≡ f y ∷ left) → coming ≡ f x ∷ left
-next-is next x coming left f is h = subst (λ o. MatchOption o ((coming ≡ []) × (left ≡ [])) (λ y. coming ≡ f y ∷ left)) is h
-
-pub none-left : {A : Type 0} (next : Option A) (coming left : List (ℕ × List ℕ)) (f : A → ℕ × List ℕ) → next ≡ None
-    → MatchOption next ((coming ≡ []) × (left ≡ [])) (λ y. coming ≡ f y ∷ left) → coming ≡ []
-none-left next coming left f is h = (subst (λ o. MatchOption o ((coming ≡ []) × (left ≡ [])) (λ y. coming ≡ f y ∷ left)) is h).0
-
-fewer-left : {A : Type 0} (next : Option A) (coming left : List (ℕ × List ℕ)) (f : A → ℕ × List ℕ)
-    → MatchOption next ((coming ≡ []) × (left ≡ [])) (λ y. coming ≡ f y ∷ left) → to_come next left < length coming + 1
-fewer-left None coming left f h = omega arith
-fewer-left (Some x) coming left f h = let longer : length coming ≡ length (f x ∷ left) = ap length h in omega (arith, longer)
-
--- with each line there are fewer
-pub fewer : {A : Type 0} (now next : Option A) (x : A) (coming left : List (ℕ × List ℕ)) (f : A → ℕ × List ℕ) → now ≡ Some x
-    → MatchOption next ((coming ≡ []) × (left ≡ [])) (λ y. coming ≡ f y ∷ left) → to_come next left < to_come now coming
-fewer now next x coming left f is h = subst (λ o. to_come next left < to_come o coming) (sym is) (fewer-left next coming left f h)
 
 -- some lines of a description were carried out, and others are left
 pub record IsUnderway (text : List ℕ) (left : List (ℕ × List ℕ)) (Built : Kept → Type 0) : Type 0 where

@@ -1,5 +1,6 @@
 pub mod Runs
 pub mod Described
+pub mod Reading
 pub mod Outlines
 pub mod Totals
 pub mod Room

@@ -5,3 +5,4 @@ pub mod Description
 pub mod Refusal
 pub mod Building
 pub mod Run
+pub mod Texts

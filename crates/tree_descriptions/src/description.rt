@@ -1,81 +1,138 @@
 //! Descriptions of trees.
 
-ghost use Rattle.tree_descriptions.specs.Building.{Builds, IsBuilt, IsDescribed};
-ghost use Rattle.tree_descriptions.specs.Description.{RefusesDescription, carried_out, described};
+ghost use Rattle.tree_descriptions.specs.Building.{Builds, IsBuilt};
+ghost use Rattle.tree_descriptions.specs.Description.{carried_out};
 ghost use Rattle.tree_descriptions.specs.Refusal.{refusal};
-ghost use Rattle.std.specs.Prelude.{◌≡◌, ◌<◌, ◌^◌, Ok, length, IfErr, IfOk};
+ghost use Rattle.tree_descriptions.specs.Texts.{Describes, IsTold, MayRefuseText};
+ghost use Rattle.std.specs.Prelude.{◌≤◌, IfErr, IfOk, IfSome};
 ghost use Rattle.storage_tree.specs.Kept.{Kept};
+ghost use Rattle.texts.specs.Input.{most};
+ghost use Rattle.texts.specs.Reading.{left_asking};
 
 use crate::building::Building;
 pub use crate::building::Described;
 use crate::command::{Command, is_command};
-use crate::fault::LineFault;
+use crate::fault::{LineFault, TextFault};
 use crate::run::Run;
 use std::alloc::Global;
-use texts::lines::Lines;
+use std::io::{BufRead, BufReader, Read};
+use texts::input::InputFault;
+use texts::reading::{Passed, next_line};
 
-/// The tree that a description describes, or its outline where its streams have more bytes than a file.
+/// How many bytes are read at once.
+const AT_ONCE: usize = 65_536;
+
+/// The tree that a reader's description describes, or its outline where its streams have more bytes than a file. The
+/// description is read line by line, and never held whole.
 ///
-/// Refused: the first line that is outside the grammar (`Bad`), or else the first that can't be carried out, with its
-/// number from 1; `NoMemory` at the line at which no memory was left.
-pub fn describe(alloc: Global, text: &[u8]) -> Result<Described, (usize, LineFault)>
-    requires { length text.now < 2 ^ 32 }
-    ensures made { IfOk result (λ d. (k : Kept) × (described text.now ≡ Ok k) × IsDescribed k d) }
-    ensures refused { IfErr result (RefusesDescription text.now) }
+/// Refused: a description that isn't read or has more than 134,217,728 bytes; else its first line that is outside the
+/// grammar (`Bad`), or else the first that can't be carried out, with its number from 1; `NoMemory` at the line at which
+/// no memory was left.
+pub fn describe<R: Read>(alloc: Global, reader: &mut R) -> Result<Described, TextFault>
+    ensures made { IfOk result (λ d. IfSome (R.remaining reader.old) (λ text. Describes text d)) }
+    ensures refused { IfErr result (λ fault. IfSome (R.remaining reader.old) (λ text. MayRefuseText text fault)) }
 {
-    let mut left = Lines::new(text);
-    let mut next = left.next_line();
+    match BufReader::with_capacity(alloc, AT_ONCE, reader) {
+        Ok(mut buffered) => describe_lines(alloc, &mut buffered),
+        Err(_) => Err(TextFault::Input(InputFault::NoMemory)),
+    }
+}
+
+/// The same of the lines that a reader with a buffer gives.
+fn describe_lines<R: BufRead>(alloc: Global, reader: &mut R) -> Result<Described, TextFault>
+    ensures made { IfOk result (λ d. IfSome (R.remaining reader.old) (λ text. Describes text d)) }
+    ensures refused { IfErr result (λ fault. IfSome (R.remaining reader.old) (λ text. MayRefuseText text fault)) }
+{
+    let mut line = Vec::new(alloc);
+    let mut passed = Passed::nothing();
     // Nearly all descriptions begin with streams of the root in name order: they are put into the tree at once.
     let mut run = Run::new(alloc);
-    while let Some((_, line)) = next {
-        if !run.take_line(alloc, line) {
+    let mut next = match next_line(reader, &mut line, &mut passed) {
+        Ok(next) => next,
+        Err(fault) => return Err(TextFault::Input(fault)),
+    };
+    while let Some(_) = next {
+        if !run.take_line(alloc, &line) {
             break;
         }
-        next = left.next_line();
+        next = match next_line(reader, &mut line, &mut passed) {
+            Ok(next) => next,
+            Err(fault) => return Err(TextFault::Input(fault)),
+        };
     }
-    let mut building = match Building::from_run(alloc, run) {
-        Ok(building) => building,
-        Err(_) => {
-            // Where that took more memory than was left, the tree is built line by line, to tell the line at which it lacks.
-            left = Lines::new(text);
-            next = left.next_line();
-            Building::new(alloc)
-        }
+    let Ok(mut building) = Building::from_run(alloc, run) else {
+        // It lacked for no line of them, but for all together.
+        return Err(TextFault::Input(InputFault::NoMemory));
     };
-    while let Some((number, line)) = next {
-        match Command::parse(alloc, line) {
+    while let Some(number) = next {
+        match Command::parse(alloc, &line) {
             Ok(Some(command)) => match carry_out(alloc, &mut building, command) {
                 Ok(()) => {}
                 Err(fault) => {
                     // Nothing can come of the tree.
                     drop(building);
-                    return Err(refusal(alloc, left, number, fault));
+                    return Err(refusal(alloc, reader, &mut line, passed, number, fault));
                 }
             },
-            Ok(None) => return Err((number, LineFault::Bad)),
-            Err(_) => return Err((number, LineFault::NoMemory)),
+            Ok(None) => return Err(behind_all(reader, &mut line, passed, number, LineFault::Bad)),
+            Err(_) => {
+                return Err(behind_all(reader, &mut line, passed, number, LineFault::NoMemory));
+            }
         }
-        next = left.next_line();
+        next = match next_line(reader, &mut line, &mut passed) {
+            Ok(next) => next,
+            Err(fault) => return Err(TextFault::Input(fault)),
+        };
     }
     Ok(building.finish())
 }
 
-/// What a description is refused for where the command of a line can't be carried out, given the lines behind it: a line
-/// outside the grammar comes first.
-fn refusal(
+/// What a description is refused for where the command of a line can't be carried out, given the reader behind it: a line
+/// outside the grammar comes first, and before it that the text isn't read to its end.
+fn refusal<R: BufRead>(
     alloc: Global,
-    mut left: Lines<'_>,
+    reader: &mut R,
+    line: &mut Vec<u8>,
+    mut passed: Passed,
     number: usize,
     fault: LineFault,
-) -> (usize, LineFault)
-    ensures { result ≡ refusal left.entry (number, fault) }
+) -> TextFault
+    requires lines { passed.lines ≤ passed.bytes }
+    requires bytes { passed.bytes ≤ most }
+    ensures { IfSome (R.remaining reader.old) (λ text. IsTold passed text (refusal (left_asking passed text) (number, fault)) result) }
 {
-    while let Some((place, line)) = left.next_line() {
-        if !is_command(alloc, line) {
-            return (place, LineFault::Bad);
+    loop {
+        match next_line(reader, line, &mut passed) {
+            Ok(Some(place)) => {
+                if !is_command(alloc, line) {
+                    return behind_all(reader, line, passed, place, LineFault::Bad);
+                }
+            }
+            Ok(None) => return TextFault::Line(number, fault),
+            Err(unread) => return TextFault::Input(unread),
         }
     }
-    (number, fault)
+}
+
+/// This fault of a line, if the text is read to its end.
+fn behind_all<R: BufRead>(
+    reader: &mut R,
+    line: &mut Vec<u8>,
+    mut passed: Passed,
+    number: usize,
+    fault: LineFault,
+) -> TextFault
+    requires lines { passed.lines ≤ passed.bytes }
+    requires bytes { passed.bytes ≤ most }
+    ensures { IfSome (R.remaining reader.old) (λ text. IsTold passed text (number, fault) result) }
+{
+    loop {
+        match next_line(reader, line, &mut passed) {
+            Ok(Some(_)) => {}
+            Ok(None) => return TextFault::Line(number, fault),
+            Err(unread) => return TextFault::Input(unread),
+        }
+    }
 }
 
 /// Carries out a command.

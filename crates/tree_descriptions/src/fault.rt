@@ -2,6 +2,7 @@
 
 use cfb_names::fault::DirFault;
 use storage_tree::fault::TreeFault;
+use texts::input::InputFault;
 use texts::lines::SyntaxFault;
 use thiserror::Error;
 
@@ -20,6 +21,17 @@ pub enum LineFault {
     /// No memory was left.
     #[error("no memory is left")]
     NoMemory,
+}
+
+/// Why a description that is read is refused.
+#[derive(Debug, Clone, Copy, Error)]
+pub enum TextFault {
+    /// It isn't read.
+    #[error("{0}")]
+    Input(InputFault),
+    /// A line of it is refused.
+    #[error("line {0}: {1}")]
+    Line(usize, LineFault),
 }
 
 impl LineFault {
