@@ -29,8 +29,8 @@ fn of_sending(fault: SendFault) -> MakeFault
 ///
 /// Refused: an input that isn't read or has more than 134,217,728 bytes; the first line of the description that is
 /// outside the grammar, or else the first that can't be carried out; a tree that doesn't fit into a file. Nothing is
-/// written then. `Unwritable` where a write fails. The file is never held whole: a long stream is written from where the
-/// tree has it.
+/// written then. `Unwritable` where a write fails. Neither the description nor the file is ever held whole: lines are read
+/// one after another, and a long stream is written from where the tree has it.
 pub fn make_file<R: Read, W: Write>(
     alloc: Global,
     reader: &mut R,

@@ -3,7 +3,6 @@ mod Digits
 pub mod Hex
 pub mod Inputs
 pub mod LineByLine
-pub mod LineFeeds
 pub mod Named
 pub mod Plain
 pub mod Numbers

@@ -4,6 +4,5 @@ pub mod Paths
 pub mod Written
 pub mod Faults
 pub mod Input
-pub mod Reading
 pub use Rattle.fault_lines.specs.Reports
 pub mod Laws

@@ -38,7 +38,7 @@ impl InputFault {
 }
 
 /// The most bytes that an input may have.
-pub(crate) const MOST: u64 = 134_217_728;
+const MOST: u64 = 134_217_728;
 
 /// All bytes that a reader gives, of which there may be `MOST`.
 pub fn read_all<R: Read>(alloc: Global, reader: &mut R) -> Result<Vec<u8>, InputFault>

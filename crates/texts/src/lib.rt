@@ -6,7 +6,6 @@ pub mod laws;
 pub mod lines;
 pub mod output;
 pub mod path;
-pub mod reading;
 
 pub use fault_lines::report;
 

@@ -49,7 +49,7 @@ pub trait Grammar {
 }
 
 /// Whether a line says nothing: it is empty, or it begins with `#`.
-pub(crate) fn is_skipped(line: &[u8]) -> bool
+fn is_skipped(line: &[u8]) -> bool
     ensures { result ≡ is_skipped line.now }
 {
     match line {

@@ -5,10 +5,10 @@ use Rattle.storage_tree.specs.Kept.{Kept}
 use Rattle.text_words.specs.Words.{lines}
 use Rattle.texts.specs.Input.{MayRefuseInput, most}
 use Rattle.texts.specs.Lines.{asking}
-use Rattle.texts.specs.Reading.{IsNext, LeavesNext, MayRefuseBytes, left_asking}
+use Rattle.text_reading.specs.Reading.{IsNext, LeavesNext, MayRefuseBytes, left_asking}
 use Rattle.texts.specs.declared.input.InputFault.{InputFault}
 use Rattle.texts.specs.declared.input.InputFault.TheVariants as input
-use Rattle.texts.specs.declared.reading.Passed.{Passed}
+use Rattle.text_reading.specs.declared.reading.Passed.{Passed}
 use Rattle.tree_descriptions.specs.Building.{IsDescribed}
 use Rattle.tree_descriptions.specs.Commands.{line_read}
 use Rattle.tree_descriptions.specs.Description.{Refuses, RefusesDescription, carried_out, nothing}

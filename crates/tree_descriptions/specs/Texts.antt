@@ -2,8 +2,8 @@
 use Rattle.std.specs.Prelude.{◌≡◌, ◌+◌, ◌≤◌, ℕ, List, length, Ok}
 use Rattle.storage_tree.specs.Kept.{Kept}
 use Rattle.texts.specs.Input.{MayRefuseInput, most}
-use Rattle.texts.specs.Reading.{MayRefuseBytes}
-use Rattle.texts.specs.declared.reading.Passed.{Passed}
+use Rattle.text_reading.specs.Reading.{MayRefuseBytes}
+use Rattle.text_reading.specs.declared.reading.Passed.{Passed}
 use Rattle.tree_descriptions.specs.Building.{IsDescribed}
 use Rattle.tree_descriptions.specs.Description.{RefusesDescription, described}
 use Rattle.tree_descriptions.specs.declared.building.Described.{Described}

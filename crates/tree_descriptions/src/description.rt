@@ -7,7 +7,7 @@ ghost use Rattle.tree_descriptions.specs.Texts.{Describes, IsTold, MayRefuseText
 ghost use Rattle.std.specs.Prelude.{◌≤◌, IfErr, IfOk, IfSome};
 ghost use Rattle.storage_tree.specs.Kept.{Kept};
 ghost use Rattle.texts.specs.Input.{most};
-ghost use Rattle.texts.specs.Reading.{left_asking};
+ghost use Rattle.text_reading.specs.Reading.{left_asking};
 
 use crate::building::Building;
 pub use crate::building::Described;
@@ -16,8 +16,8 @@ use crate::fault::{LineFault, TextFault};
 use crate::run::Run;
 use std::alloc::Global;
 use std::io::{BufRead, BufReader, Read};
+use text_reading::reading::{Passed, next_line};
 use texts::input::InputFault;
-use texts::reading::{Passed, next_line};
 
 /// How many bytes are read at once.
 const AT_ONCE: usize = 65_536;

@@ -10,8 +10,8 @@ use crate::building::filled;
 use crate::command::Command;
 use cfb_names::name::Name;
 use file_model::limit::MOST_BYTES;
-use std::alloc::Global;
 use rising_trees::rising::Rising;
+use std::alloc::Global;
 use stored_values::bytes::Bytes;
 use stored_values::class_id::ClassId;
 

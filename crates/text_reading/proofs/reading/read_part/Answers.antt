@@ -3,8 +3,8 @@ use Rattle.std.specs.Io.BufRead.{FillKeeps}
 use Rattle.std.specs.Option.{option_copied}
 use Rattle.std.proofs.KnownBytes.{Consumes-kept, Consumes-nil}
 use Rattle.text_words.specs.Words.{further}
-use Rattle.texts.proofs.LineFeeds.{front-within, last-within, nothing-shown, refused-shown, takes-front, takes-last}
-use Rattle.texts.proofs.reading.read_part.Goals as goal
+use Rattle.text_reading.proofs.LineFeeds.{front-within, last-within, nothing-shown, refused-shown, takes-front, takes-last}
+use Rattle.text_reading.proofs.reading.read_part.Goals as goal
 
 pub returns-in-Err-keep-clause-refused : goal.returns-in-Err-keep-clause-refused
 returns-in-Err-keep-clause-refused g c =

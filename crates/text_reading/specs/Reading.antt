@@ -6,9 +6,9 @@ use Rattle.texts.specs.Input.{most}
 use Rattle.texts.specs.Lines.{asking, is_skipped}
 use Rattle.texts.specs.declared.input.InputFault.{InputFault}
 use Rattle.texts.specs.declared.input.InputFault.TheVariants.{Unreadable, TooBig, NoMemory}
-use Rattle.texts.specs.declared.reading.Part.{Part}
-use Rattle.texts.specs.declared.reading.Part.TheVariants.{Nothing, End, Front, Last}
-use Rattle.texts.specs.declared.reading.Passed.{Passed}
+use Rattle.text_reading.specs.declared.reading.Part.{Part}
+use Rattle.text_reading.specs.declared.reading.Part.TheVariants.{Nothing, End, Front, Last}
+use Rattle.text_reading.specs.declared.reading.Passed.{Passed}
 
 -- what the lines that are left ask for, each with its number
 abbrev pub left_asking : Passed → List ℕ → List (ℕ × List ℕ)

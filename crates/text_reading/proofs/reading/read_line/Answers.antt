@@ -1,7 +1,7 @@
 use Rattle.std.proofs.Common.{◌∙◌, ◌+◌, true, IfSome, arith, refl, subst, sym}
-use Rattle.texts.specs.Reading.{IsPart, LeavesLine}
-use Rattle.texts.proofs.LineFeeds.{IsWithin, last-read, line-read, none-read, nothing-more, some-more}
-use Rattle.texts.proofs.reading.read_line.Goals as goal
+use Rattle.text_reading.specs.Reading.{IsPart, LeavesLine}
+use Rattle.text_reading.proofs.LineFeeds.{IsWithin, last-read, line-read, none-read, nothing-more, some-more}
+use Rattle.text_reading.proofs.reading.read_line.Goals as goal
 
 pub returns-in-Ok-Last-clause-read : goal.returns-in-Ok-Last-clause-read
 returns-in-Ok-Last-clause-read g c =

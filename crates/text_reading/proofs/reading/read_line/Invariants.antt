@@ -1,8 +1,8 @@
 use Rattle.std.proofs.Common.{◌≡◌, ◌≤◌, ◌+◌, length}
 use Rattle.std.specs.Io.KnownBytes.{Consumes}
 use Rattle.texts.specs.Input.{most}
-use Rattle.texts.specs.Reading.{HasNoLineFeed}
-use Rattle.texts.proofs.reading.read_line.Given as goal
+use Rattle.text_reading.specs.Reading.{HasNoLineFeed}
+use Rattle.text_reading.proofs.reading.read_line.Given as goal
 
 abbrev pub invariant-loop : goal.invariant-loop
 invariant-loop g l = record {

@@ -1,7 +1,7 @@
 use Rattle.std.proofs.Common.{◌≤◌, ◌-◌, IfSome}
 use Rattle.texts.specs.Input.{most}
-use Rattle.texts.proofs.LineFeeds.{Skips}
-use Rattle.texts.proofs.reading.next_line.Given as goal
+use Rattle.text_reading.proofs.LineFeeds.{Skips}
+use Rattle.text_reading.proofs.reading.next_line.Given as goal
 
 abbrev pub invariant-loop-line : goal.invariant-loop-line
 invariant-loop-line g l = record {

@@ -12,10 +12,10 @@ use Rattle.text_words.specs.Words.{lines}
 use Rattle.text_words.proofs.Cuts.{pieces-joined, pieces-known}
 use Rattle.texts.specs.Input.{most}
 use Rattle.texts.specs.Lines.{asking, is_skipped}
-use Rattle.texts.specs.Reading.{HasNoLineFeed, LeavesLine, MayRefuseBytes, TakesPiece, left_asking}
+use Rattle.text_reading.specs.Reading.{HasNoLineFeed, LeavesLine, MayRefuseBytes, TakesPiece, left_asking}
 use Rattle.texts.specs.declared.input.InputFault.{InputFault}
 use Rattle.texts.specs.declared.input.InputFault.TheVariants.{Unreadable, TooBig, NoMemory}
-use Rattle.texts.specs.declared.reading.Passed.{Passed}
+use Rattle.text_reading.specs.declared.reading.Passed.{Passed}
 
 is_feed : ℕ → Bool
 is_feed b = nat_eq b 10

@@ -2,12 +2,15 @@
 
 ghost use Rattle.std.specs.Prelude.{◌≡◌, ◌≤◌, ◌<◌, ◌+◌, ◌++◌, IfErr, IfOk, IfSome, IsTrue, OnOk, length};
 ghost use Rattle.texts.specs.Input.{most};
-ghost use Rattle.texts.specs.Reading.{IsPart, LeavesLine, LeavesNext, MayRefuseBytes};
+ghost use Rattle.texts.specs.Lines.{is_skipped};
+ghost use Rattle.text_reading.specs.Reading.{IsPart, LeavesLine, LeavesNext, MayRefuseBytes};
 
-use crate::input::{InputFault, MOST};
-use crate::lines::is_skipped;
 use std::io::{BufRead, ErrorKind};
 use text_words::words::cut;
+use texts::input::InputFault;
+
+/// The most bytes that a text may have.
+const MOST: u64 = 134_217_728;
 
 /// How far a text was read.
 #[derive(Clone, Copy)]
@@ -40,6 +43,16 @@ impl Passed {
         ensures bytes { result.bytes ≡ 0 }
     {
         Passed { lines: 0, bytes: 0 }
+    }
+}
+
+/// Whether a line says nothing: it is empty, or it begins with `#`.
+fn is_skipped(line: &[u8]) -> bool
+    ensures { result ≡ is_skipped line.now }
+{
+    match line {
+        [] => true,
+        [first, ..] => *first == b'#',
     }
 }
 

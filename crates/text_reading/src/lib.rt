@@ -1,0 +1,4 @@
+//! Texts that are read line by line.
+#![tactic(auto)]
+
+pub mod reading;
