@@ -1,8 +1,7 @@
 -- A file that was written of the tree of another.
-use Rattle.std.proofs.Common.{◌≡◌, ℕ, List, Option, Some, None, IfSome}
+use Rattle.std.proofs.Common.{ℕ, List, Option, Some, None, IfSome}
 use Rattle.std.proofs.Math.Logic.{∥∥₁_map}
 use Rattle.storage_tree.specs.Tree.{Tree}
-use Rattle.storage_tree.specs.Whole.{IsTree}
 use Rattle.file_model.specs.Denotes.{Denotes}
 use Rattle.file_writer.specs.Sending.{MayRefuseSend, WritesFile}
 use Rattle.file_writer.specs.declared.sending.SendFault.{SendFault}

@@ -3,7 +3,7 @@ use Rattle.storage_tree.specs.View.{view}
 use Rattle.file_commands.specs.Cleaning.{MayRefuseClean}
 use Rattle.file_cleaning.specs.Faults.{of_send_fault}
 use Rattle.file_cleaning.proofs.Cleaned.{known_cleans, send_refused, source_refused}
-use Rattle.file_cleaning.proofs.cleaning.clean_source.Goals as goal
+use Rattle.file_cleaning.proofs.cleaning.clean_with_tree.Goals as goal
 
 pub returns-in-Err-clause-refused : goal.returns-in-Err-clause-refused
 returns-in-Err-clause-refused g c =
@@ -15,11 +15,11 @@ returns-in-Ok-send_file-clause-cleaned g c =
     known_cleans (g.S.Source.bytes c.args.source.now) (view c.in-Ok.root) (g.W.Write.contents c.args.writer.now) (g.W.Write.contents c.send_file.new.writer)
     c.in-Ok-send_file.count c.in-Ok.ensures.denotes c.in-Ok-send_file.ensures.written
 
-pub returns-clause-refused : goal.returns-clause-refused
-returns-clause-refused g c =
+pub returns-in-Err-send_file-clause-refused : goal.returns-in-Err-send_file-clause-refused
+returns-in-Err-send_file-clause-refused g c =
     let known : Option (List ℕ) = g.S.Source.bytes c.args.source.now in
     subst (λ fault. IfSome known (λ file. MayRefuseClean file fault)) (sym c.of_sending.ensures)
     (send_refused known (view c.in-Ok.root) c.in-Err-send_file.fault c.in-Ok.ensures.denotes c.in-Err-send_file.ensures.refused)
 
-pub returns-clause-unwritten : goal.returns-clause-unwritten
-returns-clause-unwritten g c = λ apart. c.in-Err-send_file.ensures.unwritten (λ e. apart (c.of_sending.ensures ∙ ap of_send_fault e))
+pub returns-in-Err-send_file-clause-unwritten : goal.returns-in-Err-send_file-clause-unwritten
+returns-in-Err-send_file-clause-unwritten g c = λ apart. c.in-Err-send_file.ensures.unwritten (λ e. apart (c.of_sending.ensures ∙ ap of_send_fault e))
