@@ -1,6 +1,6 @@
 -- Descriptions that are read line by line.
-use Rattle.std.proofs.Common.{◌≡◌, ◌≤◌, ◌<◌, ◌-◌, ◌+◌, ◌∷◌, ℕ, List, [], Option, Some, None, Ok, IfSome, length, sym, ap, subst, ◌∙◌, arith}
-use Rattle.std.specs.Prelude.{IsSome}
+use Rattle.std.proofs.Common.{◌≡◌, ◌≤◌, ◌<◌, ◌-◌, ◌+◌, ◌∷◌, ℕ, List, [], Option, Some, None, Ok, IfSome, length, sym, ap, subst, ◌∙◌, arith, refl, true, true≢false}
+use Rattle.std.specs.Prelude.{IsSome, is_some}
 use Rattle.storage_tree.specs.Kept.{Kept}
 use Rattle.text_words.specs.Words.{lines}
 use Rattle.texts.specs.Input.{MayRefuseInput, most}
@@ -33,6 +33,13 @@ fewer now next n bytes more is few grows = subst (λ o. to_come next more < to_c
     at : (next : Option ℕ) → IfSome next (λ m. bytes < more) → to_come next more < most - bytes + 1
     at None grows = omega arith
     at (Some m) grows = omega (arith, few, grows)
+
+no-number : is_some {T = ℕ} None ≡ true → ⊥
+no-number h = true≢false (sym h)
+
+pub some-there : (next : Option ℕ) → is_some next ≡ true → (n : ℕ) × (next ≡ Some n)
+some-there None is = absurd (no-number is)
+some-there (Some n) is = (n, refl)
 
 -- the rest of a text was read on in
 pub record IsBehind (old now : Passed) (text : List ℕ) (known : Option (List ℕ)) : Type 0 where

@@ -47,18 +47,9 @@ fn describe_lines<R: BufRead>(alloc: Global, reader: &mut R) -> Result<Described
     let mut passed = Passed::nothing();
     // Nearly all descriptions begin with streams of the root in name order: they are put into the tree at once.
     let mut run = Run::new(alloc);
-    let mut next = match next_line(reader, &mut line, &mut passed) {
-        Ok(next) => next,
-        Err(fault) => return Err(TextFault::Input(fault)),
-    };
-    while let Some(_) = next {
-        if !run.take_line(alloc, &line) {
-            break;
-        }
-        next = match next_line(reader, &mut line, &mut passed) {
-            Ok(next) => next,
-            Err(fault) => return Err(TextFault::Input(fault)),
-        };
+    let mut next = next_line(reader, &mut line, &mut passed)?;
+    while next.is_some() && run.take_line(alloc, &line) {
+        next = next_line(reader, &mut line, &mut passed)?;
     }
     let Ok(mut building) = Building::from_run(alloc, run) else {
         // It lacked for no line of them, but for all together.
@@ -79,10 +70,7 @@ fn describe_lines<R: BufRead>(alloc: Global, reader: &mut R) -> Result<Described
                 return Err(behind_all(reader, &mut line, passed, number, LineFault::NoMemory));
             }
         }
-        next = match next_line(reader, &mut line, &mut passed) {
-            Ok(next) => next,
-            Err(fault) => return Err(TextFault::Input(fault)),
-        };
+        next = next_line(reader, &mut line, &mut passed)?;
     }
     Ok(building.finish())
 }

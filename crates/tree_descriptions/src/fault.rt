@@ -51,6 +51,17 @@ impl LineFault {
     }
 }
 
+impl From<InputFault> for TextFault {
+    ghost use Rattle.std.specs.Prelude.{◌≡◌};
+    ghost use Rattle.tree_descriptions.specs.declared.fault.TextFault.TheVariants.{Input};
+
+    ghost from_gives = { λ fault e. e ≡ Input fault };
+
+    fn from(fault: InputFault) -> Self {
+        TextFault::Input(fault)
+    }
+}
+
 impl From<SyntaxFault> for LineFault {
     ghost use Rattle.std.specs.Prelude.{◌≡◌};
     ghost use Rattle.tree_descriptions.specs.Faults.{of_syntax_fault};
