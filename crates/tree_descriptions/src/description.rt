@@ -25,9 +25,9 @@ const AT_ONCE: usize = 65_536;
 /// The tree that a reader's description describes, or its outline where its streams have more bytes than a file. The
 /// description is read line by line, and never held whole.
 ///
-/// Refused: a description that isn't read or has more than 134,217,728 bytes; else its first line that is outside the
-/// grammar (`Bad`), or else the first that can't be carried out, with its number from 1; `NoMemory` at the line at which
-/// no memory was left.
+/// Refused: a description that isn't read, that has more than 134,217,728 bytes or for which no memory is left; else its
+/// first line that is outside the grammar (`Bad`), or else the first that can't be carried out, with its number from 1;
+/// `NoMemory` at the line at which no memory was left.
 pub fn describe<R: Read>(alloc: Global, reader: &mut R) -> Result<Described, TextFault>
     ensures made { IfOk result (λ d. IfSome (R.remaining reader.old) (λ text. Describes text d)) }
     ensures refused { IfErr result (λ fault. IfSome (R.remaining reader.old) (λ text. MayRefuseText text fault)) }
@@ -52,7 +52,7 @@ fn describe_lines<R: BufRead>(alloc: Global, reader: &mut R) -> Result<Described
         next = next_line(reader, &mut line, &mut passed)?;
     }
     let Ok(mut building) = Building::from_run(alloc, run) else {
-        // It lacked for no line of them, but for all together.
+        // No line of them is at fault, so none is told.
         return Err(TextFault::Input(InputFault::NoMemory));
     };
     while let Some(number) = next {

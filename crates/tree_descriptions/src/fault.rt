@@ -23,10 +23,10 @@ pub enum LineFault {
     NoMemory,
 }
 
-/// Why a description that is read is refused.
+/// Why a description that a reader gives is refused.
 #[derive(Debug, Clone, Copy, Error)]
 pub enum TextFault {
-    /// It isn't read.
+    /// It isn't read, or no memory was left for it.
     #[error("{0}")]
     Input(InputFault),
     /// A line of it is refused.
