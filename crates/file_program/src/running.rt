@@ -233,11 +233,7 @@ fn clean_open<R: Runtime + AllocGlobal>(
     new: &mut NewFile<'_, R>,
 ) -> Result<usize, CleanFault> {
     if is_sought(&source) {
-        count_made(clean_with_tree(
-            rt.alloc(),
-            &mut Sought::new(source),
-            new,
-        ))
+        count_made(clean_with_tree(rt.alloc(), &mut Sought::new(source), new))
     } else {
         clean_file(rt.alloc(), &mut source, new)
     }
