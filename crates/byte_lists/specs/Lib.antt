@@ -1,0 +1,2 @@
+pub mod Laid
+pub mod Spots
