@@ -182,6 +182,24 @@ pub fn content(alloc: Global, word: &[u8]) -> Result<Option<Vec<u8>>, AllocError
     }
 }
 
+/// Leaves the bytes of a stream, hexadecimal or `-` for none, in a buffer, and says whether a word spells some.
+///
+/// Refused: want of memory, and then the buffer may have any bytes.
+pub fn read_content(buffer: &mut Vec<u8>, word: &[u8]) -> Result<bool, AllocError>
+    ensures found { IfOk result (λ is. is ≡ true → content_read word.now ≡ Some buffer.new.items) }
+    ensures none { IfOk result (λ is. is ≡ false → content_read word.now ≡ None) }
+{
+    buffer.clear();
+    match word {
+        [] => Ok(false),
+        [b'-'] => Ok(true),
+        _ => {
+            buffer.resize(word.len() / 2, 0)?;
+            Ok(fill_hex(buffer.as_mut_slice(), word))
+        }
+    }
+}
+
 /// Whether a byte ends a word or can't be seen.
 pub fn is_hidden(byte: u8) -> bool
     ensures { result ≡ is_hidden byte }
