@@ -70,7 +70,8 @@ impl Blocks {
     }
 
     /// Puts the block that is filled among the others, where it has bytes, and begins a new one, with all the room of a block.
-    /// Refused for want of memory.
+    ///
+    /// Refused for want of memory, and where the blocks are too many for their numbers.
     fn begin(&mut self, alloc: Global) -> Result<(), AllocError>
         ensures { Grows self.old self.new }
     {
@@ -92,7 +93,9 @@ impl Blocks {
     }
 
     /// Puts a copy of these bytes into the block that is filled, or into a new one where that has no room for them, and says
-    /// where they lie. Refused for want of memory.
+    /// where they lie.
+    ///
+    /// Refused for want of memory, and where the blocks are too many for their numbers.
     pub fn put(&mut self, alloc: Global, bytes: &[u8]) -> Result<Spot, AllocError>
         ensures grows { Grows self.old self.new }
         ensures there { IfOk result (λ spot. Holds self.new spot bytes.now) }
@@ -111,7 +114,9 @@ impl Blocks {
         })
     }
 
-    /// Makes these bytes a block of their own, and says where they lie. Refused for want of memory.
+    /// Makes these bytes a block of their own, and says where they lie.
+    ///
+    /// Refused for want of memory, and where the blocks are too many for their numbers.
     pub fn put_whole(&mut self, alloc: Global, bytes: Bytes) -> Result<Spot, AllocError>
         ensures grows { Grows self.old self.new }
         ensures there { IfOk result (λ spot. Holds self.new spot bytes) }

@@ -47,7 +47,7 @@ impl ByteLists {
 
     /// Puts a copy of these bytes behind all others.
     ///
-    /// Refused for want of memory alone; a refusal changes nothing.
+    /// Refused for want of memory, and where the blocks are too many for their numbers. A refusal changes nothing.
     pub fn push(&mut self, alloc: Global, bytes: &[u8]) -> Result<(), AllocError>
         ensures added { OnOk result (self.new ≡ self.old ++ bytes.now ∷ []) }
         ensures kept { OnErr result (self.new ≡ self.old) }
@@ -63,7 +63,7 @@ impl ByteLists {
 
     /// Puts these bytes, without a copy of them, behind all others.
     ///
-    /// Refused for want of memory alone; a refusal changes nothing.
+    /// Refused for want of memory, and where the blocks are too many for their numbers. A refusal changes nothing.
     pub fn push_whole(&mut self, alloc: Global, bytes: Bytes) -> Result<(), AllocError>
         ensures added { OnOk result (self.new ≡ self.old ++ bytes ∷ []) }
         ensures kept { OnErr result (self.new ≡ self.old) }
