@@ -8,3 +8,4 @@ pub mod Plain
 pub mod Numbers
 pub mod Pushed
 pub mod Spelled
+mod Starts
