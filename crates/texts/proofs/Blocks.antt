@@ -1,5 +1,5 @@
 -- Bytes in hexadecimal by vectors, lane by lane.
-use Rattle.std.proofs.Common.{◌≡◌, ◌≤◌, ◌<◌, ◌+◌, ◌-◌, ◌*◌, ◌/◌, ◌%◌, ◌^◌, ◌++◌, ℕ, zero, suc, Bool, true, false, ltb, leb, eqb, cond, nat_eq, nat_lt, Option, Some, None, List, [], ◌∷◌, map, length, get_or, replicate, take, drop, bit_and, bit_or, refl, sym, ap, ◌∙◌, inl, inr, arith, rules, w8, Fits, eqb-true, lt-ltb, length-append, take-add, take-append-drop, append_assoc, ◌&&◌}
+use Rattle.std.proofs.Common.{◌≡◌, ◌≤◌, ◌<◌, ◌+◌, ◌-◌, ◌*◌, ◌%◌, ◌^◌, ◌++◌, ℕ, zero, suc, Bool, true, false, ltb, leb, cond, nat_eq, nat_lt, Option, Some, None, List, [], ◌∷◌, map, length, get_or, replicate, take, drop, bit_and, bit_or, refl, sym, ap, ◌∙◌, inl, inr, arith, rules, w8, Fits, eqb-true, lt-ltb, length-append, take-add, take-append-drop, append_assoc, ◌&&◌}
 use Rattle.std.proofs.lemmas.Bool.{cases_lt}
 use Rattle.std.proofs.lemmas.List.{length-drop, length-map, length-take, take_rest}
 use Rattle.std.proofs.lemmas.Nat.{le_or_l, le_or_r, or_lt}
@@ -8,7 +8,7 @@ use lib.Lanes.{zip2, sel_l, mask_l, top, Each1, pick_l}
 use Rattle.std.specs.Option.{option_map}
 use Rattle.texts.specs.Blocks.{at_even, at_odd, is_all_below, value_told}
 use Rattle.texts.specs.Words.{hex_digit, hex_read, onto, pair_value}
-use Rattle.texts.proofs.Digits.{every, every-is}
+use Rattle.texts.proofs.Digits.{every-is}
 use Rattle.texts.proofs.Hex.{behind-nothing}
 
 -- ---- the value of each lane
@@ -77,12 +77,16 @@ one-flag x m =
   where
     leb-above : (a b : ℕ) → b < a → leb a b ≡ false
     leb-above a b l = grind (arith, l)
+
     leb-below : (a b : ℕ) → a ≤ b → leb a b ≡ true
     leb-below a b l = grind (arith, l)
+
     not-lt : (a b : ℕ) → b ≤ a → nat_lt a b ≡ false
     not-lt a b l = grind (arith, l)
+
     twice : (m : ℕ) → nat_eq (0 + 2 * m) 0 ≡ nat_eq m 0
     twice m = grind arith
+
     odd : (m : ℕ) → nat_eq (1 + 2 * m) 0 ≡ false
     odd m = grind arith
 

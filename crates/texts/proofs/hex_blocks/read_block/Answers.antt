@@ -1,4 +1,4 @@
-use Rattle.std.proofs.Common.{◌≡◌, ℕ, List, length, take, map, ap, ◌∙◌, arith}
+use Rattle.std.proofs.Common.{ℕ, List, take, map, ap, ◌∙◌, arith}
 use Rattle.std.proofs.lemmas.List.{length-take}
 use Rattle.texts.specs.Words.{hex_digit}
 use Rattle.texts.proofs.Blocks.{block-long, block-read}
