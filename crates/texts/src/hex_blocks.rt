@@ -22,8 +22,10 @@ fn split_pairs(word: &[u8]) -> (u8x16, u8x16)
 fn values(digits: u8x16) -> u8x16
     ensures { map value_told result ≡ map hex_digit digits }
 {
-    // Both are 16 or more where a byte is no digit and no letter up to F, so the smaller one is the value if there is one.
+    // A difference below zero comes round to a large number, and numbers and letters are 16 or more where a byte is none of
+    // them. So the smaller one is the value, if there is one.
     let number = (digits - u8x16::splat(58)).saturating_sub(u8x16::splat(6)) - u8x16::splat(240);
+    // Without the bit by which they differ, lower and upper case are the same.
     let letter = ((digits & u8x16::splat(223)) - u8x16::splat(65)).simd_min(u8x16::splat(245));
     number.simd_min(letter + u8x16::splat(10))
 }
@@ -62,7 +64,7 @@ pub(crate) fn fill_blocks(buffer: &mut [u8], word: &[u8]) -> Option<usize>
     let mut rest = word;
     while rest.len() >= 32 {
         let (bytes, is_hex) = read_block(rest);
-        // A way out at each block takes one instruction in forty.
+        // A block is long enough for a way out at each to cost little.
         if !is_hex {
             return None;
         }
