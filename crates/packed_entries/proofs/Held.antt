@@ -1,15 +1,19 @@
 -- The bytes of entries that are held in less memory.
-use Rattle.std.proofs.Common.{◌≡◌, ◌<◌, ◌≤◌, ◌+◌, ◌-◌, ◌*◌, ◌/◌, inl, inr, min, ℕ, zero, suc, List, [], ◌∷◌, ◌++◌, length, take, drop, replicate, get_or, refl, sym, ◌∙◌, ap, arith, append_assoc, drop-drop, length-append, length-drop}
-use Rattle.std.proofs.lemmas.List.{drop-append-le, append-nil, drop-replicate, get_or-drop, get_or-take, length-replicate, length-take, length-take-le, take-append-drop, take-append-le, take_all, take_more}
+use Rattle.std.proofs.Common.{◌%◌, ◌^◌, Bool, true, false, not, cond, eqb, eqb-true, map, bit_or, ◌≡◌, ◌<◌, ◌≤◌, ◌+◌, ◌-◌, ◌*◌, ◌/◌, inl, inr, min, ℕ, zero, suc, List, [], ◌∷◌, ◌++◌, length, take, drop, replicate, get_or, refl, sym, ◌∙◌, ap, arith, append_assoc, drop-drop, length-append, length-drop}
+use Rattle.std.proofs.lemmas.Nat.{and_le_l, and_le_r}
+use Rattle.std.proofs.lemmas.List.{length-map, drop-append-le, append-nil, drop-replicate, get_or-drop, get_or-take, length-replicate, length-take, length-take-le, take-append-drop, take-append-le, take_all}
+use Rattle.std.proofs.lemmas.Simd.{length-zip2, mask_l-mod, pick_l-range_with_len, pick_l_whole, put_chunk_whole}
+use lib.Bits.{or_add_and}
+use lib.Lanes.{mask_l, pick_l, put_chunk, top, zip2}
 use Rattle.std.proofs.Math.ListN.{get_or-append}
 use Rattle.std.proofs.Math.Seq.{drop-append-add, take-append-add}
 use Rattle.std.proofs.lemmas.Bool.{cases_lt}
 use Rattle.std.proofs.lemmas.Grind.{flat_map-append}
 use Rattle.std.specs.Prelude.{slice_set}
-use Rattle.std.specs.List.{flat_map}
+use Rattle.std.specs.List.{flat_map, range_with_len}
 use Rattle.std.specs.Int.{from_le_bytes, w32}
 use Rattle.cfb_bytes.specs.Bytes.{block, u32_at}
-use Rattle.packed_entries.specs.Packed.{entry_of, spelled, unit}
+use Rattle.packed_entries.specs.Packed.{IsShort, entry_of, evens, odds, spelled, unit}
 use Rattle.packed_entries.specs.declared.packed.Short.{Short}
 use Rattle.packed_entries.specs.declared.packed.Slot.{Slot}
 use Rattle.packed_entries.specs.declared.packed.Slot.TheVariants.{Packed, Whole}
@@ -18,71 +22,6 @@ use Rattle.packed_entries.specs.declared.packed.Slot.TheVariants.{Packed, Whole}
 pub length_units : (name : List ℕ) → length (flat_map unit name) ≡ 2 * length name
 length_units [] = refl
 length_units (c ∷ name) = omega (arith, length_units name)
-
-set_behind : (xs ys : List ℕ) (n y : ℕ) → slice_set (xs ++ ys) (length xs + n) y ≡ xs ++ slice_set ys n y
-set_behind [] ys n y = let e : 0 + n ≡ n = omega arith in ap (λ k. slice_set ys k y) e
-set_behind (x ∷ xs) ys n y =
-    let e : suc (length xs) + n ≡ suc (length xs + n) = omega arith in
-    ap (λ k. slice_set (x ∷ (xs ++ ys)) k y) e ∙ ap (λ zs. x ∷ zs) (set_behind xs ys n y)
-
-two_set : (ys : List ℕ) (c : ℕ) → 2 ≤ length ys → slice_set (slice_set ys 0 c) 1 0 ≡ unit c ++ drop 2 ys
-two_set [] c l = absurd (omega arith)
-two_set (a ∷ []) c l = absurd (omega arith)
-two_set (a ∷ b ∷ ys) c l = refl
-
-one_set : (ys : List ℕ) (c : ℕ) → 1 ≤ length ys → slice_set ys 0 c ≡ c ∷ drop 1 ys
-one_set [] c l = absurd (omega arith)
-one_set (y ∷ ys) c l = refl
-
--- a character more is written
-pub one_more : (name old : List ℕ) (k : ℕ) → k < length name → 2 * length name ≤ length old
-    → slice_set (slice_set (flat_map unit (take k name) ++ drop (2 * k) old) (2 * k) (get_or name k 0)) (2 * k + 1) 0
-    ≡ flat_map unit (take (k + 1) name) ++ drop (2 * (k + 1)) old
-one_more name old k lt room =
-    let xs : List ℕ = flat_map unit (take k name) in
-    let ys : List ℕ = drop (2 * k) old in
-    let c : ℕ = get_or name k 0 in
-    let long : length xs ≡ 2 * k = omega (arith, length_units (take k name), length-take-le k name (omega (arith, lt))) in
-    let first : 2 * k ≡ length xs + 0 = omega (arith, long) in
-    let second : 2 * k + 1 ≡ length xs + 1 = omega (arith, long) in
-    let left : 2 ≤ length ys = omega (arith, lt, room, length-drop (2 * k) old) in
-    let more : flat_map unit (take (k + 1) name) ≡ xs ++ unit c =
-    ap (flat_map unit) (take_more name k 0 lt) ∙ flat_map-append unit (take k name) (c ∷ []) in
-    let behind : drop 2 ys ≡ drop (2 * (k + 1)) old = drop-drop 2 (2 * k) old ∙ ap (λ n. drop n old) (omega arith) in
-    (λ t. slice_set (slice_set (xs ++ ys) (first t) c) (second t) 0)
-    ∙ ap (λ zs. slice_set zs (length xs + 1) 0) (set_behind xs ys 0 c)
-    ∙ set_behind xs (slice_set ys 0 c) 1 0
-    ∙ ap (λ zs. xs ++ zs) (two_set ys c left)
-    ∙ sym (append_assoc xs (unit c) (drop 2 ys))
-    ∙ (λ t. sym more t ++ behind t)
-
--- bytes that are laid over others, one more
-pub laid_more : (out part : List ℕ) (at k : ℕ) → at + length part ≤ length out → k < length part
-    → slice_set (take at out ++ take k part ++ drop (at + k) out) (at + k) (get_or part k 0) ≡ take at out ++ take (k + 1) part ++ drop (at + (k + 1)) out
-laid_more out part at k room less =
-    let xs : List ℕ = take at out ++ take k part in
-    let ys : List ℕ = drop (at + k) out in
-    let c : ℕ = get_or part k 0 in
-    let long : at + k ≡ length xs + 0 =
-    omega (arith, less, room, length-append (take at out) (take k part), length-take-le at out (omega (arith, room)), length-take-le k part (omega (arith, less))) in
-    let some : 1 ≤ length ys = omega (arith, less, room, length-drop (at + k) out) in
-    let behind : drop 1 ys ≡ drop (at + (k + 1)) out = drop-drop 1 (at + k) out ∙ ap (λ n. drop n out) (omega arith) in
-    ap (λ n. slice_set (xs ++ ys) n c) long
-    ∙ set_behind xs ys 0 c
-    ∙ ap (λ zs. xs ++ zs) (one_set ys c some)
-    ∙ sym (append_assoc xs (c ∷ []) (drop 1 ys))
-    ∙ (λ t. append_assoc (take at out) (take k part) (c ∷ []) t ++ behind t)
-    ∙ ap (λ zs. take at out ++ zs ++ drop (at + (k + 1)) out) (sym (take_more part k 0 less))
-
--- an entry whose parts are laid into zeros
-pub laid : (name head place : List ℕ) → length head ≡ 16 → length place ≡ 7
-    → (zeros : List ℕ) → zeros ≡ replicate 128 0 → (mid : List ℕ) → mid ≡ take 116 zeros ++ place ++ drop (116 + length place) zeros
-    → flat_map unit name ++ drop 64 (take 64 mid ++ head ++ drop (64 + length head) mid)
-    ≡ flat_map unit name ++ (head ++ (replicate 36 0 ++ (place ++ replicate 5 0)))
-laid name head place h p zeros z mid m =
-    let mid_is : mid ≡ take 116 (replicate 128 0) ++ place ++ drop 123 (replicate 128 0) =
-    m ∙ (λ t. take 116 (z t) ++ place ++ drop (116 + p t) (z t)) in
-    λ t. flat_map unit name ++ drop 64 (take 64 (mid_is t) ++ head ++ drop (64 + h t) (mid_is t))
 
 -- an entry, its parts where they stand
 pub placed : (name head place : List ℕ) → flat_map unit name ++ (head ++ (replicate 36 0 ++ (place ++ replicate 5 0)))
@@ -205,16 +144,6 @@ back old more slots n is long =
     take_entries slots n few ∙ ap (take (128 * n)) is ∙ ap (λ m. take m (old ++ more)) long
     ∙ take-append-le (length old) old more (omega arith) ∙ take_all (length old) old (omega arith)
 
--- ---- eight bytes at a time
-pub eight_more : (a b : List ℕ) (k : ℕ) → 8 * k + 8 ≤ length a → 8 * k + 8 ≤ length b → take (8 * k) a ≡ take (8 * k) b
-    → take 8 (drop (8 * k) a) ≡ take 8 (drop (8 * k) b) → take (8 * (k + 1)) a ≡ take (8 * (k + 1)) b
-eight_more a b k l m front next =
-    let cut : (xs : List ℕ) → 8 * k + 8 ≤ length xs → take (8 * (k + 1)) xs ≡ take (8 * k) xs ++ take 8 (drop (8 * k) xs) =
-    λ xs long.
-    let n : 8 * (k + 1) ≡ length (take (8 * k) xs) + 8 = omega (arith, length-take-le (8 * k) xs (omega (arith, long))) in
-    (λ t. take (n t) (sym (take-append-drop (8 * k) xs) t)) ∙ take-append-add (take (8 * k) xs) (drop (8 * k) xs) 8 in
-    cut a l ∙ (λ t. front t ++ next t) ∙ sym (cut b m)
-
 -- ---- numbers in the head of an entry
 pub in_head : (s : Short) (at : ℕ) → length s.name ≡ 32 → length s.head ≡ 16 → length s.place ≡ 7 → 64 ≤ at → at + 4 ≤ 80
     → u32_at s.head (at - 64) ≡ u32_at (block 128 (spelled s) 0) at
@@ -233,3 +162,197 @@ in_head s at n h p from to =
     let cut : drop at ((units ++ s.head) ++ rest) ≡ behind ++ rest =
     drop-append-le at (units ++ s.head) rest there ∙ ap (λ k. drop k (units ++ s.head) ++ rest) place ∙ ap (λ xs. xs ++ rest) (drop-append-add units s.head (at - 64)) in
     ap (from_le_bytes w32) (sym (ap (λ xs. take 4 (drop at xs)) whole ∙ ap (take 4) cut ∙ take-append-le 4 behind rest some))
+
+-- ---- sixteen bytes at a time
+
+-- sixteen bytes that are laid over others
+pub put_over : (old piece : List ℕ) (at k : ℕ) → k ≡ 16 → length piece ≡ 16 → at + 16 ≤ length old
+    → take at old ++ (put_chunk 0 (take k (drop at old)) piece ++ drop k (drop at old)) ≡ take at old ++ piece ++ drop (at + 16) old
+put_over old piece at k sixteen long room =
+    let part : List ℕ = take k (drop at old) in
+    let fits : length part ≡ length piece = omega (arith, sixteen, long, room, length-take k (drop at old), length-drop at old) in
+    let behind : drop k (drop at old) ≡ drop (at + 16) old = drop-drop k at old ∙ ap (λ n. drop (at + n) old) sixteen in
+    (λ t. take at old ++ (put_chunk_whole part piece fits t ++ behind t)) ∙ sym (append_assoc (take at old) piece (drop (at + 16) old))
+
+-- what stands from the place on at which bytes are laid
+pub laid_from : (old new piece : List ℕ) (at n : ℕ) → n ≡ at + length piece → n ≤ length old → new ≡ take at old ++ piece ++ drop n old
+    → drop at new ≡ piece ++ drop n old
+laid_from old new piece at n end room is =
+    let long : at ≡ length (take at old) + 0 = omega (arith, end, room, length-take-le at old (omega (arith, end, room))) in
+    ap (drop at) (is ∙ append_assoc (take at old) piece (drop n old))
+    ∙ ap (λ k. drop k (take at old ++ (piece ++ drop n old))) long
+    ∙ drop-append-add (take at old) (piece ++ drop n old) 0
+
+-- a list by its elements
+by_elements : (xs : List ℕ) (n : ℕ) → length xs ≡ n → xs ≡ pick_l 0 xs (range_with_len 0 n)
+by_elements xs n long = sym (pick_l_whole 0 xs n long)
+
+-- sixteen characters, each with a zero behind it
+pub widened : (xs : List ℕ) → length xs ≡ 16
+    → pick_l 0 (xs ++ replicate 16 0) (0 ∷ 16 ∷ 1 ∷ 17 ∷ 2 ∷ 18 ∷ 3 ∷ 19 ∷ 4 ∷ 20 ∷ 5 ∷ 21 ∷ 6 ∷ 22 ∷ 7 ∷ 23 ∷ [])
+    ++ pick_l 0 (xs ++ replicate 16 0) (8 ∷ 24 ∷ 9 ∷ 25 ∷ 10 ∷ 26 ∷ 11 ∷ 27 ∷ 12 ∷ 28 ∷ 13 ∷ 29 ∷ 14 ∷ 30 ∷ 15 ∷ 31 ∷ [])
+    ≡ flat_map unit xs
+widened xs long =
+    let is : xs ≡ pick_l 0 xs (range_with_len 0 16) = by_elements xs 16 long in
+    (λ t. pick_l 0 (is t ++ replicate 16 0) (0 ∷ 16 ∷ 1 ∷ 17 ∷ 2 ∷ 18 ∷ 3 ∷ 19 ∷ 4 ∷ 20 ∷ 5 ∷ 21 ∷ 6 ∷ 22 ∷ 7 ∷ 23 ∷ [])
+    ++ pick_l 0 (is t ++ replicate 16 0) (8 ∷ 24 ∷ 9 ∷ 25 ∷ 10 ∷ 26 ∷ 11 ∷ 27 ∷ 12 ∷ 28 ∷ 13 ∷ 29 ∷ 14 ∷ 30 ∷ 15 ∷ 31 ∷ []))
+    ∙ (λ t. flat_map unit (sym is t))
+
+-- the parts of an entry, its name in four pieces
+pub pieced : (name head rest a b c d h : List ℕ) → length name ≡ 32 → length head ≡ 16 → a ++ b ≡ flat_map unit (take 16 (drop 0 name))
+    → c ++ d ≡ flat_map unit (take 16 (drop 16 name)) → h ≡ take 16 (drop 0 head)
+    → a ++ (b ++ (c ++ (d ++ (h ++ rest)))) ≡ flat_map unit name ++ (head ++ rest)
+pieced name head rest a b c d h n hl first second third =
+    let low : List ℕ = take 16 name in
+    let high : List ℕ = take 16 (drop 16 name) in
+    let last : high ≡ drop 16 name = take_all 16 (drop 16 name) (omega (arith, n, length-drop 16 name)) in
+    let whole : low ++ high ≡ name = (λ t. low ++ last t) ∙ take-append-drop 16 name in
+    let whole_head : h ≡ head = third ∙ take_all 16 head (omega (arith, hl)) in
+    sym (append_assoc a b (c ++ (d ++ (h ++ rest))))
+    ∙ (λ t. first t ++ sym (append_assoc c d (h ++ rest)) t)
+    ∙ (λ t. flat_map unit low ++ (second t ++ (whole_head t ++ rest)))
+    ∙ sym (append_assoc (flat_map unit low) (flat_map unit high) (head ++ rest))
+    ∙ (λ t. sym (flat_map-append unit low high) t ++ (head ++ rest))
+    ∙ (λ t. flat_map unit (whole t) ++ (head ++ rest))
+
+-- the place of an entry's stream, laid into zeros byte by byte
+abbrev pub with_place : List ℕ → List ℕ
+with_place place =
+    slice_set
+    (slice_set
+    (slice_set
+    (slice_set
+    (slice_set
+    (slice_set (slice_set (replicate 128 0) 116 (get_or place 0 0)) 117 (get_or place 1 0))
+    118
+    (get_or place 2 0))
+    119
+    (get_or place 3 0))
+    120
+    (get_or place 4 0))
+    121
+    (get_or place 5 0))
+    122
+    (get_or place 6 0)
+
+pub place_there : (place : List ℕ) → length place ≡ 7 → drop 80 (with_place place) ≡ replicate 36 0 ++ (place ++ replicate 5 0)
+place_there place long = λ t. replicate 36 0 ++ (pick_l_whole 0 place 7 long t ++ replicate 5 0)
+
+-- ---- what is kept of an entry
+
+-- numbers at even places, all others being zero
+spread : (n : ℕ) (xs : List ℕ) → length xs ≡ n + n → odds xs ≡ replicate n 0 → flat_map unit (evens xs) ≡ xs
+spread zero [] long zeros = refl
+spread zero (x ∷ xs) long zeros = absurd (omega arith)
+spread (suc n) [] long zeros = absurd (omega arith)
+spread (suc n) (x ∷ []) long zeros = absurd (omega arith)
+spread (suc n) (x ∷ y ∷ xs) long zeros =
+    let head : y ≡ 0 = ap (λ ys. get_or ys 0 0) zeros in
+    let rest : odds xs ≡ replicate n 0 = ap (drop 1) zeros in
+    λ t. x ∷ sym head t ∷ spread n xs (omega (arith, long)) rest t
+
+-- sixty-four numbers, parted as vectors part them
+pub parted_lower : (entry : List ℕ) → length entry ≡ 128
+    → pick_l 0 (take 32 (drop 0 entry) ++ take 32 (drop 32 entry)) (map (λ k. 2 * k) (range_with_len 0 32)) ≡ evens (take 64 entry)
+parted_lower entry long =
+    let is : entry ≡ pick_l 0 entry (range_with_len 0 128) = by_elements entry 128 long in
+    (λ t. pick_l 0 (take 32 (drop 0 (is t)) ++ take 32 (drop 32 (is t))) (map (λ k. 2 * k) (range_with_len 0 32))) ∙ (λ t. evens (take 64 (sym is t)))
+
+pub parted_upper : (entry : List ℕ) → length entry ≡ 128
+    → pick_l 0 (take 32 (drop 0 entry) ++ take 32 (drop 32 entry)) (map (λ k. 2 * k + 1) (range_with_len 0 32)) ≡ odds (take 64 entry)
+parted_upper entry long =
+    let is : entry ≡ pick_l 0 entry (range_with_len 0 128) = by_elements entry 128 long in
+    (λ t. pick_l 0 (take 32 (drop 0 (is t)) ++ take 32 (drop 32 (is t))) (map (λ k. 2 * k + 1) (range_with_len 0 32))) ∙ (λ t. odds (take 64 (sym is t)))
+
+pub unplaced : (last : List ℕ) → length last ≡ 32
+    → pick_l 0 (last ++ replicate 32 0) (range_with_len 0 20 ++ replicate 7 32 ++ range_with_len 27 5) ≡ take 20 last ++ replicate 7 0 ++ drop 27 last
+unplaced last long =
+    let is : last ≡ pick_l 0 last (range_with_len 0 32) = by_elements last 32 long in
+    (λ t. pick_l 0 (is t ++ replicate 32 0) (range_with_len 0 20 ++ replicate 7 32 ++ range_with_len 27 5))
+    ∙ (λ t. take 20 (sym is t) ++ replicate 7 0 ++ drop 27 (sym is t))
+
+-- what two numbers make up is zero only where both are
+or_zero : (a b : ℕ) → bit_or a b ≡ 0 → (a ≡ 0) × (b ≡ 0)
+or_zero a b e = omega (arith, e, or_add_and a b, and_le_l a b, and_le_r a b)
+
+pub both_zero : (n : ℕ) (xs ys : List ℕ) → length xs ≡ n → length ys ≡ n → zip2 bit_or xs ys ≡ replicate n 0 → (xs ≡ replicate n 0) × (ys ≡ replicate n 0)
+both_zero zero [] [] l m e = (refl, refl)
+both_zero zero [] (y ∷ ys) l m e = absurd (omega arith)
+both_zero zero (x ∷ xs) ys l m e = absurd (omega arith)
+both_zero (suc n) [] ys l m e = absurd (omega arith)
+both_zero (suc n) (x ∷ xs) [] l m e = absurd (omega arith)
+both_zero (suc n) (x ∷ xs) (y ∷ ys) l m e =
+    let here : (x ≡ 0) × (y ≡ 0) = or_zero x y (ap (λ zs. get_or zs 0 0) e) in
+    let rest : (xs ≡ replicate n 0) × (ys ≡ replicate n 0) = both_zero n xs ys (omega (arith, l)) (omega (arith, m)) (ap (drop 1) e) in
+    (λ t. here.0 t ∷ rest.0 t, λ t. here.1 t ∷ rest.1 t)
+
+-- no lane differs from zero
+abbrev pub differs : ℕ → ℕ → ℕ
+differs a b = cond (not (eqb a b)) 255 0
+
+flag : (x : ℕ) → ◌≡◌ {A = ℕ} (cond (top 7 (differs x 0)) 1 0) 0 → x ≡ 0
+flag x = go (eqb x 0) refl
+  where
+    go : (t : Bool) → eqb x 0 ≡ t → ◌≡◌ {A = ℕ} (cond (top 7 (cond (not t) 255 0)) 1 0) 0 → x ≡ 0
+    go true e q = eqb-true _ _ e
+    go false e q = absurd (omega arith)
+
+none_differ : (n : ℕ) (xs : List ℕ) → length xs ≡ n → mask_l (map (top 7) (zip2 differs xs (replicate n 0))) ≡ 0 → xs ≡ replicate n 0
+none_differ zero [] l e = refl
+none_differ zero (x ∷ xs) l e = absurd (omega arith)
+none_differ (suc n) [] l e = absurd (omega arith)
+none_differ (suc n) (x ∷ xs) l e =
+    let here : x ≡ 0 = flag x (omega (arith, e)) in
+    let rest : xs ≡ replicate n 0 = none_differ n xs (omega (arith, l)) (omega (arith, e)) in
+    λ t. here t ∷ rest t
+
+pub zero_of_mask : (xs : List ℕ) → length xs ≡ 32 → eqb (mask_l (map (top 7) (zip2 differs xs (replicate 32 0))) % 2 ^ 64) 0 ≡ true → xs ≡ replicate 32 0
+zero_of_mask xs long e =
+    none_differ 32 xs long
+    (sym (mask_l-mod _ 64 (omega (arith, long, length-map (zip2 differs xs (replicate 32 0)) (top 7), length-zip2 differs xs (replicate 32 0) long))) ∙ eqb-true _ _ e)
+
+-- the last quarter, of which all is zero but the place of a stream
+last_is : (last : List ℕ) → length last ≡ 32 → take 20 last ++ replicate 7 0 ++ drop 27 last ≡ replicate 32 0
+    → drop 16 last ≡ replicate 4 0 ++ (take 7 (drop 20 last) ++ replicate 5 0)
+last_is last long zeros =
+    let is : last ≡ pick_l 0 last (range_with_len 0 32) = by_elements last 32 long in
+    let spelled : List ℕ = pick_l 0 last (range_with_len 0 32) in
+    let clear : take 20 spelled ++ replicate 7 0 ++ drop 27 spelled ≡ replicate 32 0 = (λ t. take 20 (sym is t) ++ replicate 7 0 ++ drop 27 (sym is t)) ∙ zeros in
+    ap (drop 16) is
+    ∙ (λ t. take 4 (drop 16 (clear t)) ++ (take 7 (drop 20 spelled) ++ drop 27 (clear t)))
+    ∙ (λ t. replicate 4 0 ++ (take 7 (drop 20 (sym is t)) ++ replicate 5 0))
+
+-- an entry of which all else is zero is made up of what is kept
+pub short : (entry : List ℕ) → length entry ≡ 128 → odds (take 64 entry) ≡ replicate 32 0 → take 32 (drop 80 entry) ≡ replicate 32 0
+    → take 20 (take 32 (drop 96 entry)) ++ replicate 7 0 ++ drop 27 (take 32 (drop 96 entry)) ≡ replicate 32 0 → IsShort entry
+short entry long upper dated last =
+    let first : List ℕ = take 64 entry in
+    let name : flat_map unit (evens first) ≡ first = spread 32 first (omega (arith, long, length-take 64 entry)) upper in
+    let head : List ℕ = take 16 (drop 64 entry) in
+    let place : List ℕ = take 7 (drop 116 entry) in
+    let rest : List ℕ = drop 96 entry in
+    let whole : take 32 rest ≡ rest = take_all 32 rest (omega (arith, long, length-drop 96 entry)) in
+    let ends : drop 16 rest ≡ replicate 4 0 ++ (take 7 (drop 20 rest) ++ replicate 5 0) =
+    last_is rest (omega (arith, long, length-drop 96 entry)) ((λ t. take 20 (sym whole t) ++ replicate 7 0 ++ drop 27 (sym whole t)) ∙ last) in
+    let tail : drop 112 entry ≡ replicate 4 0 ++ (place ++ replicate 5 0) =
+    sym (drop-drop 16 96 entry) ∙ ends ∙ (λ t. replicate 4 0 ++ (take 7 (drop-drop 20 96 entry t) ++ replicate 5 0)) in
+    let behind : drop 80 entry ≡ replicate 36 0 ++ (place ++ replicate 5 0) =
+    sym (take-append-drop 32 (drop 80 entry)) ∙ (λ t. dated t ++ drop-drop 32 80 entry t) ∙ (λ t. replicate 32 0 ++ tail t) in
+    let all : drop 64 entry ≡ head ++ drop 80 entry = sym (take-append-drop 16 (drop 64 entry)) ∙ (λ t. head ++ drop-drop 16 64 entry t) in
+    sym (placed (evens first) head place)
+    ∙ (λ t. name t ++ (head ++ sym behind t))
+    ∙ (λ t. first ++ sym all t)
+    ∙ take-append-drop 64 entry
+
+-- an entry that is made up so is the one that is spelled out
+pub short_spelled : (s : Short) (entry : List ℕ) → length entry ≡ 128 → s.name ≡ evens (take 64 entry) → s.head ≡ take 16 (drop 64 entry) → s.place ≡ take 7 (drop 116 entry)
+    → IsShort entry → entry_of (Packed s) ≡ entry
+unfolding spelled
+short_spelled s entry long name head place is =
+    let all : spelled s ≡ entry = (λ t. flat_map unit (name t) ++ head t ++ replicate 36 0 ++ place t ++ replicate 5 0) ∙ is in
+    ap (λ xs. block 128 xs 0) all ∙ block_whole 128 entry long
+
+pub place_read : (entry : List ℕ) → length entry ≡ 128
+    → get_or entry 116 0 ∷ get_or entry 117 0 ∷ get_or entry 118 0 ∷ get_or entry 119 0 ∷ get_or entry 120 0 ∷ get_or entry 121 0 ∷ get_or entry 122 0 ∷ []
+    ≡ take 7 (drop 116 entry)
+place_read entry long = pick_l-range_with_len 0 entry 116 7 (omega (arith, long))

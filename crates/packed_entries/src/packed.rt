@@ -1,15 +1,14 @@
 //! The entries of a directory in less memory than they take in a file.
 
 ghost use Rattle.cfb_bytes.specs.Bytes.{block, u32_at};
-ghost use Rattle.packed_entries.specs.Packed.{spelled, unit};
-ghost use Rattle.std.specs.Int.{to_le_bytes, w64};
+ghost use Rattle.packed_entries.specs.Packed.{IsShort, evens, odds, spelled, unit};
 ghost use Rattle.std.specs.List.{flat_map};
-ghost use Rattle.std.specs.Prelude.{◌*◌, ◌+◌, ◌++◌, ◌≡◌, ◌≤◌, drop, length, take, true};
+ghost use Rattle.std.specs.Prelude.{◌*◌, ◌+◌, ◌++◌, ◌≡◌, ◌≤◌, drop, length, replicate, take, true};
 
-use byteorder::{ByteOrder, LittleEndian};
 use cfb_bytes::numbers::read_u32;
 use std::alloc::{AllocError, Global};
 use std::marker::Model;
+use std::simd::prelude::*;
 
 /// How many bytes an entry has.
 const ENTRY_LEN: usize = 128;
@@ -43,74 +42,129 @@ pub struct PackedEntries {
     slots: Vec<Slot>,
 }
 
-/// Writes characters in UTF-16.
-fn spread(out: &mut [u8], name: &[u8])
-    requires room { length out.old ≡ 64 }
-    requires count { length name.now ≡ 32 }
-    ensures { out.new ≡ flat_map unit name.now }
+/// Lays sixteen bytes over those that stand at a place.
+#[inline(always)]
+fn put(entry: &mut [u8; 128], at: usize, piece: u8x16)
+    requires { at + 16 ≤ 128 }
+    ensures { entry.new ≡ take at entry.old ++ piece ++ drop (at + 16) entry.old }
 {
-    for k in 0..NAME_LEN {
-        out[2 * k] = name[k];
-        out[2 * k + 1] = 0;
-    }
+    piece.copy_to_slice(&mut entry[at..at + 16]);
 }
 
-/// Writes bytes over others, from a place on.
-fn lay(out: &mut [u8], at: usize, part: &[u8])
-    requires { at + length part.now ≤ length out.old }
-    ensures { out.new ≡ take at out.old ++ part.now ++ drop (at + length part.now) out.old }
+/// Sixteen bytes from a place on.
+#[inline(always)]
+fn piece(bytes: &[u8], at: usize) -> u8x16
+    requires { at + 16 ≤ length bytes.now }
+    ensures { result ≡ take 16 (drop at bytes.now) }
 {
-    for k in 0..part.len() {
-        out[at + k] = part[k];
-    }
+    u8x16::from_slice(&bytes[at..])
+}
+
+/// Sixteen characters in UTF-16.
+#[inline(always)]
+fn widened(characters: u8x16) -> (u8x16, u8x16)
+    ensures { result.0 ++ result.1 ≡ flat_map unit characters }
+{
+    characters.interleave(u8x16::splat(0))
 }
 
 /// The bytes of an entry of which most are zero.
+#[inline(always)]
 fn spell(short: &Short) -> [u8; 128]
     ensures { result ≡ block 128 (spelled short.now) 0 }
 {
     let mut entry = [0; ENTRY_LEN];
-    lay(&mut entry, 116, &short.place);
-    lay(&mut entry, 64, &short.head);
-    spread(&mut entry[..64], &short.name);
+    entry[116] = short.place[0];
+    entry[117] = short.place[1];
+    entry[118] = short.place[2];
+    entry[119] = short.place[3];
+    entry[120] = short.place[4];
+    entry[121] = short.place[5];
+    entry[122] = short.place[6];
+    put(&mut entry, 64, piece(&short.head, 0));
+    let (third, fourth) = widened(piece(&short.name, 16));
+    put(&mut entry, 48, fourth);
+    put(&mut entry, 32, third);
+    let (first, second) = widened(piece(&short.name, 0));
+    put(&mut entry, 16, second);
+    put(&mut entry, 0, first);
     entry
 }
 
-/// What would be kept of an entry if all else of it were zero. Whether it is, is looked at by whoever asks.
-fn shorten(entry: &[u8; 128]) -> Short {
-    let mut name = [0; NAME_LEN];
-    for k in 0..NAME_LEN {
-        name[k] = entry[2 * k];
-    }
-    let mut head = [0; 16];
-    for k in 0..head.len() {
-        head[k] = entry[64 + k];
-    }
-    let mut place = [0; 7];
-    for k in 0..place.len() {
-        place[k] = entry[116 + k];
-    }
-    Short { name, head, place }
+/// A quarter of an entry, from a place on.
+#[inline(always)]
+fn quarter(entry: &[u8; 128], at: usize) -> u8x32
+    requires { at + 32 ≤ 128 }
+    ensures { result ≡ take 32 (drop at entry.now) }
+{
+    u8x32::from_slice(&entry[at..])
 }
 
-/// Eight bytes of an entry as a number.
-fn word(bytes: &[u8; 128], at: usize) -> u64
-    requires { at + 8 ≤ 128 }
-    ensures { to_le_bytes w64 result ≡ take 8 (drop at bytes.now) }
+/// The lower and the upper bytes of the characters of an entry's name.
+#[inline(always)]
+fn parted(entry: &[u8; 128]) -> (u8x32, u8x32)
+    ensures lower { result.0 ≡ evens (take 64 entry.now) }
+    ensures upper { result.1 ≡ odds (take 64 entry.now) }
 {
-    LittleEndian::read_u64(&bytes[at..])
+    quarter(entry, 0).deinterleave(quarter(entry, 32))
 }
 
-/// Whether entries are the same: eight bytes at a time.
-fn are_equal(a: &[u8; 128], b: &[u8; 128]) -> bool
-    ensures { result ≡ true → a.now ≡ b.now }
+/// The last quarter of an entry, with zeros where its stream's place is.
+#[inline(always)]
+fn unplaced(last: u8x32) -> u8x32
+    ensures { result ≡ take 20 last ++ replicate 7 0 ++ drop 27 last }
 {
-    for k in 0..ENTRY_LEN / 8 {
-        if word(a, 8 * k) != word(b, 8 * k) {
-            return false;
-        }
+    last.shuffle(
+        u8x32::splat(0),
+        [
+            0, 1, 2, 3, 4, 5, 6, 7, 8, 9, 10, 11, 12, 13, 14, 15, 16, 17, 18, 19, 32, 32, 32, 32,
+            32, 32, 32, 27, 28, 29, 30, 31,
+        ],
+    )
+}
+
+/// What is zero only where both are.
+#[inline(always)]
+fn either(a: u8x32, b: u8x32) -> u8x32
+    ensures { result ≡ replicate 32 0 → (a ≡ replicate 32 0) × (b ≡ replicate 32 0) }
+{
+    a | b
+}
+
+/// Whether all bytes are zero.
+#[inline(always)]
+fn is_zero(bytes: u8x32) -> bool
+    ensures { result ≡ true → bytes ≡ replicate 32 0 }
+{
+    bytes.simd_ne(u8x32::splat(0)).to_bitmask() == 0
+}
+
+/// Whether all of an entry is zero that isn't kept of one which is held in less memory.
+#[inline(always)]
+fn is_short(entry: &[u8; 128]) -> bool
+    ensures { result ≡ true → IsShort entry.now }
+{
+    let (_, upper) = parted(entry);
+    let dated = quarter(entry, 80);
+    let last = unplaced(quarter(entry, 96));
+    is_zero(either(either(upper, dated), last))
+}
+
+/// What is kept of an entry of which all else is zero.
+#[inline(always)]
+fn shorten(entry: &[u8; 128]) -> Short
+    ensures name { result.name ≡ evens (take 64 entry.now) }
+    ensures head { result.head ≡ take 16 (drop 64 entry.now) }
+    ensures place { result.place ≡ take 7 (drop 116 entry.now) }
+{
+    let (name, _) = parted(entry);
+    Short {
+        name: name.to_array(),
+        head: piece(entry, 64).to_array(),
+        place: [
+            entry[116], entry[117], entry[118], entry[119], entry[120], entry[121], entry[122],
+        ],
     }
-    true
 }
 
 /// The first bytes, with zeros behind them where there are fewer than an entry has.
@@ -124,26 +178,23 @@ fn front(bytes: &[u8]) -> [u8; 128]
 }
 
 /// The bytes of one of several entries.
-fn entry_in(bytes: &[u8], k: usize) -> [u8; 128]
+#[inline(always)]
+fn entry_in(bytes: &[u8], k: usize) -> &[u8; 128]
     requires { 128 * k + 128 ≤ length bytes.now }
-    ensures { result ≡ take 128 (drop (128 * k) bytes.now) }
+    ensures { result.now ≡ take 128 (drop (128 * k) bytes.now) }
 {
-    let piece = &bytes[ENTRY_LEN * k..ENTRY_LEN * k + ENTRY_LEN];
-    match piece.as_array::<ENTRY_LEN>() {
-        Some(entry) => *entry,
-        None => front(piece),
+    match bytes[ENTRY_LEN * k..ENTRY_LEN * k + ENTRY_LEN].as_array::<ENTRY_LEN>() {
+        Some(entry) => entry,
+        None => unreachable!(),
     }
 }
 
-/// The number in four bytes of an entry of which most are zero. Those that links have are read where they are kept.
-fn short_number(short: &Short, at: usize) -> u32
-    requires { at + 4 ≤ 128 }
+/// The number in four bytes that stand from the length of an entry's name to its links, of an entry of which most are zero.
+fn head_number(short: &Short, at: usize) -> u32
+    requires { (64 ≤ at) × (at + 4 ≤ 80) }
     ensures { result ≡ u32_at (block 128 (spelled short.now) 0) at }
 {
-    if at >= 64 && at + 4 <= 80 {
-        return read_u32(&short.head, at - 64);
-    }
-    read_u32(&spell(short), at)
+    read_u32(&short.head, at - 64)
 }
 
 impl Slot {
@@ -151,30 +202,21 @@ impl Slot {
     ghost use Rattle.packed_entries.specs.Packed.{entry_of};
     ghost use Rattle.std.specs.Prelude.{◌+◌, ◌≡◌, ◌≤◌, IfOk};
 
-    /// An entry, in as little memory as it can be held.
-    fn of(alloc: Global, entry: &[u8; 128]) -> Result<Slot, AllocError>
-        ensures { IfOk result (λ slot. entry_of slot ≡ entry.now) }
-    {
-        let short = shorten(entry);
-        if are_equal(&spell(&short), entry) {
-            return Ok(Slot::Packed(short));
-        }
-        let bytes = Vec::from_slice(alloc, entry)?;
-        Ok(Slot::Whole(bytes))
-    }
-
-    /// The number in four of its bytes.
+    /// The number in four of its bytes. Those that links have are read where they are kept.
     fn number(&self, at: usize) -> u32
         requires { at + 4 ≤ 128 }
         ensures { result ≡ u32_at (entry_of self.now) at }
     {
-        match self {
-            Slot::Packed(short) => short_number(short, at),
-            Slot::Whole(bytes) => read_u32(&front(bytes), at),
+        if let Slot::Packed(short) = self {
+            if at >= 64 && at + 4 <= 80 {
+                return head_number(short, at);
+            }
         }
+        read_u32(&self.bytes(), at)
     }
 
     /// Its bytes.
+    #[inline(always)]
     fn bytes(&self) -> [u8; 128]
         ensures { result ≡ entry_of self.now }
     {
@@ -197,6 +239,7 @@ impl Model for PackedEntries {
 
 impl PackedEntries {
     ghost use Rattle.cfb_bytes.specs.Bytes.{block, u32_at};
+    ghost use Rattle.packed_entries.specs.Packed.{entry_of};
     ghost use Rattle.std.specs.Prelude.{[], ◌*◌, ◌+◌, ◌++◌, ◌<◌, ◌≡◌, ◌≤◌, OnErr, OnOk, length, slice_index, ℕ};
 
     /// No entries.
@@ -248,13 +291,25 @@ impl PackedEntries {
         self.entry(at / ENTRY_LEN)[at % ENTRY_LEN]
     }
 
-    /// Adds an entry.
+    /// Adds an entry in the form in which it is held.
+    #[inline(always)]
+    fn add(&mut self, slot: Slot) -> Result<(), AllocError>
+        ensures added { OnOk result (self.new ≡ self.old ++ entry_of slot) }
+        ensures kept { OnErr result (self.new ≡ self.old) }
+    {
+        Ok(self.slots.push(slot)?)
+    }
+
+    /// Adds an entry, in as little memory as it can be held.
     fn push(&mut self, alloc: Global, entry: &[u8; 128]) -> Result<(), AllocError>
         ensures added { OnOk result (self.new ≡ self.old ++ entry.now) }
         ensures kept { OnErr result (self.new ≡ self.old) }
     {
-        let slot = Slot::of(alloc, entry)?;
-        Ok(self.slots.push(slot)?)
+        if is_short(entry) {
+            return self.add(Slot::Packed(shorten(entry)));
+        }
+        let bytes = Vec::from_slice(alloc, entry)?;
+        self.add(Slot::Whole(bytes))
     }
 
     /// Adds the entries that have these bytes.
@@ -268,7 +323,7 @@ impl PackedEntries {
         let before = self.slots.len();
         for k in 0..bytes.len() / ENTRY_LEN {
             let entry = entry_in(bytes, k);
-            match self.push(alloc, &entry) {
+            match self.push(alloc, entry) {
                 Ok(()) => {}
                 Err(_) => {
                     self.slots.truncate(before);
