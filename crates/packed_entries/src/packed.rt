@@ -69,7 +69,6 @@ fn widened(characters: u8x16) -> (u8x16, u8x16)
 }
 
 /// The bytes of an entry of which most are zero.
-#[inline(always)]
 fn spell(short: &Short) -> [u8; 128]
     ensures { result ≡ block 128 (spelled short.now) 0 }
 {
@@ -178,7 +177,6 @@ fn front(bytes: &[u8]) -> [u8; 128]
 }
 
 /// The bytes of one of several entries.
-#[inline(always)]
 fn entry_in(bytes: &[u8], k: usize) -> &[u8; 128]
     requires { 128 * k + 128 ≤ length bytes.now }
     ensures { result.now ≡ take 128 (drop (128 * k) bytes.now) }
@@ -200,7 +198,7 @@ fn head_number(short: &Short, at: usize) -> u32
 impl Slot {
     ghost use Rattle.cfb_bytes.specs.Bytes.{u32_at};
     ghost use Rattle.packed_entries.specs.Packed.{entry_of};
-    ghost use Rattle.std.specs.Prelude.{◌+◌, ◌≡◌, ◌≤◌, IfOk};
+    ghost use Rattle.std.specs.Prelude.{◌+◌, ◌≡◌, ◌≤◌};
 
     /// The number in four of its bytes. Those that links have are read where they are kept.
     fn number(&self, at: usize) -> u32
@@ -216,7 +214,6 @@ impl Slot {
     }
 
     /// Its bytes.
-    #[inline(always)]
     fn bytes(&self) -> [u8; 128]
         ensures { result ≡ entry_of self.now }
     {
@@ -292,7 +289,6 @@ impl PackedEntries {
     }
 
     /// Adds an entry in the form in which it is held.
-    #[inline(always)]
     fn add(&mut self, slot: Slot) -> Result<(), AllocError>
         ensures added { OnOk result (self.new ≡ self.old ++ entry_of slot) }
         ensures kept { OnErr result (self.new ≡ self.old) }
