@@ -8,6 +8,7 @@ ghost use Rattle.std.specs.Prelude.{[], ◌*◌, ◌++◌, ◌≡◌, ◌∷◌,
 ghost use Rattle.storage_tree.specs.View.{seen, view};
 ghost use Rattle.storage_tree.specs.Whole.{IsTree, IsWhole};
 ghost use Rattle.stream_seeking.specs.Tables.{read_by};
+ghost use Rattle.tree_seeking.specs.Pairs.{pairs_of};
 
 use cfb_names::key::Key;
 use cfb_names::name::{Name, key};
@@ -19,25 +20,27 @@ use storage_tree::storage::{Node, Storage};
 use stream_seeking::fault::SeekFault;
 use stream_seeking::tables::{Tables, read_place};
 
-/// Puts a child behind those so far, under the key of its name.
-fn push_child(
-    pairs: &mut Vec<(Key, (Name, Node))>,
-    name: Name,
-    node: Node,
-) -> Result<(), AllocError>
-    ensures { OnOk result (pairs.new.items ≡ pairs.old.items ++ (key name, (name, node)) ∷ []) }
+/// Puts a node behind those so far.
+fn push_node(nodes: &mut Vec<Node>, node: Node) -> Result<(), AllocError>
+    ensures { OnOk result (nodes.new.items ≡ nodes.old.items ++ node ∷ []) }
 {
-    Ok(pairs.push((key(&name), (name, node)))?)
+    Ok(nodes.push(node)?)
 }
 
-/// The map of children whose keys ascend, made at once.
+/// The map of the children that parts and their nodes are, made at once where their keys ascend. A child is made as it is
+/// asked for, so that only the row which the map is made of holds children.
 fn map_of(
     alloc: Global,
-    pairs: Vec<(Key, (Name, Node))>,
+    parts: &[(Name, Part)],
+    nodes: Vec<Node>,
 ) -> Result<BTreeMap<Key, (Name, Node)>, AllocError>
-    ensures { IfOk result (λ map. IsStrictlySortedBy key_cmp (keys_of pairs.items) → map.entries ≡ pairs.items) }
+    ensures { IfOk result (λ map. IsStrictlySortedBy key_cmp (keys_of (pairs_of parts.now nodes.items)) → map.entries ≡ pairs_of parts.now nodes.items) }
 {
-    pairs.into_iter().collect(alloc)
+    nodes
+        .into_iter()
+        .zip(parts)
+        .map(|(node, part)| (key(&part.0), (part.0.copy(), node)))
+        .collect(alloc)
 }
 
 /// The storage that an outline shows of a file with these tables, its streams read one after another.
@@ -52,15 +55,15 @@ pub(crate) fn storage_at<S: Source>(
     ensures shown { IfOk result (λ s. (a : List ℕ) → S.bytes source.old ≡ Some a → length a ≡ tables.now.len → (depth : ℕ) → IsTree depth (shown (read_by a tables.now) outline.now) → view s ≡ shown (read_by a tables.now) outline.now) }
     ensures kept { S.bytes source.new ≡ S.bytes source.old }
 {
-    let mut pairs = Vec::with_capacity(alloc, outline.parts.len())?;
+    let mut nodes = Vec::with_capacity(alloc, outline.parts.len())?;
     for part in &outline.parts {
         let node = node_at(alloc, source, tables, &part.1)?;
-        push_child(&mut pairs, part.0.copy(), node)?;
+        push_node(&mut nodes, node)?;
     }
     Ok(Storage {
         class: outline.class,
         state: outline.state,
-        children: map_of(alloc, pairs)?,
+        children: map_of(alloc, &outline.parts, nodes)?,
     })
 }
 

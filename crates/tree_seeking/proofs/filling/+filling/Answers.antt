@@ -1,5 +1,5 @@
-use Rattle.std.proofs.Common.{◌≡◌, ◌+◌, ◌++◌, ◌∙◌, ◌∷◌, [], ℕ, List, ap, drop, get_or, rules, subst, sym}
-use Rattle.std.proofs.lemmas.List.{drop_all, drop_more}
+use Rattle.std.proofs.Common.{◌≡◌, ◌+◌, ◌++◌, ◌∙◌, ◌∷◌, [], ℕ, List, ap, drop, get_or, length, rules, subst, sym}
+use Rattle.std.proofs.lemmas.List.{drop_all, drop_more, length-append}
 use Rattle.std.specs.List.Sorted.{IsStrictlySortedBy}
 use Rattle.std.specs.Map.{keys_of}
 use Rattle.cfb_names.specs.Names.{key, key_cmp}
@@ -16,6 +16,8 @@ use Rattle.file_outline.proofs.Outlines.{shown-nested, shown-out}
 use Rattle.file_outline.proofs.Placed.{trees_whole, whole_inner}
 use Rattle.file_outline.proofs.Sorted.{children-push, keys-children, trees_sorted}
 use Rattle.stream_seeking.specs.Tables.{read_by}
+use Rattle.tree_seeking.proofs.Pairs.{pairs-push}
+use Rattle.tree_seeking.specs.Pairs.{pairs_of}
 use Rattle.tree_seeking.proofs.filling.+filling.Goals as goal
 
 pub node_at-returns-in_ok-inner-in-Storage-clause-shown : goal.node_at-returns-in_ok-inner-in-Storage-clause-shown
@@ -33,7 +35,8 @@ storage_at-loop-part-preserved g t c = record {
       let items = c.deref-part-items.result.now in
       let i : ℕ = c.loop-part.part-index in
       let p = c.part-item.result in
-      let cs : Children = children c.loop-part.pairs.items in
+      let nodes = c.loop-part.nodes.items in
+      let cs : Children = children (pairs_of items nodes) in
       let ds : Children = shown_parts content (drop (i + 1) items) in
       let s : Seen = shown_part content p.1 in
       let x : Node = c.in_ok-node.node in
@@ -43,12 +46,13 @@ storage_at-loop-part-preserved g t c = record {
       ap (λ xs. followed cs (shown_parts content xs)) (sym cut) ∙ c.loop-part.invariant.shown a known len depth h in
       let trees : AreTrees depth (followed cs (child (key p.0) (p.0, s) ds)) = subst (AreTrees depth) (sym now) h in
       let node : seen x ≡ s = c.in_ok-node.ensures.shown a (c.loop-part.invariant.kept ∙ known) len depth (trees_whole depth cs (key p.0) p.0 s ds trees) in
-      let added : c.push_child.new.pairs.items ≡ c.loop-part.pairs.items ++ (key p.0, (p.0, x)) ∷ [] =
-      c.in_ok-push_child.ensures ∙ ap (λ (n : List ℕ). c.loop-part.pairs.items ++ (key n, (n, x)) ∷ []) c.copy.ensures in
+      let added : pairs_of items c.push_node.new.nodes.items ≡ pairs_of items nodes ++ (key p.0, (p.0, x)) ∷ [] =
+      ap (pairs_of items) c.in_ok-push_node.ensures ∙ pairs-push items (drop (i + 1) items) nodes p x (ap (λ k. drop k items) c.loop-part.invariant.count ∙ cut) in
       ap (λ es. followed (children es) ds) added
-      ∙ children-push c.loop-part.pairs.items (key p.0) p.0 x ds
+      ∙ children-push (pairs_of items nodes) (key p.0) p.0 x ds
       ∙ ap (λ (y : Seen). followed cs (child (key p.0) (p.0, y) ds)) node
       ∙ now;
+  count = ap length c.in_ok-push_node.ensures ∙ length-append c.loop-part.nodes.items (c.in_ok-node.node ∷ []) ∙ ap (λ k. k + 1) c.loop-part.invariant.count;
   kept = c.node_at.ensures.kept ∙ c.loop-part.invariant.kept;
 }
 
@@ -58,7 +62,8 @@ storage_at-returns-clause-shown g t c = λ a known len depth h.
     let o = c.args.outline.now in
     let items = c.deref-part-items.result.now in
     let i : ℕ = c.loop-part.part-index in
-    let pairs = c.loop-part.pairs.items in
+    let nodes = c.loop-part.nodes.items in
+    let pairs = pairs_of items nodes in
     let cs : Children = children pairs in
     let out : shown content o ≡ tree o.class o.state (shown_parts content o.parts.items) = shown-out content o in
     let same : items ≡ o.parts.items = c.deref-part-items.ensures.value in
@@ -68,7 +73,9 @@ storage_at-returns-clause-shown g t c = λ a known len depth h.
     sym (followed-none cs) ∙ ap (λ xs. followed cs (shown_parts content xs)) (sym done) ∙ c.loop-part.invariant.shown a known len depth trees in
     let up : IsStrictlySortedBy key_cmp (keys_of pairs) =
     subst (IsStrictlySortedBy key_cmp) (keys-children pairs) (trees_sorted depth cs (subst (AreTrees depth) (sym all) trees)) in
+    let given : c.deref.result.now ≡ items = c.deref.ensures.value ∙ sym same in
+    let up-given : IsStrictlySortedBy key_cmp (keys_of (pairs_of c.deref.result.now nodes)) = subst (λ xs. IsStrictlySortedBy key_cmp (keys_of (pairs_of xs nodes))) (sym given) up in
     view-roll o.class o.state c.in_ok-map_of.field-0
-    ∙ ap (λ es. tree o.class o.state (children es)) (c.in_ok-map_of.ensures up)
+    ∙ ap (λ es. tree o.class o.state (children es)) (c.in_ok-map_of.ensures up-given ∙ ap (λ xs. pairs_of xs nodes) given)
     ∙ ap (tree o.class o.state) (all ∙ ap (shown_parts content) same)
     ∙ sym out
