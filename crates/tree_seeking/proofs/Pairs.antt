@@ -1,5 +1,6 @@
 -- One more node is one more child.
-use Rattle.std.proofs.Common.{◌≡◌, ◌++◌, ◌∷◌, [], ℕ, List, ap, drop, length, rules, suc, zero}
+use Rattle.std.proofs.Common.{◌≡◌, ◌++◌, ◌∷◌, [], ℕ, List, ap, drop, length, map, refl, rules, suc, zero}
+use Rattle.std.specs.List.{zip}
 use Rattle.cfb_names.specs.Names.{key}
 use Rattle.file_outline.specs.declared.outline.Part.{Part}
 use Rattle.storage_nodes.specs.declared.storage.Node.{Node}
@@ -16,3 +17,13 @@ pairs-push (q ∷ parts) rest [] p x is =
     let same : q ≡ p = search (rules, is) in
     ap (λ (r : List ℕ × Part). (key r.0, (r.0, x)) ∷ []) same
 pairs-push (q ∷ parts) rest (n ∷ nodes) p x is = ap (λ es. pair_of (n, q) ∷ es) (pairs-push parts rest nodes p x (search (rules, is)))
+
+abbrev pub child_of : (List ℕ × Part) × Node → List ℕ × (List ℕ × Node)
+child_of p = (key p.0.0, (p.0.0, p.1))
+
+-- and parts with their nodes are the same children as nodes with their parts
+pub swapped : (parts : List (List ℕ × Part)) (nodes : List Node) → map child_of (zip parts nodes) ≡ pairs_of parts nodes
+swapped [] [] = refl
+swapped [] (n ∷ nodes) = refl
+swapped (p ∷ parts) [] = refl
+swapped (p ∷ parts) (n ∷ nodes) = ap (λ es. pair_of (n, p) ∷ es) (swapped parts nodes)

@@ -36,10 +36,10 @@ fn map_of(
 ) -> Result<BTreeMap<Key, (Name, Node)>, AllocError>
     ensures { IfOk result (λ map. IsStrictlySortedBy key_cmp (keys_of (pairs_of parts.now nodes.items)) → map.entries ≡ pairs_of parts.now nodes.items) }
 {
-    nodes
-        .into_iter()
-        .zip(parts)
-        .map(|(node, part)| (key(&part.0), (part.0.copy(), node)))
+    parts
+        .iter()
+        .zip(nodes)
+        .map(|(part, node)| (key(&part.0), (part.0.copy(), node)))
         .collect(alloc)
 }
 
