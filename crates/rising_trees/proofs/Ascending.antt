@@ -12,6 +12,7 @@ use Rattle.std.specs.Ordering.{eq_by_cmp, is_eq, is_lt, match_ordering, ordering
 use Rattle.std.specs.declared.cmp.Ordering.{Ordering}
 use Rattle.std.specs.declared.cmp.Ordering.TheVariants.{Less, Equal, Greater}
 use Rattle.std.proofs.lemmas.Cmp.{eq_by_cmp_equiv}
+use Rattle.std.proofs.lemmas.List.{map-append}
 use Rattle.std.proofs.lemmas.Map.Keys.{IsDistinct-from_sorted, sorted_head, sorted_tail}
 use Rattle.std.proofs.lemmas.Map.Lookups.{exact_bytes}
 use Rattle.std.proofs.lemmas.Map.Made.{update_all_none}
@@ -21,30 +22,34 @@ use Rattle.storage_nodes.specs.declared.storage.Node.TheVariants.{Stream}
 use Rattle.storage_tree.specs.Change.{change, inner}
 use Rattle.storage_tree.specs.Tree.{tree}
 use Rattle.rising_trees.specs.Below.{AreBelow}
+use Rattle.rising_trees.specs.Row.{entries_of, entry_of}
 use Rattle.storage_tree.specs.View.{children, view}
 use Rattle.storage_tree.specs.Whole.{IsTree}
 use Rattle.storage_tree.specs.declared.storage.Edit.TheVariants.{Add}
 use Rattle.storage_tree.proofs.Entries.{Entries, add-new, seen-stream, view-roll}
 use Rattle.storage_tree.proofs.Wholes.{change_keeps}
 
+abbrev Row : Type 0
+Row = List (List ℕ × List ℕ)
+
 -- a key above the last one is above all
-pub above-last : (es : Entries) (last : List ℕ × (List ℕ × Node)) (k : List ℕ) → IsStrictlySortedBy key_cmp (keys_of es) → slice_get es (length es - 1) ≡ Some last
-    → key_cmp last.0 k ≡ Less → AreBelow k (keys_of es)
+pub above-last : (row : Row) (last : List ℕ × List ℕ) (k : List ℕ) → IsStrictlySortedBy key_cmp (keys_of (entries_of row)) → slice_get row (length row - 1) ≡ Some last
+    → key_cmp (key last.0) k ≡ Less → AreBelow k (keys_of (entries_of row))
 above-last [] last k up is h = tt
-above-last (e ∷ []) last k up is h =
-    let same : e ≡ last = search (rules, is) in
-    (ap (λ (x : List ℕ × (List ℕ × Node)). key_cmp x.0 k) same ∙ h, tt)
-above-last (e ∷ next ∷ es) last k up is h =
-    let rest : AreBelow k (keys_of (next ∷ es)) = above-last (next ∷ es) last k (sorted_tail key_cmp e.0 (keys_of (next ∷ es)) up) (search (rules, is)) h in
-    (nat_list_cmp_total.trans e.0 next.0 k (sorted_head key_cmp e.0 (keys_of (next ∷ es)) up).0 rest.0, rest)
+above-last (s ∷ []) last k up is h =
+    let same : s ≡ last = search (rules, is) in
+    (ap (λ (x : List ℕ × List ℕ). key_cmp (key x.0) k) same ∙ h, tt)
+above-last (s ∷ next ∷ row) last k up is h =
+    let rest : AreBelow k (keys_of (entries_of (next ∷ row))) = above-last (next ∷ row) last k (sorted_tail key_cmp (key s.0) (keys_of (entries_of (next ∷ row))) up) (search (rules, is)) h in
+    (nat_list_cmp_total.trans (key s.0) (key next.0) k (sorted_head key_cmp (key s.0) (keys_of (entries_of (next ∷ row))) up).0 rest.0, rest)
 
 -- and where it is above all, it is above the last one
-pub last-below : (es : Entries) (last : List ℕ × (List ℕ × Node)) (k : List ℕ) → slice_get es (length es - 1) ≡ Some last → AreBelow k (keys_of es) → key_cmp last.0 k ≡ Less
+pub last-below : (row : Row) (last : List ℕ × List ℕ) (k : List ℕ) → slice_get row (length row - 1) ≡ Some last → AreBelow k (keys_of (entries_of row)) → key_cmp (key last.0) k ≡ Less
 last-below [] last k is h = absurd (search (rules, is))
-last-below (e ∷ []) last k is h =
-    let same : e ≡ last = search (rules, is) in
-    ap (λ (x : List ℕ × (List ℕ × Node)). key_cmp x.0 k) (sym same) ∙ h.0
-last-below (e ∷ next ∷ es) last k is h = last-below (next ∷ es) last k (search (rules, is)) h.1
+last-below (s ∷ []) last k is h =
+    let same : s ≡ last = search (rules, is) in
+    ap (λ (x : List ℕ × List ℕ). key_cmp (key x.0) k) (sym same) ∙ h.0
+last-below (s ∷ next ∷ row) last k is h = last-below (next ∷ row) last k (search (rules, is)) h.1
 
 pub lesser : (o : Ordering) → is_lt o ≡ true → o ≡ Less
 lesser Less h = refl
@@ -89,34 +94,35 @@ whole-behind class state es name new valid h whole =
     valid tt whole (made-behind class state es name new h)
 
 -- what a stream that is pushed behind all others leaves
-module _ (class : List ℕ) (state : ℕ) (es es' : Entries) (k name n new : List ℕ) (is : k ≡ key name) (copied : n ≡ name) (h : AreBelow k (keys_of es)) (pushed : es' ≡ es ++ (k, (n, Stream new)) ∷ []) where
-  below : AreBelow (key name) (keys_of es)
-  below = subst (λ q. AreBelow q (keys_of es)) is h
+module _ (class : List ℕ) (state : ℕ) (row row' : Row) (k name n new : List ℕ) (is : k ≡ key name) (copied : n ≡ name) (h : AreBelow k (keys_of (entries_of row)))
+    (pushed : row' ≡ row ++ (n, new) ∷ []) where
+  below : AreBelow (key name) (keys_of (entries_of row))
+  below = subst (λ q. AreBelow q (keys_of (entries_of row))) is h
 
-  left : es' ≡ es ++ (key name, (name, Stream new)) ∷ []
-  left = pushed ∙ ap (λ q. es ++ (q, (n, Stream new)) ∷ []) is ∙ ap (λ (m : List ℕ). es ++ (key name, (m, Stream new)) ∷ []) copied
+  left : entries_of row' ≡ entries_of row ++ (key name, (name, Stream new)) ∷ []
+  left = ap entries_of pushed ∙ ap (λ (m : List ℕ). entries_of (row ++ (m, new) ∷ [])) copied ∙ map-append entry_of row ((name, new) ∷ [])
 
-  pub left-ascending : IsStrictlySortedBy key_cmp (keys_of es) → IsStrictlySortedBy key_cmp (keys_of es')
-  left-ascending up = subst (λ xs. IsStrictlySortedBy key_cmp (keys_of xs)) (sym left) (ascend es (key name) (name, Stream new) up below)
+  pub left-ascending : IsStrictlySortedBy key_cmp (keys_of (entries_of row)) → IsStrictlySortedBy key_cmp (keys_of (entries_of row'))
+  left-ascending up = subst (λ xs. IsStrictlySortedBy key_cmp (keys_of xs)) (sym left) (ascend (entries_of row) (key name) (name, Stream new) up below)
 
-  pub left-whole : IsName name → IsTree 32 (tree class state (children es)) → IsTree 32 (tree class state (children es'))
-  left-whole valid whole = subst (λ xs. IsTree 32 (tree class state (children xs))) (sym left) (whole-behind class state es name new valid below whole)
+  pub left-whole : IsName name → IsTree 32 (tree class state (children (entries_of row))) → IsTree 32 (tree class state (children (entries_of row')))
+  left-whole valid whole = subst (λ xs. IsTree 32 (tree class state (children xs))) (sym left) (whole-behind class state (entries_of row) name new valid below whole)
 
-  pub left-made : change (Add new) (name ∷ []) (inner (tree class state (children es))) ≡ Ok (inner (tree class state (children es')))
-  left-made = made-behind class state es name new below ∙ ap (λ xs. Ok (inner (tree class state (children xs)))) (sym left)
+  pub left-made : change (Add new) (name ∷ []) (inner (tree class state (children (entries_of row)))) ≡ Ok (inner (tree class state (children (entries_of row'))))
+  left-made = made-behind class state (entries_of row) name new below ∙ ap (λ xs. Ok (inner (tree class state (children xs)))) (sym left)
 
 -- a push may fail
-pub either : (P : Entries → Type 0) (b : Bool) (es more es' : Entries) → es' ≡ (if b then more else es) → P es → P more → P es'
-either P true es more es' is p q = subst P (sym is) q
-either P false es more es' is p q = subst P (sym is) p
+pub either : (P : Entries → Type 0) (b : Bool) (row more row' : Row) → row' ≡ (if b then more else row) → P (entries_of row) → P (entries_of more) → P (entries_of row')
+either P true row more row' is p q = subst (λ r. P (entries_of r)) (sym is) q
+either P false row more row' is p q = subst (λ r. P (entries_of r)) (sym is) p
 
 -- none of them
-pub none-ascending : (es : Entries) → es ≡ [] → IsStrictlySortedBy key_cmp (keys_of es)
+pub none-ascending : (row : Row) → row ≡ [] → IsStrictlySortedBy key_cmp (keys_of (entries_of row))
 unfolding IsStrictlySortedBy
-none-ascending es is = subst (λ xs. IsStrictlySortedBy key_cmp (keys_of xs)) (sym is) tt
+none-ascending row is = subst (λ r. IsStrictlySortedBy key_cmp (keys_of (entries_of r))) (sym is) tt
 
-pub none-whole : (class : List ℕ) (state : ℕ) (es : Entries) → es ≡ [] → IsTree 32 (tree class state (children es))
-none-whole class state es is = subst (λ xs. IsTree 32 (tree class state (children xs))) (sym is) tt
+pub none-whole : (class : List ℕ) (state : ℕ) (row : Row) → row ≡ [] → IsTree 32 (tree class state (children (entries_of row)))
+none-whole class state row is = subst (λ r. IsTree 32 (tree class state (children (entries_of r)))) (sym is) tt
 
 -- the root whose children they are
 pub rolled : (class : List ℕ) (state : ℕ) (m : BTreeMap (List ℕ) (List ℕ × Node)) (es : Entries) → m.entries ≡ es

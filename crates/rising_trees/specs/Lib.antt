@@ -1,2 +1,3 @@
 pub mod Below
 pub mod Rising
+pub mod Row

@@ -7,6 +7,7 @@ ghost use Rattle.std.specs.Map.{keys_of};
 ghost use Rattle.std.specs.Prelude.{◌≡◌, ◌↔◌, [], IfOk, IsTrue};
 ghost use Rattle.storage_tree.specs.Tree.{none, tree};
 ghost use Rattle.rising_trees.specs.Below.{AreBelow};
+ghost use Rattle.rising_trees.specs.Row.{entries_of};
 ghost use Rattle.storage_tree.specs.View.{children};
 ghost use Rattle.storage_tree.specs.Whole.{IsTree};
 
@@ -20,14 +21,15 @@ use stored_values::bytes::Bytes;
 use stored_values::class_id::ClassId;
 
 /// A tree whose root has streams alone, each made behind all others. They wait in a row and are made into the root's
-/// children at once, which takes less time than one after another.
+/// children at once, which takes less time than one after another. The row has their names and bytes alone, half of what
+/// a child takes with its key.
 #[derive(Drop)]
 pub struct Rising {
     class: ClassId,
     state: u32,
-    streams: Vec<(Key, (Name, Node))>,
-    ghost ascending: { IsStrictlySortedBy key_cmp (keys_of streams.items) } by { Prim.hlevel props },
-    ghost whole: { ∥ IsTree 32 (tree class state (children streams.items)) ∥₁ },
+    streams: Vec<(Name, Bytes)>,
+    ghost ascending: { IsStrictlySortedBy key_cmp (keys_of (entries_of streams.items)) } by { Prim.hlevel props },
+    ghost whole: { ∥ IsTree 32 (tree class state (children (entries_of streams.items))) ∥₁ },
 }
 
 impl Rising {
@@ -55,8 +57,7 @@ impl Rising {
         if !is_behind(&self.streams, &key) {
             return Ok(false);
         }
-        let stream = (name.copy(), Node::Stream(bytes));
-        self.streams.push((key, stream))?;
+        self.streams.push((name.copy(), bytes))?;
         Ok(true)
     }
 
@@ -91,23 +92,27 @@ fn key_of(name: &Name) -> Key
     key(name)
 }
 
-/// Whether a key is greater than all of these, which ascend.
-fn is_behind(streams: &[(Key, (Name, Node))], key: &Key) -> bool
-    requires { IsStrictlySortedBy key_cmp (keys_of streams.now) }
-    ensures { IsTrue result ↔ AreBelow key.now (keys_of streams.now) }
+/// Whether a key is greater than those of all these streams' names, which ascend.
+fn is_behind(streams: &[(Name, Bytes)], key: &Key) -> bool
+    requires { IsStrictlySortedBy key_cmp (keys_of (entries_of streams.now)) }
+    ensures { IsTrue result ↔ AreBelow key.now (keys_of (entries_of streams.now)) }
 {
     match streams.last() {
-        Some(last) => last.0.cmp(key).is_lt(),
+        Some(last) => key_of(&last.0).cmp(key).is_lt(),
         None => true,
     }
 }
 
-/// The map of children whose keys ascend, made at once.
+/// The map of the children that these streams become, made at once where their keys ascend. A child is made as it is asked
+/// for, so that only the row which the map is made of holds children.
 fn map_of(
     alloc: Global,
-    streams: Vec<(Key, (Name, Node))>,
+    streams: Vec<(Name, Bytes)>,
 ) -> Result<BTreeMap<Key, (Name, Node)>, AllocError>
-    ensures { IfOk result (λ map. IsStrictlySortedBy key_cmp (keys_of streams.items) → map.entries ≡ streams.items) }
+    ensures { IfOk result (λ map. IsStrictlySortedBy key_cmp (keys_of (entries_of streams.items)) → map.entries ≡ entries_of streams.items) }
 {
-    streams.into_iter().collect(alloc)
+    streams
+        .into_iter()
+        .map(|(name, bytes)| (key(&name), (name, Node::Stream(bytes))))
+        .collect(alloc)
 }
