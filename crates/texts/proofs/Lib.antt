@@ -1,4 +1,5 @@
 pub mod Asking
+pub mod Blocks
 mod Digits
 pub mod Hex
 pub mod Inputs

@@ -4,6 +4,7 @@ ghost use Rattle.std.specs.Option.{option_map};
 ghost use Rattle.std.specs.Prelude.{◌≡◌, ◌<◌, ◌+◌, ◌*◌, ◌/◌, None, Some, false, length, true, vec_items, is_some, IfErr, IfOk, IfSome, IsSome};
 ghost use Rattle.texts.specs.Words.{byte_read, byte_told, content_read, hex_digit, hex_read, is_hidden, is_visible, lower_digit, pair_value, weighed};
 
+use crate::hex_blocks::fill_blocks;
 use std::alloc::{AllocError, Global};
 
 /// The value of a lower-case hexadecimal digit.
@@ -126,10 +127,12 @@ fn fill_hex(buffer: &mut [u8], word: &[u8]) -> bool
     ensures found { result ≡ true → hex_read word.now ≡ Some buffer.new }
     ensures none { result ≡ false → hex_read word.now ≡ None }
 {
-    let mut filled = 0;
+    let Some(mut filled) = fill_blocks(buffer, word) else {
+        return false;
+    };
     // The bits of all bytes together, 256 or more once there was no digit. A way out of the loop at each byte takes longer.
     let mut bits: u16 = 0;
-    let mut rest = word;
+    let mut rest = &word[2 * filled..];
     while let [high, low, more @ ..] = rest {
         let told = told_pair(*high, *low);
         bits |= told;

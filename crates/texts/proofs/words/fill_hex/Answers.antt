@@ -1,16 +1,21 @@
-use Rattle.std.proofs.Common.{◌≡◌, ◌+◌, ◌-◌, ◌<◌, ◌%◌, ◌++◌, ℕ, List, length, take, drop, ◌∙◌, ap, arith}
-use Rattle.std.proofs.lemmas.List.{length-drop, length-set, length-take, take_more_set}
+use Rattle.std.proofs.Common.{◌≡◌, ◌+◌, ◌-◌, ◌*◌, ◌<◌, ◌%◌, ◌++◌, ℕ, List, length, take, drop, ◌∙◌, ap, arith}
+use Rattle.std.proofs.lemmas.List.{length-drop, length-set, length-take, take_more_set, take_rest}
 use Rattle.std.specs.Option.{option_map}
-use Rattle.texts.proofs.Hex.{behind-nothing, hex_ill, hex_well}
+use Rattle.texts.proofs.Hex.{hex_ill, hex_well}
 use Rattle.texts.specs.Words.{hex_read}
 use Rattle.texts.proofs.words.fill_hex.Goals as goal
 
 pub loop-rest-init : goal.loop-rest-init
-loop-rest-init c = record {
-  room = omega (arith, c.requires);
-  well = λ few. behind-nothing (hex_read c.args.word.now);
-  ill = λ many. absurd (omega (arith, many));
-}
+loop-rest-init c =
+    let word : List ℕ = c.args.word.now in
+    let n : ℕ = c.in-Some.filled in
+    let more : List ℕ = take (length word - 2 * n) (drop (2 * n) word) in
+    let behind : length more ≡ length word - 2 * n = omega (arith, length-take (length word - 2 * n) (drop (2 * n) word), length-drop (2 * n) word) in
+    record {
+      room = omega (arith, c.requires, behind, c.in-Some.ensures.within, c.in-Some.ensures.long);
+      well = λ few. ap (λ r. option_map (λ bs. take n c.fill_blocks.new.buffer ++ bs) (hex_read r)) (take_rest word (2 * n)) ∙ c.in-Some.ensures.read;
+      ill = λ many. absurd (omega (arith, many));
+    }
 
 pub loop-rest-preserved : goal.loop-rest-preserved
 loop-rest-preserved c =
