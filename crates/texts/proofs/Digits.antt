@@ -1,6 +1,7 @@
--- The tables of hexadecimal digits.
-use Rattle.std.proofs.Common.{◌≡◌, ◌<◌, ◌≤◌, ◌+◌, ◌*◌, ◌^◌, ◌++◌, ℕ, zero, suc, List, [], ◌∷◌, replicate, Bool, true, false, cond, nat_eq, nat_lt, bit_or, Option, Some, None, slice_index_or, refl, ap, sym, ◌∙◌, arith, lt-ltb, rules}
+-- The tables of bytes: the hexadecimal digits, and what names don't have.
+use Rattle.std.proofs.Common.{◌≡◌, ◌<◌, ◌≤◌, ◌+◌, ◌*◌, ◌^◌, ◌++◌, ℕ, zero, suc, List, [], ◌∷◌, replicate, Bool, true, false, not, cond, nat_eq, nat_lt, bit_or, Option, Some, None, slice_index_or, refl, ap, sym, ◌∙◌, arith, lt-ltb, rules}
 use Rattle.std.proofs.lemmas.Nat.{le_or_l, le_or_r, or_shifted}
+use Rattle.texts.specs.Paths.{is_special}
 use Rattle.texts.specs.Words.{byte_told, hex_digit, pair_value, weighed}
 
 abbrev firsts : List ℕ
@@ -27,7 +28,27 @@ every-is p (suc n) d h l = elim (p n) as (λ b. p n ≡ b → cond b (every p n)
   | false ↦ λ q g. absurd (search rules)
 ] refl h
 
+abbrev bool_eq : Bool → Bool → Bool
+bool_eq true b = b
+bool_eq false b = not b
+
+same : (a b : Bool) → bool_eq a b ≡ true → a ≡ b
+same true true h = refl
+same true false h = absurd (cc h)
+same false true h = absurd (cc h)
+same false false h = refl
+
+abbrev specials : List Bool
+specials =
+    replicate 34 true ++ replicate 13 false ++ (true ∷ []) ++ replicate 10 false ++ (true ∷ []) ++ replicate 33 false ++ (true ∷ []) ++ replicate 34 false
+    ++ replicate 129 true
+
 -- what the tables tell of a byte
+pub in_specials : (d n : ℕ) → d < 256 → n ≡ d → slice_index_or specials n false ≡ is_special d
+in_specials d n l at =
+    ap (λ k. slice_index_or specials k false) at
+    ∙ same (slice_index_or specials d false) (is_special d) (every-is (λ x. bool_eq (slice_index_or specials x false) (is_special x)) 256 d refl l)
+
 pub in_firsts : (d n : ℕ) → d < 256 → n ≡ d → slice_index_or firsts n 0 ≡ weighed 16 (hex_digit d)
 in_firsts d n l at =
     ap (λ k. slice_index_or firsts k 0) at

@@ -9,3 +9,4 @@ pub mod Plain
 pub mod Numbers
 pub mod Pushed
 pub mod Spelled
+mod Starts

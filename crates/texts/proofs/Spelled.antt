@@ -38,7 +38,7 @@ byte-read c rest other =
     (elim (is_hidden c) as (λ b. is_hidden c ≡ b → name_read ((cond b (92 ∷ digit_text (c / 16) ∷ digit_text (c % 16) ∷ []) (c ∷ [])) ++ rest) ≡ onto (Some c) (name_read rest))
     [ true ↦ λ h. hidden-read c rest h | false ↦ λ h. shown-read c rest h other ] refl)
 
-neither : (a b : Bool) → (a || b) ≡ false → (a ≡ false) × (b ≡ false)
+pub neither : (a b : Bool) → (a || b) ≡ false → (a ≡ false) × (b ≡ false)
 neither true b h = absurd (search rules)
 neither false b h = (refl, h)
 

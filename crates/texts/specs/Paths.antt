@@ -1,8 +1,8 @@
 -- How paths are spelled.
-use Rattle.std.specs.Prelude.{◌||◌, ℕ, Bool, Option, Some, None, List, [], ◌∷◌, Result, Ok, Err, nat_eq, if◌then◌else◌, map}
+use Rattle.std.specs.Prelude.{◌||◌, ℕ, Bool, Option, Some, None, List, [], ◌∷◌, Result, Ok, Err, nat_eq, nat_le, if◌then◌else◌, map}
 use Rattle.std.specs.List.{join_with_byte}
 use Rattle.std.specs.Option.{option_map}
-use Rattle.cfb_names.specs.Names.{name_read as taken_name}
+use Rattle.cfb_names.specs.Names.{is_forbidden, name_read as taken_name}
 use Rattle.cfb_names.specs.declared.fault.DirFault.{DirFault}
 use Rattle.text_words.specs.Words.{pieces}
 use Rattle.texts.specs.Words.{is_hidden, lower_digit, pair_value, onto}
@@ -16,7 +16,11 @@ path_text names = join_with_byte 47 (map name_text names)
 abbrev pub is_escaped : ℕ → Bool
 is_escaped c = is_hidden c || nat_eq c 92
 
--- what does
+-- what can't stand in a name that spells itself: a hidden byte, one that no name has, or one past ASCII
+abbrev pub is_special : ℕ → Bool
+is_special c = is_hidden c || is_forbidden c || nat_le 128 c
+
+-- what does stand for itself
 abbrev pub plain_byte : ℕ → Option ℕ
 plain_byte c = if is_hidden c || nat_eq c 92 then None else Some c
 

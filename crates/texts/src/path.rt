@@ -1,15 +1,17 @@
 //! Paths of names, as they are spelled in texts.
 
 ghost use Rattle.cfb_names.specs.Names.{name_read as taken_name};
+ghost use Rattle.cfb_names.specs.View.{units_of};
 ghost use Rattle.std.specs.List.{list_any};
 ghost use Rattle.std.specs.Option.{option_map};
-ghost use Rattle.std.specs.Prelude.{◌≡◌, ◌<◌, ◌++◌, [], ◌∷◌, Some, None, Ok, Err, true, false, length, is_some, IfErr, IfNone, IfOk, IfSome, IsOk, IsSome, MatchResult, OnOk};
-ghost use Rattle.texts.specs.Paths.{is_escaped, name_read, names_read, path_read};
+ghost use Rattle.std.specs.Prelude.{◌≡◌, ◌<◌, ◌≤◌, ◌++◌, [], ◌∷◌, Some, None, Ok, Err, true, false, length, is_some, IfErr, IfNone, IfOk, IfSome, IsOk, IsSome, MatchResult, OnOk, take};
+ghost use Rattle.text_words.specs.Words.{words};
+ghost use Rattle.texts.specs.Paths.{is_escaped, is_special, name_read, names_read, path_read};
 ghost use Rattle.texts.specs.Words.{onto};
 
 use crate::words::{is_hidden, lower_digit};
 use cfb_names::fault::DirFault;
-use cfb_names::name::{Name, named};
+use cfb_names::name::{LONGEST, Name, named};
 use std::alloc::{AllocError, Global};
 use std::marker::Model;
 use text_words::words::Pieces;
@@ -225,4 +227,70 @@ fn read_name(buffer: &mut Vec<u8>, part: &[u8]) -> Result<bool, AllocError>
         }
     }
     Ok(true)
+}
+
+/// Of each byte whether it can't stand in a name that spells itself: hidden, one of `\ / : !`, or past 127.
+const SPECIAL: [bool; 256] = [
+    true, true, true, true, true, true, true, true, true, true, true, true, true, true, true, true,
+    true, true, true, true, true, true, true, true, true, true, true, true, true, true, true, true,
+    true, true, false, false, false, false, false, false, false, false, false, false, false, false,
+    false, true, false, false, false, false, false, false, false, false, false, false, true, false,
+    false, false, false, false, false, false, false, false, false, false, false, false, false,
+    false, false, false, false, false, false, false, false, false, false, false, false, false,
+    false, false, false, false, false, false, true, false, false, false, false, false, false,
+    false, false, false, false, false, false, false, false, false, false, false, false, false,
+    false, false, false, false, false, false, false, false, false, false, false, false, false,
+    false, false, true, true, true, true, true, true, true, true, true, true, true, true, true,
+    true, true, true, true, true, true, true, true, true, true, true, true, true, true, true, true,
+    true, true, true, true, true, true, true, true, true, true, true, true, true, true, true, true,
+    true, true, true, true, true, true, true, true, true, true, true, true, true, true, true, true,
+    true, true, true, true, true, true, true, true, true, true, true, true, true, true, true, true,
+    true, true, true, true, true, true, true, true, true, true, true, true, true, true, true, true,
+    true, true, true, true, true, true, true, true, true, true, true, true, true, true, true, true,
+    true, true, true, true, true, true, true, true, true, true, true, true, true, true, true, true,
+    true, true, true, true,
+];
+
+/// Whether a byte can't stand in a name that spells itself.
+fn is_special(byte: u8) -> bool
+    ensures { result ≡ is_special byte }
+{
+    SPECIAL[usize::from(byte)]
+}
+
+/// How many bytes at the beginning of a text may stand in a name that spells itself.
+fn plain_len(text: &[u8]) -> usize
+    ensures within { result ≤ length text.now }
+    ensures plain { list_any is_special (take result text.now) ≡ false }
+{
+    let mut len = 0;
+    while len < text.len() && !is_special(text[len]) {
+        len += 1;
+    }
+    len
+}
+
+/// How a name lies in its bytes: its length, its characters, and zeros.
+fn units_of(name: &[u8]) -> [u8; 32]
+    requires { length name.now ≤ 31 }
+    ensures { result ≡ units_of name.now }
+{
+    let mut units = [0; 32];
+    units[0] = name.len() as u8;
+    units[1..=name.len()].copy_from_slice(name);
+    units
+}
+
+/// The name of a text's first word, where this spells a path of one name and each of its bytes stands for itself, and what
+/// stands behind the space behind it. None says nothing of the text.
+pub fn plain_start(text: &[u8]) -> Option<(Name, &[u8])>
+    ensures cut { IfSome result (λ r. words text.now ≡ r.0 ∷ words r.1.now) }
+    ensures read { IfSome result (λ r. path_read r.0 ≡ Some (Ok (r.0 ∷ []))) }
+{
+    let len = plain_len(text);
+    if len == 0 || len > LONGEST || len >= text.len() || text[len] != b' ' {
+        return None;
+    }
+    let name = Name::from_units(units_of(&text[..len]));
+    Some((name, &text[len + 1..]))
 }
