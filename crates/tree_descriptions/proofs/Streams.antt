@@ -1,12 +1,14 @@
 -- Streams that are asked for.
-use Rattle.std.proofs.Common.{◌≡◌, ◌⊎◌, ℕ, Bool, List, Option, Some, None, Result, [], ◌∷◌, ◌∙◌, ap, arith, cond, inl, inr, is_some, nat_eq, sym, true, false, refl, rules}
+use Rattle.std.proofs.Common.{◌≡◌, ◌⊎◌, ◌++◌, take, drop, ℕ, Bool, List, Option, Some, None, Ok, Result, [], ◌∷◌, ◌∙◌, ap, arith, cond, inl, inr, is_some, nat_eq, not, sym, true, false, refl, rules}
+use Rattle.std.proofs.lemmas.List.{take-append-drop}
 use Rattle.std.specs.Prelude.{IsSome}
 use Rattle.cfb_names.specs.declared.fault.DirFault.{DirFault}
 use Rattle.texts.specs.Paths.{path_read}
 use Rattle.std.specs.List.{onto_first}
 use Rattle.text_words.specs.Words.{words}
 use Rattle.texts.specs.Words.{content_read, hex_digit, hex_read, onto, pair_value}
-use Rattle.tree_descriptions.specs.Commands.{stream_of, stream_read}
+use Rattle.tree_descriptions.specs.Commands.{line_read, stream_of, stream_read}
+use Rattle.tree_descriptions.specs.declared.command.Command.TheVariants.{Stream}
 
 -- none, where the path is spelled wrongly, or where the bytes are
 pub no_path : (path : Option (Result (List (List ℕ)) DirFault)) (bytes : Option (List ℕ)) → false ≡ is_some path → None ≡ stream_of path bytes
@@ -89,7 +91,7 @@ no-stream path bytes is = ap (stream_of path) is ∙ without path where
   without (Some names) = refl
 
 -- what a path and the text behind it ask for
-uncut : (path bytes : List ℕ) → stream_read (path ∷ words bytes) ≡ stream_of (path_read path) (content_read bytes)
+pub uncut : (path bytes : List ℕ) → stream_read (path ∷ words bytes) ≡ stream_of (path_read path) (content_read bytes)
 uncut path bytes = elim (one-or-more bytes) [
   | inl is ↦ ap (λ ws. stream_read (path ∷ ws)) is
   | inr more ↦ ap (λ ws. stream_read (path ∷ ws)) more.4 ∙ sym (no-stream (path_read path) (content_read bytes) (no-content bytes more.0))
@@ -98,3 +100,25 @@ uncut path bytes = elim (one-or-more bytes) [
 pub asked : (rest path bytes : List ℕ) (behind : List (List ℕ)) → words rest ≡ path ∷ behind → behind ≡ words bytes
     → stream_of (path_read path) (content_read bytes) ≡ stream_read (words rest)
 asked rest path bytes behind is are = sym (ap stream_read (is ∙ ap (λ ws. path ∷ ws) are) ∙ uncut path bytes)
+
+pub alike : (same : Bool) → false ≡ not same → same ≡ true
+alike true h = refl
+alike false h = absurd (cc h)
+
+-- a line that begins with the name of its command
+pub named : (line head rest : List ℕ) → head ≡ take 7 line → rest ≡ drop 7 line → head ≡ 115 ∷ 116 ∷ 114 ∷ 101 ∷ 97 ∷ 109 ∷ 32 ∷ []
+    → line ≡ 115 ∷ 116 ∷ 114 ∷ 101 ∷ 97 ∷ 109 ∷ 32 ∷ rest
+named line head rest front back is =
+    sym (take-append-drop 7 line)
+    ∙ ap (λ h. h ++ drop 7 line) (sym front ∙ is)
+    ∙ ap (λ r. 115 ∷ 116 ∷ 114 ∷ 101 ∷ 97 ∷ 109 ∷ 32 ∷ r) (sym back)
+
+-- the stream that a line of a plain name asks for
+pub told : (line : List ℕ) (rest name behind bytes : List ℕ) → line ≡ 115 ∷ 116 ∷ 114 ∷ 101 ∷ 97 ∷ 109 ∷ 32 ∷ rest → words rest ≡ name ∷ words behind
+    → path_read name ≡ Some (Ok (name ∷ [])) → content_read behind ≡ Some bytes → line_read line ≡ Some (Stream (Ok (name ∷ [])) bytes)
+told line rest name behind bytes is cut read content =
+    ap line_read is
+    ∙ ap stream_read cut
+    ∙ uncut name behind
+    ∙ ap (λ p. stream_of p (content_read behind)) read
+    ∙ ap (stream_of (Some (Ok (name ∷ [])))) content

@@ -1,15 +1,17 @@
 //! Commands of a description.
 
 ghost use Rattle.tree_descriptions.specs.Commands.{fill_read, line_read, storage_read, stream_of, stream_read};
-ghost use Rattle.std.specs.Prelude.{◌≡◌, IfErr, IfOk, IsSome, is_some};
+ghost use Rattle.tree_descriptions.specs.declared.command.Command.TheVariants.{Stream};
+ghost use Rattle.std.specs.Prelude.{◌≡◌, ◌∷◌, [], IfErr, IfOk, IfSome, IsSome, Ok, Some, is_some};
 ghost use Rattle.texts.specs.Paths.{path_read};
 ghost use Rattle.text_words.specs.Words.{words};
 ghost use Rattle.texts.specs.Words.{content_read};
 
+use cfb_names::name::Name;
 use std::alloc::{AllocError, Global};
 use stored_values::bytes::Bytes;
 use text_words::words::{Pieces, cut, number};
-use texts::path::{Path, is_path};
+use texts::path::{Path, is_path, plain_start};
 use texts::words::{byte, content, is_content};
 
 /// What a line of a description asks for.
@@ -134,5 +136,25 @@ fn fill(alloc: Global, mut words: Pieces<'_>) -> Result<Option<Command>, AllocEr
     match Path::parse(alloc, path)? {
         Some(path) => Ok(Some(Command::Fill(path, count, value))),
         None => Ok(None),
+    }
+}
+
+/// The stream that a line asks for, where its path is one name that spells itself. None says nothing of the line.
+pub fn plain_stream(alloc: Global, line: &[u8]) -> Option<(Name, Bytes)>
+    ensures { IfSome result (λ s. line_read line.now ≡ Some (Stream (Ok (s.0 ∷ [])) s.1)) }
+{
+    let (command, rest) = line.split_first_chunk::<7>()?;
+    if command.as_slice() != b"stream ".as_slice() {
+        return None;
+    }
+    let Some((name, behind)) = plain_start(rest) else {
+        return None;
+    };
+    let Ok(Some(bytes)) = content(alloc, behind) else {
+        return None;
+    };
+    match Bytes::from_vec(alloc, bytes) {
+        Ok(bytes) => Some((name, bytes)),
+        Err(_) => None,
     }
 }

@@ -1,13 +1,13 @@
 //! The streams that a description begins with.
 
-ghost use Rattle.std.specs.Prelude.{◌≡◌, Ok, Some, replicate};
+ghost use Rattle.std.specs.Prelude.{◌≡◌, ◌∷◌, [], Ok, Some, replicate};
 ghost use Rattle.storage_tree.specs.Kept.{Kept};
 ghost use Rattle.tree_descriptions.specs.Commands.{line_read};
 ghost use Rattle.tree_descriptions.specs.Description.{carried_out, nothing, stream_made};
 ghost use Rattle.tree_descriptions.specs.Run.{IsRun, Takes, TakesLine};
 
 use crate::building::filled;
-use crate::command::Command;
+use crate::command::{Command, plain_stream};
 use cfb_names::name::Name;
 use file_model::limit::MOST_BYTES;
 use rising_trees::rising::Rising;
@@ -39,6 +39,10 @@ impl Run {
     pub fn take_line(&mut self, alloc: Global, line: &[u8]) -> bool
         ensures { TakesLine result line.now self.old self.new }
     {
+        // Nearly all lines are so, and no path in memory of its own is made of them.
+        if let Some((name, bytes)) = plain_stream(alloc, line) {
+            return self.take_named(&name, bytes);
+        }
         match Command::parse(alloc, line) {
             Ok(Some(command)) => self.take(alloc, command),
             Ok(None) => false,
@@ -80,6 +84,14 @@ impl Run {
         let [name] = path else {
             return false;
         };
+        self.take_named(name, bytes)
+    }
+
+    /// Makes the next stream of the root, of this name and these bytes, where it comes behind all others, and says whether it
+    /// did.
+    fn take_named(&mut self, name: &Name, bytes: Bytes) -> bool
+        ensures { Takes result (λ k. stream_made bytes k (name.now ∷ [])) self.old self.new }
+    {
         let spent = self.spent.saturating_add(bytes.len() as u64);
         if spent > MOST_BYTES {
             return false;

@@ -1,9 +1,10 @@
-use Rattle.std.proofs.Common.{arith}
-use Rattle.tree_descriptions.proofs.Runs.{put-behind}
+use Rattle.std.proofs.Common.{List, ℕ, sym, subst}
+use Rattle.tree_descriptions.specs.Description.{stream_made}
+use Rattle.tree_descriptions.specs.Run.{Takes}
+use Rattle.tree_descriptions.proofs.Runs.{one}
 use Rattle.tree_descriptions.proofs.run.Run.take_stream.Goals as goal
 
 pub returns : goal.returns
-returns c = λ k run.
-    put-behind c.args.self.now (record { tree = c.make_last.new.self; spent = c.saturating_add-spent.result }) k c.args.path.now c.name-item.result c.args.bytes
-    c.name-item.is c.in-len1.len_at_least c.in-len1.len_below run (rw c.if-not-made.false at c.in-Ok.ensures).1 (omega (arith, c.saturating_add-spent.ensures, c.len.ensures))
-    c.if-spent-gt-MOST_BYTES.false
+returns c =
+    subst (λ (p : List (List ℕ)). Takes c.take_named.result (λ k. stream_made c.args.bytes k p) c.args.self.now c.take_named.new.self)
+    (sym (one c.args.path.now c.name-item.result c.name-item.is c.in-len1.len_at_least c.in-len1.len_below)) c.take_named.ensures
