@@ -182,6 +182,28 @@ pub fn content(alloc: Global, word: &[u8]) -> Result<Option<Vec<u8>>, AllocError
     }
 }
 
+/// Leaves the bytes of a stream in a buffer, in the place of its own, where a word spells them, hexadecimal or `-` for none,
+/// and says whether it does. Where it doesn't, the buffer has any bytes.
+///
+/// Refused: want of memory, which may be told of any word.
+pub fn read_content(buffer: &mut Vec<u8>, word: &[u8]) -> Result<bool, AllocError>
+    ensures found { IfOk result (λ is. is ≡ true → content_read word.now ≡ Some buffer.new.items) }
+    ensures none { IfOk result (λ is. is ≡ false → content_read word.now ≡ None) }
+{
+    match word {
+        [] => Ok(false),
+        [b'-'] => {
+            buffer.clear();
+            Ok(true)
+        }
+        _ => {
+            // What was there before is written over.
+            buffer.resize(word.len() / 2, 0)?;
+            Ok(fill_hex(buffer.as_mut_slice(), word))
+        }
+    }
+}
+
 /// Whether a byte ends a word or can't be seen.
 pub fn is_hidden(byte: u8) -> bool
     ensures { result ≡ is_hidden byte }
