@@ -101,6 +101,7 @@ impl Run {
         true
     }
 
+    /// Carries out a command, if it makes the next stream, and says whether it did.
     fn take(&mut self, alloc: Global, command: Command) -> bool
         ensures { Takes result (carried_out command) self.old self.new }
     {
@@ -117,6 +118,7 @@ impl Run {
         }
     }
 
+    /// Makes the next stream, of so many equal bytes at a path, if that is in the root, and says whether it did.
     fn take_filled(&mut self, alloc: Global, path: &[Name], count: u32, byte: u8) -> bool
         ensures { Takes result (λ k. stream_made (replicate count byte) k path.now) self.old self.new }
     {
@@ -129,6 +131,7 @@ impl Run {
         }
     }
 
+    /// Makes the next stream, of these bytes at a path, if that is in the root, and says whether it did.
     fn take_stream(&mut self, alloc: Global, path: &[Name], bytes: Bytes) -> bool
         ensures { Takes result (λ k. stream_made bytes k path.now) self.old self.new }
     {
@@ -148,7 +151,7 @@ impl Run {
         true
     }
 
-    /// How many bytes the streams have with so many more, where a file has no fewer.
+    /// How many bytes the streams have with so many more, where these are no more than a file has.
     fn spent_with(&self, len: usize) -> Option<u64>
         ensures { IfSome result (λ spent. (spent ≤ self.now.spent + len) × (spent ≤ room)) }
     {
