@@ -1,5 +1,5 @@
 -- Streams that are made behind all others.
-use Rattle.std.proofs.Common.{◌++◌, ◌&&◌, ◌≡◌, ◌-◌, ℕ, List, [], ◌∷◌, T, refl, sym, ◌∙◌, ap, subst, Bool, true, false, cond, if◌then◌else◌, Some, None, Ok, length, rules}
+use Rattle.std.proofs.Common.{◌++◌, ◌&&◌, ◌≡◌, ◌-◌, ℕ, List, [], ◌∷◌, T, refl, sym, ◌∙◌, ap, subst, Bool, true, false, cond, Some, None, Result, Ok, Err, OnOk, OnErr, length, map, rules}
 use Rattle.std.specs.List.{AllByRecursion}
 use Rattle.std.specs.List.Sorted.{IsStrictlySortedBy}
 use Rattle.std.specs.Map.{keys_of, lookup}
@@ -33,23 +33,23 @@ abbrev Row : Type 0
 Row = List (List ℕ × List ℕ)
 
 -- a key above the last one is above all
-pub above-last : (row : Row) (last : List ℕ × List ℕ) (k : List ℕ) → IsStrictlySortedBy key_cmp (keys_of (entries_of row)) → slice_get row (length row - 1) ≡ Some last
-    → key_cmp (key last.0) k ≡ Less → AreBelow k (keys_of (entries_of row))
+pub above-last : (names : List (List ℕ)) (last k : List ℕ) → IsStrictlySortedBy key_cmp (map key names) → slice_get names (length names - 1) ≡ Some last → key_cmp (key last) k ≡ Less
+    → AreBelow k (map key names)
 above-last [] last k up is h = tt
 above-last (s ∷ []) last k up is h =
     let same : s ≡ last = search (rules, is) in
-    (ap (λ (x : List ℕ × List ℕ). key_cmp (key x.0) k) same ∙ h, tt)
-above-last (s ∷ next ∷ row) last k up is h =
-    let rest : AreBelow k (keys_of (entries_of (next ∷ row))) = above-last (next ∷ row) last k (sorted_tail key_cmp (key s.0) (keys_of (entries_of (next ∷ row))) up) (search (rules, is)) h in
-    (nat_list_cmp_total.trans (key s.0) (key next.0) k (sorted_head key_cmp (key s.0) (keys_of (entries_of (next ∷ row))) up).0 rest.0, rest)
+    (ap (λ (x : List ℕ). key_cmp (key x) k) same ∙ h, tt)
+above-last (s ∷ next ∷ names) last k up is h =
+    let rest : AreBelow k (map key (next ∷ names)) = above-last (next ∷ names) last k (sorted_tail key_cmp (key s) (map key (next ∷ names)) up) (search (rules, is)) h in
+    (nat_list_cmp_total.trans (key s) (key next) k (sorted_head key_cmp (key s) (map key (next ∷ names)) up).0 rest.0, rest)
 
 -- and where it is above all, it is above the last one
-pub last-below : (row : Row) (last : List ℕ × List ℕ) (k : List ℕ) → slice_get row (length row - 1) ≡ Some last → AreBelow k (keys_of (entries_of row)) → key_cmp (key last.0) k ≡ Less
+pub last-below : (names : List (List ℕ)) (last k : List ℕ) → slice_get names (length names - 1) ≡ Some last → AreBelow k (map key names) → key_cmp (key last) k ≡ Less
 last-below [] last k is h = absurd (search (rules, is))
 last-below (s ∷ []) last k is h =
     let same : s ≡ last = search (rules, is) in
-    ap (λ (x : List ℕ × List ℕ). key_cmp (key x.0) k) (sym same) ∙ h.0
-last-below (s ∷ next ∷ row) last k is h = last-below (next ∷ row) last k (search (rules, is)) h.1
+    ap (λ (x : List ℕ). key_cmp (key x) k) (sym same) ∙ h.0
+last-below (s ∷ next ∷ names) last k is h = last-below (next ∷ names) last k (search (rules, is)) h.1
 
 pub lesser : (o : Ordering) → is_lt o ≡ true → o ≡ Less
 lesser Less h = refl
@@ -93,28 +93,27 @@ whole-behind class state es name new valid h whole =
     change_keeps (Add new) (name ∷ []) (inner (tree class state (children es))) (inner (tree class state (children (es ++ (key name, (name, Stream new)) ∷ [])))) 33
     valid tt whole (made-behind class state es name new h)
 
--- what a stream that is pushed behind all others leaves
-module _ (class : List ℕ) (state : ℕ) (row row' : Row) (k name n new : List ℕ) (is : k ≡ key name) (copied : n ≡ name) (h : AreBelow k (keys_of (entries_of row)))
-    (pushed : row' ≡ row ++ (n, new) ∷ []) where
-  below : AreBelow (key name) (keys_of (entries_of row))
-  below = subst (λ q. AreBelow q (keys_of (entries_of row))) is h
+-- what a stream that is pushed behind all others, or refused, leaves
+module _ (class : List ℕ) (state : ℕ) (row row' : Row) (name n new : List ℕ) (copied : n ≡ name) (h : AreBelow (key name) (keys_of (entries_of row))) where
+  longer : row' ≡ row ++ (n, new) ∷ [] → entries_of row' ≡ entries_of row ++ (key name, (name, Stream new)) ∷ []
+  longer pushed = ap entries_of pushed ∙ ap (λ (m : List ℕ). entries_of (row ++ (m, new) ∷ [])) copied ∙ map-append entry_of row ((name, new) ∷ [])
 
-  left : entries_of row' ≡ entries_of row ++ (key name, (name, Stream new)) ∷ []
-  left = ap entries_of pushed ∙ ap (λ (m : List ℕ). entries_of (row ++ (m, new) ∷ [])) copied ∙ map-append entry_of row ((name, new) ∷ [])
+  either : {A E : Type 0} (P : Entries → Type 0) (r : Result A E) → OnOk r (row' ≡ row ++ (n, new) ∷ []) → OnErr r (row' ≡ row) → P (entries_of row) → P (entries_of row ++ (key name, (name, Stream new)) ∷ [])
+      → P (entries_of row')
+  either P (Ok x) added kept p q = subst P (sym (longer added)) q
+  either P (Err e) added kept p q = subst (λ r. P (entries_of r)) (sym kept) p
 
-  pub left-ascending : IsStrictlySortedBy key_cmp (keys_of (entries_of row)) → IsStrictlySortedBy key_cmp (keys_of (entries_of row'))
-  left-ascending up = subst (λ xs. IsStrictlySortedBy key_cmp (keys_of xs)) (sym left) (ascend (entries_of row) (key name) (name, Stream new) up below)
+  pub left-ascending : {A E : Type 0} (r : Result A E) → OnOk r (row' ≡ row ++ (n, new) ∷ []) → OnErr r (row' ≡ row) → IsStrictlySortedBy key_cmp (keys_of (entries_of row))
+      → IsStrictlySortedBy key_cmp (keys_of (entries_of row'))
+  left-ascending r added kept up = either (λ es. IsStrictlySortedBy key_cmp (keys_of es)) r added kept up (ascend (entries_of row) (key name) (name, Stream new) up h)
 
-  pub left-whole : IsName name → IsTree 32 (tree class state (children (entries_of row))) → IsTree 32 (tree class state (children (entries_of row')))
-  left-whole valid whole = subst (λ xs. IsTree 32 (tree class state (children xs))) (sym left) (whole-behind class state (entries_of row) name new valid below whole)
+  pub left-whole : {A E : Type 0} (r : Result A E) → OnOk r (row' ≡ row ++ (n, new) ∷ []) → OnErr r (row' ≡ row) → IsName name → IsTree 32 (tree class state (children (entries_of row)))
+      → IsTree 32 (tree class state (children (entries_of row')))
+  left-whole r added kept valid whole =
+      either (λ es. IsTree 32 (tree class state (children es))) r added kept whole (whole-behind class state (entries_of row) name new valid h whole)
 
-  pub left-made : change (Add new) (name ∷ []) (inner (tree class state (children (entries_of row)))) ≡ Ok (inner (tree class state (children (entries_of row'))))
-  left-made = made-behind class state (entries_of row) name new below ∙ ap (λ xs. Ok (inner (tree class state (children xs)))) (sym left)
-
--- a push may fail
-pub either : (P : Entries → Type 0) (b : Bool) (row more row' : Row) → row' ≡ (if b then more else row) → P (entries_of row) → P (entries_of more) → P (entries_of row')
-either P true row more row' is p q = subst (λ r. P (entries_of r)) (sym is) q
-either P false row more row' is p q = subst (λ r. P (entries_of r)) (sym is) p
+  pub left-made : row' ≡ row ++ (n, new) ∷ [] → change (Add new) (name ∷ []) (inner (tree class state (children (entries_of row)))) ≡ Ok (inner (tree class state (children (entries_of row'))))
+  left-made pushed = made-behind class state (entries_of row) name new h ∙ ap (λ xs. Ok (inner (tree class state (children xs)))) (sym (longer pushed))
 
 -- none of them
 pub none-ascending : (row : Row) → row ≡ [] → IsStrictlySortedBy key_cmp (keys_of (entries_of row))
@@ -160,3 +159,6 @@ made_sorted xs m h up =
     ∙ h.0 q
     ∙ update_all_none (eq_by_cmp_equiv nat_list_cmp_total) (eq_by_cmp key_cmp) (λ x y. refl) xs q (IsDistinct-from_sorted key_cmp (keys_of xs) up)
     ∙ sym (found q xs))
+
+pub made_row : (row row' : Row) → row ≡ row' → (m : BTreeMap (List ℕ) (List ℕ × Node)) → IsFromIterResult key_cmp (entries_of row) m → IsStrictlySortedBy key_cmp (keys_of (entries_of row')) → m.entries ≡ entries_of row'
+made_row row row' is m h up = subst (λ r. IsStrictlySortedBy key_cmp (keys_of (entries_of r)) → m.entries ≡ entries_of r) is (made_sorted (entries_of row) m h) up

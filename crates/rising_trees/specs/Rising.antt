@@ -12,11 +12,11 @@ use Rattle.rising_trees.specs.declared.rising.Rising.{Rising}
 
 -- the tree, outside transactions
 abbrev pub rising : Rising → Kept
-rising r = record { now = tree r.class r.state (children (entries_of r.streams.items)); saved = [] }
+rising r = record { now = tree r.class r.state (children (entries_of r.streams)); saved = [] }
 
 -- What a call does that is to make a stream behind all others, and says whether it did: it does where its name comes
 -- behind theirs, and else, or where no memory is left, nothing changes.
 abbrev pub MakesLast : Result Bool AllocError → List ℕ → List ℕ → Rising → Rising → Type 0
-MakesLast (Ok true) name new old now = AreBelow (key name) (keys_of (entries_of old.streams.items)) × (added (name ∷ []) new (rising old) ≡ Ok (rising now))
-MakesLast (Ok false) name new old now = (AreBelow (key name) (keys_of (entries_of old.streams.items)) → ⊥) × (rising now ≡ rising old)
+MakesLast (Ok true) name new old now = AreBelow (key name) (keys_of (entries_of old.streams)) × (added (name ∷ []) new (rising old) ≡ Ok (rising now))
+MakesLast (Ok false) name new old now = (AreBelow (key name) (keys_of (entries_of old.streams)) → ⊥) × (rising now ≡ rising old)
 MakesLast (Err fault) name new old now = rising now ≡ rising old

@@ -2,3 +2,4 @@
 #![tactic(auto)]
 
 pub mod rising;
+pub mod row;

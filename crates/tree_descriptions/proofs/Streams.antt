@@ -8,7 +8,6 @@ use Rattle.std.specs.List.{onto_first}
 use Rattle.text_words.specs.Words.{words}
 use Rattle.texts.specs.Words.{content_read, hex_digit, hex_read, onto, pair_value}
 use Rattle.tree_descriptions.specs.Commands.{line_read, stream_of, stream_read}
-use Rattle.tree_descriptions.specs.declared.command.Command.TheVariants.{Stream}
 
 -- none, where the path is spelled wrongly, or where the bytes are
 pub no_path : (path : Option (Result (List (List ℕ)) DirFault)) (bytes : Option (List ℕ)) → false ≡ is_some path → None ≡ stream_of path bytes
@@ -91,7 +90,7 @@ no-stream path bytes is = ap (stream_of path) is ∙ without path where
   without (Some names) = refl
 
 -- what a path and the text behind it ask for
-pub uncut : (path bytes : List ℕ) → stream_read (path ∷ words bytes) ≡ stream_of (path_read path) (content_read bytes)
+uncut : (path bytes : List ℕ) → stream_read (path ∷ words bytes) ≡ stream_of (path_read path) (content_read bytes)
 uncut path bytes = elim (one-or-more bytes) [
   | inl is ↦ ap (λ ws. stream_read (path ∷ ws)) is
   | inr more ↦ ap (λ ws. stream_read (path ∷ ws)) more.4 ∙ sym (no-stream (path_read path) (content_read bytes) (no-content bytes more.0))
@@ -106,7 +105,7 @@ alike true h = refl
 alike false h = absurd (cc h)
 
 -- a line that begins with the name of its command
-pub named : (line head rest : List ℕ) → head ≡ take 7 line → rest ≡ drop 7 line → head ≡ 115 ∷ 116 ∷ 114 ∷ 101 ∷ 97 ∷ 109 ∷ 32 ∷ []
+named : (line head rest : List ℕ) → head ≡ take 7 line → rest ≡ drop 7 line → head ≡ 115 ∷ 116 ∷ 114 ∷ 101 ∷ 97 ∷ 109 ∷ 32 ∷ []
     → line ≡ 115 ∷ 116 ∷ 114 ∷ 101 ∷ 97 ∷ 109 ∷ 32 ∷ rest
 named line head rest front back is =
     sym (take-append-drop 7 line)
@@ -114,11 +113,10 @@ named line head rest front back is =
     ∙ ap (λ r. 115 ∷ 116 ∷ 114 ∷ 101 ∷ 97 ∷ 109 ∷ 32 ∷ r) (sym back)
 
 -- the stream that a line of a plain name asks for
-pub told : (line : List ℕ) (rest name behind bytes : List ℕ) → line ≡ 115 ∷ 116 ∷ 114 ∷ 101 ∷ 97 ∷ 109 ∷ 32 ∷ rest → words rest ≡ name ∷ words behind
-    → path_read name ≡ Some (Ok (name ∷ [])) → content_read behind ≡ Some bytes → line_read line ≡ Some (Stream (Ok (name ∷ [])) bytes)
-told line rest name behind bytes is cut read content =
-    ap line_read is
+pub told : (line head rest name behind : List ℕ) → head ≡ take 7 line → rest ≡ drop 7 line → head ≡ 115 ∷ 116 ∷ 114 ∷ 101 ∷ 97 ∷ 109 ∷ 32 ∷ [] → words rest ≡ name ∷ words behind
+    → path_read name ≡ Some (Ok (name ∷ [])) → line_read line ≡ stream_of (Some (Ok (name ∷ []))) (content_read behind)
+told line head rest name behind front back is cut read =
+    ap line_read (named line head rest front back is)
     ∙ ap stream_read cut
     ∙ uncut name behind
     ∙ ap (λ p. stream_of p (content_read behind)) read
-    ∙ ap (stream_of (Some (Ok (name ∷ [])))) content

@@ -47,7 +47,7 @@ impl Building {
     pub fn from_run(alloc: Global, run: Run) -> Result<Building, AllocError>
         ensures { IfOk result (λ building. (k : Kept) → IsRun run k → IsBuilt building k) }
     {
-        let Run { tree, spent } = run;
+        let (tree, spent) = run.into_parts();
         Ok(Building {
             tree: tree.into_tree(alloc)?,
             spent,

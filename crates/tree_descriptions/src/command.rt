@@ -1,7 +1,6 @@
 //! Commands of a description.
 
 ghost use Rattle.tree_descriptions.specs.Commands.{fill_read, line_read, storage_read, stream_of, stream_read};
-ghost use Rattle.tree_descriptions.specs.declared.command.Command.TheVariants.{Stream};
 ghost use Rattle.std.specs.Prelude.{◌≡◌, ◌∷◌, [], IfErr, IfOk, IfSome, IsSome, Ok, Some, is_some};
 ghost use Rattle.texts.specs.Paths.{path_read};
 ghost use Rattle.text_words.specs.Words.{words};
@@ -139,22 +138,17 @@ fn fill(alloc: Global, mut words: Pieces<'_>) -> Result<Option<Command>, AllocEr
     }
 }
 
-/// The stream that a line asks for, where its path is one name that spells itself. None says nothing of the line.
-pub fn plain_stream(alloc: Global, line: &[u8]) -> Option<(Name, Bytes)>
-    ensures { IfSome result (λ s. line_read line.now ≡ Some (Stream (Ok (s.0 ∷ [])) s.1)) }
+/// The name of the stream that a line asks for in the root, and the word that spells its bytes, where the name spells itself.
+/// None says nothing of the line.
+pub fn plain_stream(line: &[u8]) -> Option<(Name, &[u8])>
+    ensures { IfSome result (λ s. line_read line.now ≡ stream_of (Some (Ok (s.0 ∷ []))) (content_read s.1.now)) }
 {
     let (command, rest) = line.split_first_chunk::<7>()?;
     if command.as_slice() != b"stream ".as_slice() {
         return None;
     }
-    let Some((name, behind)) = plain_start(rest) else {
+    let Some((name, word)) = plain_start(rest) else {
         return None;
     };
-    let Ok(Some(bytes)) = content(alloc, behind) else {
-        return None;
-    };
-    match Bytes::from_vec(alloc, bytes) {
-        Ok(bytes) => Some((name, bytes)),
-        Err(_) => None,
-    }
+    Some((name, word))
 }

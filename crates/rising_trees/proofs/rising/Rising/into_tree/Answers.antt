@@ -8,4 +8,4 @@ use Rattle.rising_trees.proofs.rising.Rising.into_tree.Goals as goal
 pub returns : goal.returns
 returns c =
     let at : Tree → Kept = λ t. record { now = t; saved = [] } in
-    c.from_root.ensures ∙ ap at (rolled c.args.self.class c.args.self.state c.in_ok-children.children (entries_of c.args.self.streams.items) (c.in_ok-children.ensures c.args.self.ascending))
+    c.from_root.ensures ∙ ap at (rolled c.args.self.class c.args.self.state c.in_ok-children.children (entries_of c.args.self.streams) (c.in_ok-children.ensures c.args.self.ascending))
