@@ -2,7 +2,7 @@
 
 ghost use Rattle.tree_descriptions.specs.Commands.{fill_read, line_read, storage_read, stream_of, stream_read};
 ghost use Rattle.tree_descriptions.specs.declared.command.Command.TheVariants.{Stream};
-ghost use Rattle.std.specs.Prelude.{◌≡◌, ◌∷◌, [], IfErr, IfOk, IfSome, IsSome, Ok, Some, is_some};
+ghost use Rattle.std.specs.Prelude.{◌≡◌, ◌∷◌, ◌++◌, [], codes, IfErr, IfOk, IfSome, IsSome, Ok, Some, is_some};
 ghost use Rattle.texts.specs.Paths.{path_read};
 ghost use Rattle.text_words.specs.Words.{words};
 ghost use Rattle.texts.specs.Words.{content_read};
@@ -139,14 +139,22 @@ fn fill(alloc: Global, mut words: Pieces<'_>) -> Result<Option<Command>, AllocEr
     }
 }
 
+/// What stands behind `stream ` in a line that begins so.
+fn behind_stream(line: &[u8]) -> Option<&[u8]>
+    ensures { IfSome result (λ rest. line.now ≡ codes "stream " ++ rest.now) }
+{
+    // An `==` of slices takes ten times as long.
+    match line {
+        [b's', b't', b'r', b'e', b'a', b'm', b' ', rest @ ..] => Some(rest),
+        _ => None,
+    }
+}
+
 /// The stream that a line asks for, where its path is one name that spells itself. None says nothing of the line.
 pub fn plain_stream(alloc: Global, line: &[u8]) -> Option<(Name, Bytes)>
     ensures { IfSome result (λ s. line_read line.now ≡ Some (Stream (Ok (s.0 ∷ [])) s.1)) }
 {
-    let (command, rest) = line.split_first_chunk::<7>()?;
-    if command.as_slice() != b"stream ".as_slice() {
-        return None;
-    }
+    let rest = behind_stream(line)?;
     let Some((name, behind)) = plain_start(rest) else {
         return None;
     };
