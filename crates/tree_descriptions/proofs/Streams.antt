@@ -1,7 +1,6 @@
 -- Streams that are asked for.
-use Rattle.std.proofs.Common.{◌≡◌, ◌⊎◌, ◌++◌, take, drop, ℕ, Bool, List, Option, Some, None, Ok, Result, [], ◌∷◌, ◌∙◌, ap, arith, cond, inl, inr, is_some, nat_eq, not, sym, true, false, refl, rules}
-use Rattle.std.proofs.lemmas.List.{take-append-drop}
-use Rattle.std.specs.Prelude.{IsSome}
+use Rattle.std.proofs.Common.{◌≡◌, ◌⊎◌, ◌++◌, ℕ, Bool, List, Option, Some, None, Ok, Result, [], ◌∷◌, ◌∙◌, ap, arith, cond, inl, inr, is_some, nat_eq, sym, true, false, refl, rules}
+use Rattle.std.specs.Prelude.{IsSome, codes}
 use Rattle.cfb_names.specs.declared.fault.DirFault.{DirFault}
 use Rattle.texts.specs.Paths.{path_read}
 use Rattle.std.specs.List.{onto_first}
@@ -100,23 +99,11 @@ pub asked : (rest path bytes : List ℕ) (behind : List (List ℕ)) → words re
     → stream_of (path_read path) (content_read bytes) ≡ stream_read (words rest)
 asked rest path bytes behind is are = sym (ap stream_read (is ∙ ap (λ ws. path ∷ ws) are) ∙ uncut path bytes)
 
-pub alike : (same : Bool) → false ≡ not same → same ≡ true
-alike true h = refl
-alike false h = absurd (cc h)
-
--- a line that begins with the name of its command
-named : (line head rest : List ℕ) → head ≡ take 7 line → rest ≡ drop 7 line → head ≡ 115 ∷ 116 ∷ 114 ∷ 101 ∷ 97 ∷ 109 ∷ 32 ∷ []
-    → line ≡ 115 ∷ 116 ∷ 114 ∷ 101 ∷ 97 ∷ 109 ∷ 32 ∷ rest
-named line head rest front back is =
-    sym (take-append-drop 7 line)
-    ∙ ap (λ h. h ++ drop 7 line) (sym front ∙ is)
-    ∙ ap (λ r. 115 ∷ 116 ∷ 114 ∷ 101 ∷ 97 ∷ 109 ∷ 32 ∷ r) (sym back)
-
 -- the stream that a line of a plain name asks for
-pub told : (line head rest name behind : List ℕ) → head ≡ take 7 line → rest ≡ drop 7 line → head ≡ 115 ∷ 116 ∷ 114 ∷ 101 ∷ 97 ∷ 109 ∷ 32 ∷ [] → words rest ≡ name ∷ words behind
+pub told : (line rest name behind : List ℕ) → line ≡ codes "stream " ++ rest → words rest ≡ name ∷ words behind
     → path_read name ≡ Some (Ok (name ∷ [])) → line_read line ≡ stream_of (Some (Ok (name ∷ []))) (content_read behind)
-told line head rest name behind front back is cut read =
-    ap line_read (named line head rest front back is)
+told line rest name behind is cut read =
+    ap line_read is
     ∙ ap stream_read cut
     ∙ uncut name behind
     ∙ ap (λ p. stream_of p (content_read behind)) read

@@ -1,7 +1,7 @@
 //! Commands of a description.
 
 ghost use Rattle.tree_descriptions.specs.Commands.{fill_read, line_read, storage_read, stream_of, stream_read};
-ghost use Rattle.std.specs.Prelude.{◌≡◌, ◌∷◌, [], IfErr, IfOk, IfSome, IsSome, Ok, Some, is_some};
+ghost use Rattle.std.specs.Prelude.{◌≡◌, ◌∷◌, ◌++◌, [], codes, IfErr, IfOk, IfSome, IsSome, Ok, Some, is_some};
 ghost use Rattle.texts.specs.Paths.{path_read};
 ghost use Rattle.text_words.specs.Words.{words};
 ghost use Rattle.texts.specs.Words.{content_read};
@@ -138,15 +138,23 @@ fn fill(alloc: Global, mut words: Pieces<'_>) -> Result<Option<Command>, AllocEr
     }
 }
 
+/// What stands behind `stream ` in a line that begins so.
+fn behind_stream(line: &[u8]) -> Option<&[u8]>
+    ensures { IfSome result (λ rest. line.now ≡ codes "stream " ++ rest.now) }
+{
+    // An `==` of slices takes ten times as long.
+    match line {
+        [b's', b't', b'r', b'e', b'a', b'm', b' ', rest @ ..] => Some(rest),
+        _ => None,
+    }
+}
+
 /// The name of the stream that a line asks for in the root, and the word that spells its bytes, where the name spells itself.
 /// None says nothing of the line.
 pub fn plain_stream(line: &[u8]) -> Option<(Name, &[u8])>
     ensures { IfSome result (λ s. line_read line.now ≡ stream_of (Some (Ok (s.0 ∷ []))) (content_read s.1.now)) }
 {
-    let (command, rest) = line.split_first_chunk::<7>()?;
-    if command.as_slice() != b"stream ".as_slice() {
-        return None;
-    }
+    let rest = behind_stream(line)?;
     let Some((name, word)) = plain_start(rest) else {
         return None;
     };
