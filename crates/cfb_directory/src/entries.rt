@@ -5,10 +5,11 @@ ghost use Rattle.cfb_bytes.specs.Marks.{set_all};
 ghost use Rattle.cfb_bytes.specs.Bytes.{u16_at};
 ghost use Rattle.cfb_names.specs.Names.{IsName, is_forbidden};
 ghost use Rattle.cfb_directory.specs.Held.{held};
+ghost use Rattle.cfb_directory.specs.Streams.{IsStreamEntry};
 ghost use Rattle.cfb_directory.specs.Walk.{IsTaken, MayRefuseName, unmarked};
 ghost use Rattle.cfb_names.specs.declared.fault.DirFault.TheVariants.{BadEntry, NoMemory};
 ghost use Rattle.std.specs.List.{All};
-ghost use Rattle.std.specs.Prelude.{◌≡◌, ◌<◌, ◌≤◌, ◌*◌, ◌/◌, ◌-◌, ◌∷◌, ◌++◌, ◌≢◌, [], false, true, replicate, length, vec_capacity, vec_len, IfErr, IfOk, OnErr, OnOk};
+ghost use Rattle.std.specs.Prelude.{◌≡◌, ◌<◌, ◌≤◌, ◌*◌, ◌/◌, ◌-◌, ◌∷◌, ◌++◌, ◌≢◌, [], false, true, replicate, length, vec_capacity, vec_len, IfErr, IfOk, IfSome, OnErr, OnOk};
 
 use crate::held::Directory;
 use cfb_bytes::numbers::{read_u16, read_u32};
@@ -27,6 +28,14 @@ const ALLOWED: [u8; 128] = [
     98, 99, 100, 101, 102, 103, 104, 105, 106, 107, 108, 109, 110, 111, 112, 113, 114, 115, 116,
     117, 118, 119, 120, 121, 122, 123, 124, 125, 126, 127,
 ];
+
+/// What the entry of a stream says, lent as it is held. The size is in bytes.
+#[derive(Clone, Copy)]
+pub struct StreamEntry<'a> {
+    pub name: &'a Name,
+    pub first: u32,
+    pub size: u32,
+}
 
 /// The entries of a directory, of which some are marked.
 #[derive(Drop)]
@@ -406,6 +415,22 @@ impl<'a> Entries<'a> {
         ensures refused { IfErr result (MayRefuseEntry self.now.directory id) }
     {
         self.table.name(id)
+    }
+
+    /// The name of an entry below the root, as `name` tells it, where it was read as the entry was packed: of nearly all that are
+    /// packed, and of none that stands as in the file. Nothing is copied and nothing tested.
+    pub fn known_name(&self, id: u32) -> Option<&'a Name>
+        ensures read { IfSome result (λ name. IsNameOf id (entry_at self.now.directory id) name.now) }
+        ensures valid { IfSome result (λ name. IsName name.now) }
+    {
+        None
+    }
+
+    /// What the entry of a stream says, as `entry` tells it, where its name is known: of other entries, nothing.
+    pub fn stream(&self, id: u32) -> Option<StreamEntry<'a>>
+        ensures { IfSome result (IsStreamEntry self.now.directory id) }
+    {
+        None
     }
 
     /// The children of an entry: just those that links reach from its child, which it marks. A refusal marks none.
