@@ -16,7 +16,8 @@ use Rattle.cfb_bytes.specs.Bytes.{block, u32_at}
 use Rattle.packed_entries.specs.Packed.{IsShort, entry_of, evens, odds, spelled, unit}
 use Rattle.packed_entries.specs.declared.packed.Short.{Short}
 use Rattle.packed_entries.specs.declared.packed.Slot.{Slot}
-use Rattle.packed_entries.specs.declared.packed.Slot.TheVariants.{Packed, Whole}
+use Rattle.packed_entries.specs.declared.packed.Slot.TheVariants.{Named, Packed, Whole}
+use Rattle.packed_entries.specs.Named.{NamedValue, characters_of, laid_out, named_bytes}
 
 -- ---- characters
 pub length_units : (name : List ℕ) → length (flat_map unit name) ≡ 2 * length name
@@ -71,8 +72,13 @@ fronted bytes n is =
     let zeros : 128 - n ≡ 128 - length bytes = omega (arith, is) in
     (λ t. part t ++ drop-replicate n 128 0 t) ∙ ap (λ k. take 128 bytes ++ replicate k 0) zeros
 
+pub length_named : (n : NamedValue) → length (named_bytes n) ≡ 128
+unfolding named_bytes
+length_named n = length_block 128 (laid_out (characters_of n.name) n.head n.place) 0
+
 pub length_entry : (slot : Slot) → length (entry_of slot) ≡ 128
 length_entry (Packed s) = length_block 128 (spelled s) 0
+length_entry (Named n) = length_named n
 length_entry (Whole bytes) = length_block 128 bytes.items 0
 
 pub length_entries : (slots : List Slot) → length (flat_map entry_of slots) ≡ 128 * length slots
@@ -184,7 +190,7 @@ laid_from old new piece at n end room is =
     ∙ drop-append-add (take at old) (piece ++ drop n old) 0
 
 -- a list by its elements
-by_elements : (xs : List ℕ) (n : ℕ) → length xs ≡ n → xs ≡ pick_l 0 xs (range_with_len 0 n)
+pub by_elements : (xs : List ℕ) (n : ℕ) → length xs ≡ n → xs ≡ pick_l 0 xs (range_with_len 0 n)
 by_elements xs n long = sym (pick_l_whole 0 xs n long)
 
 -- sixteen characters, each with a zero behind it

@@ -1,1 +1,3 @@
+pub mod Allowed
 mod Held
+pub mod ReadNames

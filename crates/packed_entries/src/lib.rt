@@ -1,4 +1,6 @@
 //! The entries of a directory in less memory than they take in a file.
 #![tactic(auto)]
 
+pub mod named;
 pub mod packed;
+mod vectors;

@@ -1,11 +1,14 @@
 //! The entries of a directory in less memory than they take in a file.
 
 ghost use Rattle.cfb_bytes.specs.Bytes.{block, u32_at};
-ghost use Rattle.packed_entries.specs.Packed.{IsShort, evens, odds, spelled, unit};
+ghost use Rattle.packed_entries.specs.Named.{named_bytes, unit};
+ghost use Rattle.packed_entries.specs.Packed.{IsShort, entry_of, evens, odds, spelled};
 ghost use Rattle.std.specs.List.{flat_map};
 ghost use Rattle.std.specs.Prelude.{◌*◌, ◌+◌, ◌++◌, ◌≡◌, ◌≤◌, drop, length, replicate, take, true};
 
-use cfb_bytes::numbers::read_u32;
+use crate::named::{Named, name_of};
+use crate::vectors::is_zero;
+use cfb_bytes::numbers::{read_u16, read_u32};
 use std::alloc::{AllocError, Global};
 use std::marker::Model;
 use std::simd::prelude::*;
@@ -31,6 +34,8 @@ struct Short {
 enum Slot {
     /// One of which most bytes are zero.
     Packed(Short),
+    /// One whose name was read as well.
+    Named(Named),
     /// All bytes of another.
     Whole(Vec<u8>),
 }
@@ -130,14 +135,6 @@ fn either(a: u8x32, b: u8x32) -> u8x32
     a | b
 }
 
-/// Whether all bytes are zero.
-#[inline(always)]
-fn is_zero(bytes: u8x32) -> bool
-    ensures { result ≡ true → bytes ≡ replicate 32 0 }
-{
-    bytes.simd_ne(u8x32::splat(0)).to_bitmask() == 0
-}
-
 /// Whether all of an entry is zero that isn't kept of one which is held in less memory.
 #[inline(always)]
 fn is_short(entry: &[u8; 128]) -> bool
@@ -163,6 +160,28 @@ fn shorten(entry: &[u8; 128]) -> Short
         place: [
             entry[116], entry[117], entry[118], entry[119], entry[120], entry[121], entry[122],
         ],
+    }
+}
+
+/// What is kept of an entry whose name isn't read.
+fn unnamed(named: &Named) -> Short
+    ensures { block 128 (spelled result) 0 ≡ named_bytes named.now }
+{
+    let (name, head, place) = named.parts();
+    Short { name, head, place }
+}
+
+/// How an entry is held of which all else is zero.
+#[inline(always)]
+fn slot_of(entry: &[u8; 128]) -> Slot
+    requires { IsShort entry.now }
+    ensures { entry_of result ≡ entry.now }
+{
+    let (characters, _) = parted(entry);
+    let short = shorten(entry);
+    match name_of(characters, read_u16(&short.head, 0)) {
+        Some(name) => Slot::Named(Named::new(name, short.head, short.place)),
+        None => Slot::Packed(short),
     }
 }
 
@@ -219,6 +238,7 @@ impl Slot {
     {
         match self {
             Slot::Packed(short) => spell(short),
+            Slot::Named(named) => spell(&unnamed(named)),
             Slot::Whole(bytes) => front(bytes),
         }
     }
@@ -236,8 +256,9 @@ impl Model for PackedEntries {
 
 impl PackedEntries {
     ghost use Rattle.cfb_bytes.specs.Bytes.{block, u32_at};
+    ghost use Rattle.packed_entries.specs.Named.{named_bytes};
     ghost use Rattle.packed_entries.specs.Packed.{entry_of};
-    ghost use Rattle.std.specs.Prelude.{[], ◌*◌, ◌+◌, ◌++◌, ◌<◌, ◌≡◌, ◌≤◌, OnErr, OnOk, length, slice_index, ℕ};
+    ghost use Rattle.std.specs.Prelude.{[], ◌*◌, ◌+◌, ◌++◌, ◌<◌, ◌≡◌, ◌≤◌, IfSome, OnErr, OnOk, length, slice_index, ℕ};
 
     /// No entries.
     pub fn new(alloc: Global) -> PackedEntries
@@ -271,6 +292,17 @@ impl PackedEntries {
         self.slots[id].bytes()
     }
 
+    /// An entry whose name was read as it was added.
+    pub fn named(&self, id: usize) -> Option<&Named>
+        ensures there { IfSome result (λ _. 128 * id < length self.now) }
+        ensures bytes { IfSome result (λ n. named_bytes n.now ≡ block 128 self.now (128 * id)) }
+    {
+        match self.slots.get(id) {
+            Some(Slot::Named(named)) => Some(named),
+            _ => None,
+        }
+    }
+
     /// The number in four bytes of an entry.
     pub fn number(&self, id: usize, at: usize) -> u32
         requires there { 128 * id < length self.now }
@@ -302,7 +334,7 @@ impl PackedEntries {
         ensures kept { OnErr result (self.new ≡ self.old) }
     {
         if is_short(entry) {
-            return self.add(Slot::Packed(shorten(entry)));
+            return self.add(slot_of(entry));
         }
         let bytes = Vec::from_slice(alloc, entry)?;
         self.add(Slot::Whole(bytes))

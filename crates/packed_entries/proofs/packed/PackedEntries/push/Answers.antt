@@ -1,18 +1,12 @@
 use Rattle.std.proofs.Common.{◌++◌, ◌∙◌, ap}
 use Rattle.std.proofs.lemmas.Result.{on_ok_weaker}
 use Rattle.cfb_bytes.specs.Bytes.{block}
-use Rattle.packed_entries.proofs.Held.{block_whole, short_spelled}
+use Rattle.packed_entries.proofs.Held.{block_whole}
 use Rattle.packed_entries.proofs.packed.PackedEntries.push.Goals as goal
 
 pub returns-then-is_short-clause-added : goal.returns-then-is_short-clause-added
 returns-then-is_short-clause-added c =
-    on_ok_weaker c.add.result
-    (λ added.
-    added
-    ∙ ap (λ xs. c.args.self.now ++ xs)
-    (short_spelled c.shorten.result c.args.entry.now c.told-entry c.shorten.ensures.name c.shorten.ensures.head c.shorten.ensures.place
-    (c.is_short.ensures c.if-is_short.true)))
-    c.add.ensures.added
+    on_ok_weaker c.add.result (λ added. added ∙ ap (λ xs. c.args.self.now ++ xs) c.slot_of.ensures) c.add.ensures.added
 
 pub returns-clause-added : goal.returns-clause-added
 returns-clause-added c =
