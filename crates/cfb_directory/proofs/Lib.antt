@@ -9,3 +9,4 @@ pub mod Characters
 pub use Rattle.directory_model.proofs.Marked
 pub use Rattle.directory_model.proofs.Trees
 pub use Rattle.directory_model.proofs.Inside
+pub mod Lent

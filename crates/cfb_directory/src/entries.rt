@@ -8,6 +8,7 @@ ghost use Rattle.cfb_directory.specs.Held.{held};
 ghost use Rattle.cfb_directory.specs.Streams.{IsStreamEntry};
 ghost use Rattle.cfb_directory.specs.Walk.{IsTaken, MayRefuseName, unmarked};
 ghost use Rattle.cfb_names.specs.declared.fault.DirFault.TheVariants.{BadEntry, NoMemory};
+ghost use Rattle.packed_entries.specs.Named.{named_bytes};
 ghost use Rattle.std.specs.List.{All};
 ghost use Rattle.std.specs.Prelude.{◌≡◌, ◌<◌, ◌≤◌, ◌*◌, ◌/◌, ◌-◌, ◌∷◌, ◌++◌, ◌≢◌, [], false, true, replicate, length, vec_capacity, vec_len, IfErr, IfOk, IfSome, OnErr, OnOk};
 
@@ -16,6 +17,7 @@ use cfb_bytes::numbers::{read_u16, read_u32};
 use cfb_names::fault::DirFault;
 use cfb_names::name::Name;
 pub use directory_model::entries::{Entry, EntryKind, NO_STREAM};
+use packed_entries::named::Named;
 use std::alloc::Global;
 use std::marker::Model;
 
@@ -196,12 +198,66 @@ impl<'a> Table<'a> {
         Ok(Table { directory, used })
     }
 
+    /// An entry below the root whose name was read as it was packed.
+    #[inline(always)]
+    fn named(&self, id: u32) -> Option<&'a Named>
+        ensures below_root { IfSome result (λ _. id ≢ 0) }
+        ensures there { IfSome result (λ _. 128 * id < length self.now.directory) }
+        ensures bytes { IfSome result (λ n. named_bytes n.now ≡ entry_at self.now.directory id) }
+    {
+        if id == 0 {
+            return None;
+        }
+        self.directory.named(id)
+    }
+
+    /// The name of an entry that is one of a storage or of a stream, where it was read as the entry was packed.
+    #[inline(always)]
+    fn known_name(&self, id: u32) -> Option<&'a Name>
+        ensures read { IfSome result (λ name. IsNameOf id (entry_at self.now.directory id) name.now) }
+        ensures valid { IfSome result (λ name. IsName name.now) }
+    {
+        match self.named(id) {
+            Some(named) => match named.kind() {
+                1 | 2 => Some(named.name()),
+                _ => None,
+            },
+            None => None,
+        }
+    }
+
+    /// What the entry of a stream says, where its name was read as it was packed.
+    #[inline(always)]
+    fn stream(&self, id: u32) -> Option<StreamEntry<'a>>
+        ensures { IfSome result (IsStreamEntry self.now.directory id) }
+    {
+        match self.named(id) {
+            Some(named) => {
+                if named.kind() != 2 {
+                    return None;
+                }
+                Some(StreamEntry {
+                    name: named.name(),
+                    first: named.first(),
+                    size: named.size(),
+                })
+            }
+            None => None,
+        }
+    }
+
     /// What an entry says.
     fn entry(&self, id: u32) -> Result<Entry, DirFault>
         ensures read { IfOk result (IsEntry self.now.directory id) }
         ensures valid { IfOk result (λ e. IsName e.name) }
         ensures refused { IfErr result (MayRefuseEntry self.now.directory id) }
     {
+        if let Some(named) = self.named(id) {
+            return match kind_of(id, named.kind()) {
+                Ok(kind) => Ok(named.entry(kind)),
+                Err(fault) => Err(fault),
+            };
+        }
         if let Some(entry) = self.directory.whole_entry(id) {
             return self.read(id, entry);
         }
@@ -217,6 +273,9 @@ impl<'a> Table<'a> {
         ensures valid { IfOk result IsName }
         ensures refused { IfErr result (MayRefuseEntry self.now.directory id) }
     {
+        if let Some(name) = self.known_name(id) {
+            return Ok(name.copy());
+        }
         if let Some(entry) = self.directory.whole_entry(id) {
             return self.read_name(id, entry);
         }
@@ -320,6 +379,9 @@ impl<'a> Table<'a> {
         ensures left { result.0 ≡ left (entry_at self.now.directory id) }
         ensures right { result.1 ≡ right (entry_at self.now.directory id) }
     {
+        if let Some(named) = self.directory.named(id) {
+            return named.links();
+        }
         if let Some(entry) = self.directory.whole_entry(id) {
             return (read_u32(entry, 68), read_u32(entry, 72));
         }
@@ -423,14 +485,14 @@ impl<'a> Entries<'a> {
         ensures read { IfSome result (λ name. IsNameOf id (entry_at self.now.directory id) name.now) }
         ensures valid { IfSome result (λ name. IsName name.now) }
     {
-        None
+        self.table.known_name(id)
     }
 
     /// What the entry of a stream says, as `entry` tells it, where its name is known: of other entries, nothing.
     pub fn stream(&self, id: u32) -> Option<StreamEntry<'a>>
         ensures { IfSome result (IsStreamEntry self.now.directory id) }
     {
-        None
+        self.table.stream(id)
     }
 
     /// The children of an entry: just those that links reach from its child, which it marks. A refusal marks none.

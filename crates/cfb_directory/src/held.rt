@@ -3,10 +3,12 @@
 ghost use Rattle.cfb_bytes.specs.Bytes.{u32_at};
 ghost use Rattle.cfb_directory.specs.Entries.{entry_at};
 ghost use Rattle.cfb_directory.specs.Held.{held};
+ghost use Rattle.packed_entries.specs.Named.{named_bytes};
 ghost use Rattle.std.specs.Prelude.{◌*◌, ◌+◌, ◌/◌, ◌<◌, ◌≡◌, ◌≤◌, IfSome, false, length, true};
 
 use crate::bytes::{entry_bytes, entry_u32, whole_entry};
 use directory_model::entries::ENTRY_LEN;
+use packed_entries::named::Named;
 use packed_entries::packed::PackedEntries;
 
 /// The bytes of a directory.
@@ -59,6 +61,18 @@ impl<'a> Directory<'a> {
         match self {
             Directory::Bytes(bytes) => whole_entry(bytes, id),
             Directory::Packed(_) => None,
+        }
+    }
+
+    /// An entry whose name was read as it was packed.
+    #[inline(always)]
+    pub(crate) fn named(&self, id: u32) -> Option<&'a Named>
+        ensures there { IfSome result (λ _. 128 * id < length (held self.now)) }
+        ensures bytes { IfSome result (λ n. named_bytes n.now ≡ entry_at (held self.now) id) }
+    {
+        match self {
+            Directory::Bytes(_) => None,
+            Directory::Packed(entries) => entries.named(id as usize),
         }
     }
 
