@@ -1,5 +1,5 @@
 -- The first eight bytes of a name's key, read off the name.
-use Rattle.std.proofs.Common.{◌≡◌, ◌<◌, ◌≤◌, ◌+◌, ◌-◌, ℕ, zero, suc, inl, inr, List, [], ◌∷◌, ◌++◌, length, get_or, map, take, drop, replicate, nat_cmp, refl, sym, ◌∙◌, ap, subst, arith, length-append}
+use Rattle.std.proofs.Common.{◌≡◌, ◌<◌, ◌≤◌, ◌+◌, ◌-◌, ℕ, zero, suc, inl, inr, List, [], ◌∷◌, ◌++◌, length, get_or, map, drop, replicate, nat_cmp, refl, sym, ◌∙◌, ap, arith, length-append}
 use Rattle.std.proofs.lemmas.Bool.{cases_lt}
 use Rattle.std.proofs.lemmas.List.{get_or-append_right, get_or-map, get_or_append_left, length-map, length-replicate, take-append-drop}
 use Rattle.std.proofs.lemmas.Str.Ascii.{uppercase_is}
@@ -14,7 +14,7 @@ use Rattle.cfb_names.specs.Names.{key, key_cmp, name_cmp}
 use Rattle.cfb_names.specs.Numbers.{AreBytes, eight}
 use Rattle.cfb_names.proofs.KeyNumbers.{decided}
 use Rattle.cfb_names.proofs.Keys.{keys_agree}
-use Rattle.entry_sorting.specs.Sorting.{Begins}
+use Rattle.entry_sorting.specs.Sorting.{Begins, IsFrontBehind}
 
 zeros : (n k : ℕ) → get_or {A = ℕ} (replicate n 0) k 0 ≡ 0
 zeros zero k = refl
@@ -109,11 +109,10 @@ pub keys_behind : (p x y : List ℕ) → key_cmp (key (p ++ x)) (key (p ++ y)) �
 keys_behind p x y = keys_agree (p ++ x) (p ++ y) ∙ names_behind p x y ∙ sym (keys_agree x y)
 
 -- a name that begins as others do
-pub begun : (dir shared name rest : List ℕ) (id : ℕ) → name ≡ name_of (entry_at dir id) → take (length shared) name ≡ shared → rest ≡ drop (length shared) name
-    → AreBytes (key rest) → Begins dir shared id
-begun dir shared name rest id named same is bytes = record {
-  whole =
-      let h : name ≡ shared ++ drop (length shared) name = sym (take-append-drop (length shared) name) ∙ ap (λ xs. xs ++ drop (length shared) name) same in
-      subst (λ (xs : List ℕ). xs ≡ shared ++ drop (length shared) xs) named h;
-  bytes = subst (λ (xs : List ℕ). AreBytes (key xs)) (is ∙ ap (drop (length shared)) named) bytes;
-}
+pub begun : (dir shared : List ℕ) (id front : ℕ) → IsFrontBehind shared (name_of (entry_at dir id)) front → Begins dir shared id
+begun dir shared id front is =
+    let name : List ℕ = name_of (entry_at dir id) in
+    record {
+      whole = sym (take-append-drop (length shared) name) ∙ ap (λ xs. xs ++ drop (length shared) name) is.begins;
+      bytes = is.bytes;
+    }

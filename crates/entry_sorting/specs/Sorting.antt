@@ -1,5 +1,5 @@
 -- Entries with the keys of their names, and what they are refused for as the children of a storage.
-use Rattle.std.specs.Prelude.{◌≡◌, ◌≢◌, ◌<◌, ◌+◌, ◌++◌, ℕ, List, drop, length, map, slice_index, slice_index_or}
+use Rattle.std.specs.Prelude.{◌≡◌, ◌≢◌, ◌<◌, ◌+◌, ◌++◌, ℕ, List, drop, length, map, slice_index, slice_index_or, take}
 use Rattle.std.specs.List.{All, Contains}
 use Rattle.cfb_names.specs.Numbers.{AreBytes, eight}
 use Rattle.cfb_names.specs.Names.{key}
@@ -35,6 +35,12 @@ front_at dir shared id = eight (key (rest_at dir shared id)) 0
 pub record Begins (dir shared : List ℕ) (id : ℕ) : Type 0 where
   pub whole : name_of (entry_at dir id) ≡ shared ++ rest_at dir shared id
   pub bytes : AreBytes (key (rest_at dir shared id))
+
+-- a name begins so, and this is the front of the key of what follows, which is of bytes
+pub record IsFrontBehind (shared name : List ℕ) (front : ℕ) : Type 0 where
+  pub begins : take (length shared) name ≡ shared
+  pub number : front ≡ eight (key (drop (length shared) name)) 0
+  pub bytes : AreBytes (key (drop (length shared) name))
 
 -- entries whose names begin alike, and the fronts of the keys of what follows
 pub record AreFronts (dir shared ids fronts : List ℕ) : Type 0 where

@@ -1,13 +1,14 @@
 //! Entries that are put in the order of their names, with no memory taken for that.
 
 ghost use Rattle.cfb_chain.specs.Chain.{AreDistinct};
+ghost use Rattle.cfb_directory.specs.Entries.{MayRefuseEntry, entry_at, name_of};
 ghost use Rattle.cfb_names.specs.Names.{key, key_cmp};
 ghost use Rattle.cfb_names.specs.Numbers.{AreBytes, eight};
 ghost use Rattle.file_faults.specs.Faults.{key_at};
 ghost use Rattle.std.specs.List.{All, Contains};
 ghost use Rattle.std.specs.List.Sorted.{IsStrictlySortedBy};
 ghost use Rattle.std.specs.Prelude.{[], ◌++◌, ◌+◌, ◌<◌, ◌↔◌, ◌∷◌, ◌≡◌, ◌≢◌, ◌≤◌, IfErr, IfOk, IfSome, OnOk, drop, false, length, map, slice_index, take, true, vec_capacity, vec_len, ℕ};
-ghost use Rattle.entry_sorting.specs.Sorting.{AllAdjacentApart, AreFronts, AreInOrder, DoRise, HasEqualNeighbours, MayRefuseNames, MayRefuseOneOf, at_each, keyed, places};
+ghost use Rattle.entry_sorting.specs.Sorting.{AllAdjacentApart, AreFronts, AreInOrder, DoRise, HasEqualNeighbours, IsFrontBehind, MayRefuseNames, MayRefuseOneOf, at_each, keyed, places};
 
 use cfb_directory::entries::Entries;
 use cfb_names::fault::DirFault;
@@ -130,6 +131,34 @@ fn rest_behind<'n>(units: &'n [u8], shared: &[u8]) -> Option<&'n [u8]>
     Some(&units[shared.len()..])
 }
 
+/// The front of the key of what follows in a name behind these characters, if it begins with them.
+fn front_behind(name: &Name, shared: &[u8]) -> Option<u64>
+    ensures { IfSome result (IsFrontBehind shared.now name.now) }
+{
+    match rest_behind(name.as_bytes(), shared) {
+        Some(rest) => Some(front(rest)),
+        None => None,
+    }
+}
+
+/// The front of the key of what follows in an entry's name behind these characters, if it begins with them. A name that is lent
+/// isn't copied.
+///
+/// Refused: as `Entries::name`.
+fn front_of(entries: &Entries<'_>, id: u32, shared: &[u8]) -> Result<Option<u64>, DirFault>
+    requires below_root { id ≢ 0 }
+    ensures found { IfOk result (λ found. IfSome found (IsFrontBehind shared.now (name_of (entry_at entries.now.directory id)))) }
+    ensures refused { IfErr result (MayRefuseEntry entries.now.directory id) }
+{
+    if let Some(name) = entries.known_name(id) {
+        return Ok(front_behind(name, shared));
+    }
+    match entries.name(id) {
+        Ok(name) => Ok(front_behind(&name, shared)),
+        Err(fault) => Err(fault),
+    }
+}
+
 /// Lists for entries whose names begin alike the fronts of the keys of what follows in them, and a zero for each entry, where
 /// there is room for all. Answers whether all names begin so.
 ///
@@ -151,16 +180,11 @@ fn list_fronts(
     ensures refused { IfErr result (MayRefuseOneOf entries.now.directory ids.now) }
 {
     for id in ids {
-        let name = match entries.name(*id) {
-            Ok(name) => name,
+        match front_of(entries, *id, shared) {
+            Ok(Some(front)) => push_within(fronts, front),
+            Ok(None) => return Ok(false),
             Err(fault) => return Err(fault),
-        };
-        let units = name.as_bytes();
-        let rest = match rest_behind(units, shared) {
-            Some(rest) => rest,
-            None => return Ok(false),
-        };
-        push_within(fronts, front(rest));
+        }
         push_within(order, 0);
     }
     Ok(true)
