@@ -16,3 +16,4 @@ pub mod ReadingTold
 pub mod ReadingAlike
 pub mod ReadingSame
 pub mod ReadingMemory
+pub mod ReadingLent

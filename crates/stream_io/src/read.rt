@@ -7,6 +7,7 @@ ghost use Rattle.cfb_chain.specs.View.{image_bytes};
 ghost use Rattle.cfb_header.specs.declared.fault.ChainFault.{ChainFault};
 ghost use Rattle.cfb_directory.specs.Entries.{IsEntry};
 ghost use Rattle.cfb_directory.specs.Held.{held};
+ghost use Rattle.cfb_directory.specs.Streams.{IsStreamEntry};
 ghost use Rattle.cfb_names.specs.Names.{key};
 ghost use Rattle.std.specs.List.{All};
 ghost use Rattle.std.specs.Prelude.{[], ◌*◌, ◌<◌, ◌≡◌, ◌≢◌, ◌↔◌, IfErr, IfOk, IsTrue, List, OnOk, length, slice_index_or, suc, take, true, ℕ};
@@ -29,7 +30,7 @@ ghost use Rattle.stream_io.specs.declared.read.Reader as reader;
 use crate::fault::{ReadFault, StreamFault};
 use cfb_chain::fat::Fat;
 use cfb_chain::image::Image;
-use cfb_directory::entries::{Entries, Entry, EntryKind};
+use cfb_directory::entries::{Entries, Entry, EntryKind, StreamEntry};
 use cfb_directory::held::Directory;
 use cfb_header::header::Header;
 use cfb_names::fault::DirFault;
@@ -74,6 +75,34 @@ impl<'a, 'd> Reader<'a, 'd> {
             self.fat.mark_chain(place.first, place.size)?;
         }
         Ok(())
+    }
+
+    /// Puts the name of a stream and where it lies behind those so far, if it is kept, and marks its sectors. Its name alone is
+    /// copied, where it is kept.
+    ///
+    /// Refused: as `mark_stream`, and `NoMemory`.
+    fn push_stream(
+        &mut self,
+        id: u32,
+        stream: StreamEntry<'_>,
+        keep: Keep<'_>,
+        parts: &mut Vec<(Name, Part)>,
+    ) -> Result<(), ReadFault>
+        requires said { IsStreamEntry (directory_in self.old) id stream }
+        requires below_root { id ≢ 0 }
+        ensures outlined { OnOk result ((depth : ℕ) → IsChildPushed depth id (wanted keep.entry) parts.old.items parts.new.items self.old self.new) }
+        ensures there { (depth : ℕ) (k name : List ℕ) (s : Seen) (new : reader.Reader) → IsChildRead depth id k name s self.old new → IfErr result (λ e. e ≡ NoMemory) }
+        ensures refused { (b : Base) (depth : ℕ) (pending : List ℕ) → IsNext b depth id pending self.old → IfErr result (MayRefuseStorage b) }
+    {
+        let place = Place {
+            first: stream.first,
+            size: stream.size,
+        };
+        self.mark_stream(place)?;
+        match keep.below(stream.name) {
+            Keep::Nothing => Ok(()),
+            _ => Ok(parts.push((stream.name.copy(), Part::Stream(place)))?),
+        }
     }
 
     /// The children of an entry in the order of their names, which are marked.
@@ -147,6 +176,10 @@ impl<'a, 'd> Reader<'a, 'd> {
         ensures there { (k name : List ℕ) (s : Seen) (new : reader.Reader) → IsChildRead depth id k name s self.old new → IfErr result (λ e. e ≡ NoMemory) }
         ensures refused { (b : Base) (pending : List ℕ) → IsNext b depth id pending self.old → IfErr result (MayRefuseStorage b) }
     {
+        // What is lent of a stream needs no copy of its entry.
+        if let Some(stream) = self.entries.stream(id) {
+            return self.push_stream(id, stream, keep, parts);
+        }
         let entry = self.entries.entry(id)?;
         let below = keep.below(&entry.name);
         let part = self.part_outline(alloc, id, &entry, depth, below)?;

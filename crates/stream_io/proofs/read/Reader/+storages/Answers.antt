@@ -18,6 +18,13 @@ use Rattle.stream_io.proofs.ReadingRefused.{entry_below, never_ok, same_memory, 
 use Rattle.stream_io.proofs.ReadingSteps.{AreOpen, AreOutlined, entry_not_refused, inner_read, next_at, next_below, next_root, next_there, opened, outlined_all, outlined_none, outlined_pushed, positive, stream_read}
 use Rattle.stream_io.proofs.read.Reader.+storages.Goals as goal
 
+-- a stream that is lent
+pub push_child-returns-in-Some-clause-there : goal.push_child-returns-in-Some-clause-there
+push_child-returns-in-Some-clause-there t c = c.push_stream.ensures.there c.args.depth
+
+pub push_child-returns-in-Some-clause-refused : goal.push_child-returns-in-Some-clause-refused
+push_child-returns-in-Some-clause-refused t c = λ b pending at. c.push_stream.ensures.refused b c.args.depth pending at
+
 pub push_child-returns-in_err-entry-clause-there : goal.push_child-returns-in_err-entry-clause-there
 push_child-returns-in_err-entry-clause-there t c = λ k name s new h.
     absurd (entry_not_refused c.args.depth c.args.id k name s c.args.self.now new c.in_err-entry.field-0.0 c.requires.below_root h c.in_err-entry.ensures.refused)
@@ -128,20 +135,24 @@ push_child-returns-in-Nothing-clause-outlined t c =
       pushed = refl;
     }
 
-pub push_child-returns-in_ok-push-in_default-clause-outlined : goal.push_child-returns-in_ok-push-in_default-clause-outlined
-push_child-returns-in_ok-push-in_default-clause-outlined t c =
+pub push_child-returns-in_ok-push-in_default-below : goal.push_child-returns-in_ok-push-in_default-below
+push_child-returns-in_ok-push-in_default-below t c =
     let h = c.in_ok-part.ensures.outlined in
     record {
-      child = Some (c.in_ok-entry.entry.name, c.in_ok-part.part);
       outlined = record {
-        name = c.in_ok-entry.entry.name;
-        whole = h.whole;
-        is_read = search rules;
-        sized = h.sized;
-        told = h.told;
-        is_kept = (refl, subst (λ (x : Wanted). IsPartKeptOf x h.whole c.in_ok-part.part) c.below-below.ensures h.is_kept);
+        child = Some (c.in_ok-entry.entry.name, c.in_ok-part.part);
+        outlined = record {
+          name = c.in_ok-entry.entry.name;
+          whole = h.whole;
+          is_read = search rules;
+          sized = h.sized;
+          told = h.told;
+          is_kept = (refl, subst (λ (x : Wanted). IsPartKeptOf x h.whole c.in_ok-part.part) c.below-below.ensures h.is_kept);
+        };
+        pushed = c.in_ok-push-in_default-below.ensures.items;
       };
-      pushed = c.in_ok-push-in_default.ensures.items;
+      there = λ k name s new r. tt;
+      refused = λ b pending at. tt;
     }
 
 pub part_outline-returns-in_ok-mark_stream-in-Stream-clause-outlined : goal.part_outline-returns-in_ok-mark_stream-in-Stream-clause-outlined
