@@ -11,7 +11,7 @@ use cfb_names::name::Name;
 use file_commands::fault::GetFault;
 use file_outline::outline::Place;
 use file_places::fault::PlacesFault;
-use file_places::reading::{Catalog, Held, read_catalog_as};
+use file_places::reading::{Catalog, read_catalog};
 use file_places::source::Source;
 use std::alloc::Global;
 use std::io::Write;
@@ -76,7 +76,7 @@ fn seek<S: Source>(alloc: Global, source: &mut S, path: &[Name]) -> Result<Found
     ensures refused { IfErr result (λ fault. IfSome (S.bytes source.old) (λ file. MayRefuseGet file path.now fault)) }
     ensures kept { S.bytes source.new ≡ S.bytes source.old }
 {
-    let catalog = match read_catalog_as(alloc, source, Held::Entries) {
+    let catalog = match read_catalog(alloc, source) {
         Ok(catalog) => catalog,
         Err(fault) => return Err(of_places(fault)),
     };

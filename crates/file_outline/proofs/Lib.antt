@@ -4,3 +4,4 @@ pub mod Placed
 pub mod Sorted
 pub mod Found
 pub mod Kept
+pub mod Ends

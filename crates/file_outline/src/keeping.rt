@@ -1,7 +1,8 @@
 //! What an outline keeps of what was read.
 
+ghost use Rattle.cfb_names.specs.Names.{key, key_eq};
 ghost use Rattle.file_outline.specs.Keeping.{below, on_path, room, wanted};
-ghost use Rattle.std.specs.Prelude.{◌≡◌};
+ghost use Rattle.std.specs.Prelude.{◌≡◌, false, true};
 
 use cfb_names::name::{Name, key};
 
@@ -16,6 +17,21 @@ pub enum Keep<'p> {
     Nothing,
 }
 
+/// Whether the lengths or the last characters of two names differ, upper and lower case alike: then their keys do, and needn't
+/// be made. No clause says that it tells every such pair.
+#[inline(always)]
+fn differ_in_end(one: &Name, other: &Name) -> bool
+    ensures { result ≡ true → key_eq (key one.now) (key other.now) ≡ false }
+{
+    let one = one.as_bytes();
+    let other = other.as_bytes();
+    if one.len() != other.len() {
+        return true;
+    }
+    let last = one.len() - 1;
+    one[last].to_ascii_uppercase() != other[last].to_ascii_uppercase()
+}
+
 /// What of a child of this name lies on a path.
 fn along<'p>(path: &'p [Name], name: &Name) -> Keep<'p>
     ensures { wanted result ≡ below name.now (on_path path.now) }
@@ -23,6 +39,9 @@ fn along<'p>(path: &'p [Name], name: &Name) -> Keep<'p>
     match path {
         [] => Keep::Nothing,
         [first, rest @ ..] => {
+            if differ_in_end(first, name) {
+                return Keep::Nothing;
+            }
             if key(first).cmp(&key(name)).is_eq() {
                 return Keep::Path(rest);
             }

@@ -11,8 +11,7 @@ use crate::listing::read_lists;
 use crate::sectors::{read_bytes, read_sectors};
 use crate::source::Source;
 use cfb_header::header::Header;
-pub use cfb_places::places::Held;
-use cfb_places::places::{BLOCK, Places};
+use cfb_places::places::{BLOCK, Held, Places};
 use std::alloc::Global;
 
 /// The most bytes that a file may have.
@@ -44,34 +43,12 @@ fn read_len<S: Source>(source: &mut S) -> Result<usize, PlacesFault>
     }
 }
 
-/// For how many blocks of a directory room is made, where its entries are packed.
-fn packed_blocks(held: Held, blocks: usize) -> usize {
-    match held {
-        Held::Plain => 0,
-        Held::Entries => blocks,
-    }
-}
-
 /// Reads of a file the header, the DIFAT, the FAT, the directory and the mini FAT: what its listing needs. Chains are followed as far
-/// as the FAT goes, and what is wrong with them is found as the listing is made.
+/// as the FAT goes, and what is wrong with them is found as the listing is made. The directory is held as packed entries, which
+/// take less than half of the memory.
 ///
 /// Refused: `Unreadable` where a read fails, `TooBig` for more than `MOST` bytes, `NoMemory`, and the fault of a header.
 pub fn read_catalog<S: Source>(alloc: Global, source: &mut S) -> Result<Catalog, PlacesFault>
-    ensures header { IfOk result (λ c. header_read c.file ≡ Ok c.header) }
-    ensures whole { IfOk result (λ c. IsHeader c.file) }
-    ensures alike { IfOk result (λ c. IfSome (S.bytes source.old) (λ a. Alike a c.file)) }
-    ensures refused { IfErr result (λ fault. IfSome (S.bytes source.old) (λ a. MayRefusePlaces a fault)) }
-    ensures kept { S.bytes source.new ≡ S.bytes source.old }
-{
-    read_catalog_as(alloc, source, Held::Plain)
-}
-
-/// The same, the directory held as is asked: as packed entries it takes less than half of the memory, and somewhat longer.
-pub fn read_catalog_as<S: Source>(
-    alloc: Global,
-    source: &mut S,
-    held: Held,
-) -> Result<Catalog, PlacesFault>
     ensures header { IfOk result (λ c. header_read c.file ≡ Ok c.header) }
     ensures whole { IfOk result (λ c. IsHeader c.file) }
     ensures alike { IfOk result (λ c. IfSome (S.bytes source.old) (λ a. Alike a c.file)) }
@@ -88,8 +65,8 @@ pub fn read_catalog_as<S: Source>(
     file.put(alloc, 0, &front, Held::Plain)?;
     let sectors = read_lists(alloc, source, &mut file, &header)?;
     let chains = find_chains(alloc, &file, &sectors.fat, &header)?;
-    file.reserve_entries(packed_blocks(held, chains.directory.len()))?;
-    read_sectors(alloc, source, &mut file, &chains.directory, held)?;
+    file.reserve_entries(chains.directory.len())?;
+    read_sectors(alloc, source, &mut file, &chains.directory, Held::Entries)?;
     read_sectors(alloc, source, &mut file, &chains.mini_fat, Held::Plain)?;
     Ok(Catalog { header, file })
 }

@@ -3,7 +3,7 @@
 use crate::reading::{FILE, first_size};
 use crate::texts::{are_all, spelled};
 use file_places::fault::PlacesFault;
-use file_places::reading::{Catalog, Held, read_catalog, read_catalog_as};
+use file_places::reading::{Catalog, read_catalog};
 use file_places::source::{Sought, Source};
 use std::alloc::Global;
 use std::io::{self, Cursor, ErrorKind};
@@ -64,8 +64,8 @@ fn is_small(alloc: Global, catalog: &Catalog) -> bool {
     is_zeros(alloc, catalog, 4)
 }
 
-fn listed<S: Source>(alloc: Global, source: &mut S, held: Held) -> Option<u32> {
-    let Ok(catalog) = read_catalog_as(alloc, source, held) else {
+fn listed<S: Source>(alloc: Global, source: &mut S) -> Option<u32> {
+    let Ok(catalog) = read_catalog(alloc, source) else {
         return None;
     };
     if !is_small(alloc, &catalog) {
@@ -85,20 +85,14 @@ fn is_unreadable(answer: Result<Catalog, PlacesFault>) -> bool {
 }
 
 fn is_sought(alloc: Global, file: &[u8]) -> bool {
-    listed(alloc, &mut Sought::new(Cursor::new(file)), Held::Plain) == Some(3)
+    listed(alloc, &mut Sought::new(Cursor::new(file))) == Some(3)
 }
 
 #[test]
 fn a_listing_reads_its_places(rt: HostRuntime) {
     let file = spelled(&rt, rt.alloc(), FILE);
-    assert!(rt; listed(rt.alloc(), &mut file.as_slice(), Held::Plain) == Some(3));
+    assert!(rt; listed(rt.alloc(), &mut file.as_slice()) == Some(3));
     assert!(rt; is_sought(rt.alloc(), &file));
-}
-
-#[test]
-fn a_packed_directory_lists_the_same(rt: HostRuntime) {
-    let file = spelled(&rt, rt.alloc(), FILE);
-    assert!(rt; listed(rt.alloc(), &mut file.as_slice(), Held::Entries) == Some(3));
 }
 
 fn fails(alloc: Global, bytes: &[u8], calls: usize) -> bool {
@@ -108,7 +102,7 @@ fn fails(alloc: Global, bytes: &[u8], calls: usize) -> bool {
 
 fn is_listed(alloc: Global, bytes: &[u8], calls: usize) -> bool {
     let mut source = Broken { bytes, calls };
-    listed(alloc, &mut source, Held::Plain) == Some(3)
+    listed(alloc, &mut source) == Some(3)
 }
 
 #[test]

@@ -5,7 +5,7 @@ use Rattle.file_model.specs.Alike.{Alike}
 use Rattle.file_places.specs.Filled.{AreFound, AreListsRead, IsRead}
 use Rattle.file_places.proofs.Filling.{chain_was_read, front_known, some_both, some_five, some_same}
 use Rattle.file_places.proofs.Cataloging.{cataloged, front_read, header_same, whole_same}
-use Rattle.file_places.proofs.reading.read_catalog_as.Goals as goal
+use Rattle.file_places.proofs.reading.read_catalog.Goals as goal
 
 pub returns-in-Err-clause-refused : goal.returns-in-Err-clause-refused
 returns-in-Err-clause-refused g c =
