@@ -1,7 +1,8 @@
 -- The table of the characters that a name can hold.
-use Rattle.std.proofs.Common.{◌≡◌, ◌≢◌, ◌<◌, ◌≤◌, ◌++◌, ℕ, zero, suc, List, ◌∷◌, Bool, true, false, cond, nat_eq, slice_index_or, refl, ap, sym, ◌∙◌, arith, rules}
+use Rattle.std.proofs.Common.{◌≡◌, ◌≢◌, ◌≤◌, ◌++◌, ℕ, List, ◌∷◌, Bool, true, false, cond, nat_eq, slice_index_or, refl, ap, sym, ◌∙◌, arith}
 use Rattle.std.specs.List.{range_with_len}
 use Rattle.cfb_names.specs.Names.{is_forbidden}
+use Rattle.packed_entries.proofs.Allowed.{every-is}
 
 abbrev table : List ℕ
 table =
@@ -9,17 +10,6 @@ table =
 
 equal : (a b : ℕ) → nat_eq a b ≡ true → a ≡ b
 equal a b h = grind (arith, h)
-
-abbrev every : (ℕ → Bool) → ℕ → Bool
-every p zero = true
-every p (suc n) = cond (p n) (every p n) false
-
-every-is : (p : ℕ → Bool) (n d : ℕ) → every p n ≡ true → d < n → p d ≡ true
-every-is p zero d h l = absurd (omega (arith, l))
-every-is p (suc n) d h l = elim (p n) as (λ b. p n ≡ b → cond b (every p n) false ≡ true → p d ≡ true) [
-  | true ↦ λ q g. elim (nat_eq d n) as (λ b. nat_eq d n ≡ b → p d ≡ true) [ true ↦ λ e. ap p (equal d n e) ∙ q | false ↦ λ e. every-is p n d g (grind (arith, l, e)) ] refl
-  | false ↦ λ q g. absurd (search rules)
-] refl h
 
 -- what the table has for a character
 abbrev kept : ℕ → ℕ

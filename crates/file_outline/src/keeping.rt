@@ -52,6 +52,7 @@ fn along<'p>(path: &'p [Name], name: &Name) -> Keep<'p>
 
 impl<'p> Keep<'p> {
     /// What is kept of a child of this name.
+    #[inline(always)]
     pub fn below(self, name: &Name) -> Keep<'p>
         ensures { wanted result ≡ below name.now (wanted self.entry) }
     {

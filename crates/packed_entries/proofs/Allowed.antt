@@ -1,8 +1,8 @@
 -- Characters that a name can hold, told of many at once by vectors.
-use Rattle.std.proofs.Common.{◌≡◌, ◌≤◌, ◌<◌, ◌+◌, ◌-◌, ◌*◌, ◌%◌, ◌^◌, ◌++◌, ◌||◌, ℕ, zero, suc, Bool, true, false, eqb, eqb-true, leb, ltb, cond, nat_eq, nat_le, List, [], ◌∷◌, map, length, get_or, replicate, take, drop, bit_or, refl, sym, ap, ◌∙◌, inl, inr, arith, rules, w8, Fits}
+use Rattle.std.proofs.Common.{◌≡◌, ◌≤◌, ◌<◌, ◌+◌, ◌-◌, ◌*◌, ◌%◌, ◌^◌, ◌||◌, ℕ, zero, suc, Bool, true, false, eqb, eqb-true, leb, ltb, cond, nat_eq, nat_le, List, [], ◌∷◌, map, length, get_or, replicate, take, drop, bit_or, refl, sym, ap, ◌∙◌, inl, inr, arith, rules, w8, Fits}
 use Rattle.std.proofs.lemmas.Bool.{cases_lt}
 use Rattle.std.proofs.lemmas.List.{length-map}
-use Rattle.std.proofs.lemmas.Simd.{length-zip2, mask_l-mod}
+use Rattle.std.proofs.lemmas.Simd.{mask_l-mod}
 use lib.Lanes.{zip2, sel_l, mask_l, top, Each1}
 use Rattle.std.specs.List.{list_any, range_with_len}
 use Rattle.cfb_names.specs.Names.{is_forbidden}

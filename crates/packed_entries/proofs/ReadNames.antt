@@ -1,13 +1,12 @@
 -- What stands in the bytes of an entry whose name was read.
-use Rattle.std.proofs.Common.{◌≡◌, ◌<◌, ◌≤◌, ◌+◌, ◌-◌, ◌*◌, ◌/◌, ℕ, zero, suc, List, [], ◌∷◌, ◌++◌, length, take, drop, get_or, replicate, min, refl, sym, ◌∙◌, ap, subst, arith, append_assoc, drop-drop, length-append, length-drop}
-use Rattle.std.proofs.lemmas.List.{drop-append-le, drop-replicate, get_or-drop, get_or-take, length-replicate, length-take-le, take-append-drop, take-append-le, take_all}
-use Rattle.std.proofs.lemmas.Simd.{pick_l_whole}
+use Rattle.std.proofs.Common.{◌≡◌, ◌<◌, ◌≤◌, ◌+◌, ◌-◌, ◌*◌, ◌/◌, ℕ, zero, suc, List, [], ◌∷◌, ◌++◌, length, take, drop, get_or, replicate, refl, sym, ◌∙◌, ap, subst, arith, append_assoc, drop-drop, length-append, length-drop}
+use Rattle.std.proofs.lemmas.List.{drop-append-le, get_or-drop, get_or-take, length-replicate, length-take-le, take-append-drop, take-append-le, take_all}
 use lib.Lanes.{pick_l}
 use Rattle.std.proofs.Math.ListN.{get_or-append}
 use Rattle.std.proofs.Math.Seq.{drop-append-add, take-append-add}
 use Rattle.std.specs.Int.{from_le_bytes, w16, w32}
 use Rattle.std.specs.List.{flat_map, range_with_len}
-use Rattle.cfb_bytes.specs.Bytes.{block, u16_at, u32_at}
+use Rattle.cfb_bytes.specs.Bytes.{u16_at, u32_at}
 use Rattle.cfb_names.specs.Names.{IsName}
 use Rattle.cfb_names.specs.View.{IsHeld, name_held, units_of}
 use Rattle.directory_model.specs.Entries.{IsNamed, class_of, first_of, kind, name_length, size_of, state_of}

@@ -293,6 +293,7 @@ impl PackedEntries {
     }
 
     /// An entry whose name was read as it was added.
+    #[inline(always)]
     pub fn named(&self, id: usize) -> Option<&Named>
         ensures there { IfSome result (λ _. 128 * id < length self.now) }
         ensures bytes { IfSome result (λ n. named_bytes n.now ≡ block 128 self.now (128 * id)) }
@@ -321,6 +322,7 @@ impl PackedEntries {
     }
 
     /// Adds an entry in the form in which it is held.
+    #[inline(always)]
     fn add(&mut self, slot: Slot) -> Result<(), AllocError>
         ensures added { OnOk result (self.new ≡ self.old ++ entry_of slot) }
         ensures kept { OnErr result (self.new ≡ self.old) }

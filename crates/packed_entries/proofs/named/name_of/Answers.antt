@@ -1,4 +1,4 @@
-use Rattle.std.proofs.Common.{◌≡◌, ◌<◌, ◌≤◌, ◌+◌, ◌-◌, ◌*◌, ◌/◌, ◌∙◌, ap, subst, sym, arith, ℕ, List}
+use Rattle.std.proofs.Common.{◌-◌, ◌/◌, ◌∙◌, ap, subst, sym, arith}
 use Rattle.cfb_names.specs.View.{IsHeld, name_held}
 use Rattle.packed_entries.proofs.ReadNames.{held, told}
 use Rattle.packed_entries.proofs.named.name_of.Goals as goal

@@ -1,6 +1,6 @@
-use Rattle.std.proofs.Common.{◌≡◌, ◌∙◌, ap, sym, List, ℕ}
+use Rattle.std.proofs.Common.{◌≡◌, ◌∙◌, ap, sym}
 use Rattle.cfb_bytes.specs.Bytes.{block}
-use Rattle.packed_entries.specs.Named.{NamedValue, characters_of, laid_out, named_bytes}
+use Rattle.packed_entries.specs.Named.{characters_of, laid_out, named_bytes}
 use Rattle.packed_entries.specs.Packed.{spelled}
 use Rattle.packed_entries.proofs.Held.{short_spelled}
 use Rattle.packed_entries.proofs.packed.slot_of.Goals as goal

@@ -1,4 +1,4 @@
-use Rattle.std.proofs.Common.{◌≡◌, ◌-◌, ◌++◌, ◌∙◌, ap, arith, drop, length, replicate, sym, ℕ, List}
+use Rattle.std.proofs.Common.{◌≡◌, ◌++◌, ◌∙◌, ap, drop, length, replicate, ℕ, List}
 use Rattle.std.proofs.lemmas.List.{drop-replicate}
 use Rattle.packed_entries.specs.Named.{NamedValue, characters_of}
 use Rattle.packed_entries.proofs.named.Named.parts.Goals as goal
