@@ -16,9 +16,9 @@ returns-clause-read g c =
     let size : ℕ = c.min-size.result in
     let size_is : size ≡ min (512 * c.args.count) (length old - start) =
     omega (arith, c.min-size.ensures, c.saturating_mul.ensures, c.len-2.ensures, c.len.ensures) in
-    some_map (g.S.Source.bytes c.args.source.now) (λ a. c.in_ok-bytes.bytes.items ≡ take size (drop start a)) (λ a. length a ≡ length old → IsRunRead a old c.put_run.new.file c.args.first c.args.count)
+    some_map (g.S.Source.bytes c.args.source.now) (λ a. c.fill.new.buffer.items ≡ take size (drop start a)) (λ a. length a ≡ length old → IsRunRead a old c.put_run.new.file c.args.first c.args.count)
     (λ a is len.
-    run_read a old c.put_run.new.file c.in_ok-bytes.bytes.items c.args.first c.args.count start size refl
-    (omega (arith, c.if-start-len.false, c.len.ensures)) len size_is is c.in_ok-bytes.ensures.len c.in_ok-put_run.ensures.len
+    run_read a old c.put_run.new.file c.fill.new.buffer.items c.args.first c.args.count start size refl
+    (omega (arith, c.if-start-len.false, c.len.ensures)) len size_is is c.in_ok-fill.ensures.len c.in_ok-put_run.ensures.len
     (rw c.deref.ensures.value at c.in_ok-put_run.ensures.here) c.in_ok-put_run.ensures.before (rw c.deref.ensures.value at c.in_ok-put_run.ensures.behind))
-    c.in_ok-bytes.ensures.bytes
+    c.in_ok-fill.ensures.bytes
