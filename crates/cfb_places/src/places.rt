@@ -155,12 +155,12 @@ impl Places {
         Some(entries)
     }
 
-    /// Makes room for so many blocks that are to be put as entries of a directory. Without it they are moved as more come, and
-    /// take twice their memory meanwhile.
-    pub fn reserve_entries(&mut self, blocks: usize) -> Result<(), AllocError>
+    /// Makes room for so many blocks that are to be put as entries of a directory, and for so many behind them. Without it they
+    /// are moved as more come, and take twice their memory meanwhile.
+    pub fn reserve(&mut self, entries: usize, behind: usize) -> Result<(), AllocError>
         ensures { self.new ≡ self.old }
     {
-        self.pool.reserve(blocks)
+        self.pool.reserve(entries, behind)
     }
 
     /// Puts the bytes of a block, as many as the file has of it, in their place, held as is asked.

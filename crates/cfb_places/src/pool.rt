@@ -100,6 +100,16 @@ impl Blocks {
         push_whole(&mut self.before, bytes)
     }
 
+    /// Makes room for so many blocks of a directory, and for so many behind them.
+    fn reserve(&mut self, entries: usize, behind: usize) -> Result<(), AllocError>
+        ensures { self.new ≡ self.old }
+    {
+        self.directory
+            .reserve((BLOCK / ENTRY_LEN).saturating_mul(entries))?;
+        self.after.reserve_exact(BLOCK.saturating_mul(behind))?;
+        Ok(())
+    }
+
     /// The bytes of some that are held as they are, where they stand so in memory.
     fn slice(&self, at: usize, size: usize) -> Option<&[u8]>
         ensures whole { IfSome result (λ s. length s.now ≡ size) }
@@ -179,13 +189,11 @@ impl Pool {
         self.len
     }
 
-    /// Makes room for so many blocks that are held as entries of a directory.
-    pub(crate) fn reserve(&mut self, blocks: usize) -> Result<(), AllocError>
+    /// Makes room for so many blocks that are held as entries of a directory, and for so many behind them.
+    pub(crate) fn reserve(&mut self, entries: usize, behind: usize) -> Result<(), AllocError>
         ensures { self.new ≡ self.old }
     {
-        self.blocks
-            .directory
-            .reserve((BLOCK / ENTRY_LEN).saturating_mul(blocks))
+        self.blocks.reserve(entries, behind)
     }
 
     /// Adds a block of which these are the first bytes, zeros standing for the others.

@@ -65,7 +65,7 @@ pub fn read_catalog<S: Source>(alloc: Global, source: &mut S) -> Result<Catalog,
     file.put(alloc, 0, &front, Held::Plain)?;
     let sectors = read_lists(alloc, source, &mut file, &header)?;
     let chains = find_chains(alloc, &file, &sectors.fat, &header)?;
-    file.reserve_entries(chains.directory.len())?;
+    file.reserve(chains.directory.len(), chains.mini_fat.len())?;
     read_sectors(alloc, source, &mut file, &chains.directory, Held::Entries)?;
     read_sectors(alloc, source, &mut file, &chains.mini_fat, Held::Plain)?;
     Ok(Catalog { header, file })

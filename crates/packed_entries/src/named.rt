@@ -5,7 +5,6 @@ ghost use Rattle.directory_model.specs.Entries.{IsNamed, child, class_of, first_
 ghost use Rattle.packed_entries.specs.Named.{HoldsName, IsSound, characters_of, laid_out, named_bytes};
 ghost use Rattle.std.specs.Prelude.{◌*◌, ◌+◌, ◌++◌, ◌≡◌, ◌≤◌, ◌∷◌, IfSome, length, replicate, take, true};
 
-use crate::vectors::{are_allowed, is_zero};
 use cfb_bytes::numbers::read_u32;
 use cfb_names::name::Name;
 use directory_model::entries::{Entry, EntryKind};
@@ -32,10 +31,14 @@ fn holds_name(characters: u8x32, count: u8) -> bool
         25, 26, 27, 28, 29, 30, 31,
     ]);
     let inside = places.simd_lt(u8x32::splat(count));
-    let behind = inside.select(u8x32::splat(0), characters);
-    // A letter stands for what isn't looked at.
-    let within = inside.select(characters, u8x32::splat(b'a'));
-    are_allowed(within) && is_zero(behind)
+    let filled = characters.simd_ne(u8x32::splat(0));
+    let slash = characters.simd_eq(u8x32::splat(b'/'));
+    let backslash = characters.simd_eq(u8x32::splat(b'\\'));
+    let colon = characters.simd_eq(u8x32::splat(b':'));
+    let mark = characters.simd_eq(u8x32::splat(b'!'));
+    let past = characters.simd_ge(u8x32::splat(128));
+    let wrong = inside ^ filled | slash | backslash | colon | mark | past;
+    wrong.to_bitmask() == 0
 }
 
 /// How a name lies that begins with these characters, so many.

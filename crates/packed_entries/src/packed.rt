@@ -7,7 +7,6 @@ ghost use Rattle.std.specs.List.{flat_map};
 ghost use Rattle.std.specs.Prelude.{◌*◌, ◌+◌, ◌++◌, ◌≡◌, ◌≤◌, drop, length, replicate, take, true};
 
 use crate::named::{Named, name_of};
-use crate::vectors::is_zero;
 use cfb_bytes::numbers::{read_u16, read_u32};
 use std::alloc::{AllocError, Global};
 use std::marker::Model;
@@ -133,6 +132,14 @@ fn either(a: u8x32, b: u8x32) -> u8x32
     ensures { result ≡ replicate 32 0 → (a ≡ replicate 32 0) × (b ≡ replicate 32 0) }
 {
     a | b
+}
+
+/// Whether all bytes are zero.
+#[inline(always)]
+fn is_zero(bytes: u8x32) -> bool
+    ensures { result ≡ true → bytes ≡ replicate 32 0 }
+{
+    bytes.simd_ne(u8x32::splat(0)).to_bitmask() == 0
 }
 
 /// Whether all of an entry is zero that isn't kept of one which is held in less memory.

@@ -22,10 +22,10 @@ returns-clause-header g c =
     let front : List ℕ = c.in_ok-front.front.items in
     let len : ℕ = c.in_ok-len.len in
     header_same c.read_sectors-2.new.file front len c.in-Ok.header
-    (c.in_ok-read_sectors-2.ensures.len ∙ c.in_ok-read_sectors.ensures.len ∙ ap length c.reserve_entries.ensures ∙ c.in_ok-sectors.ensures.len ∙ c.in_ok-put.ensures.len ∙ c.in_ok-file.ensures)
+    (c.in_ok-read_sectors-2.ensures.len ∙ c.in_ok-read_sectors.ensures.len ∙ ap length c.reserve.ensures ∙ c.in_ok-sectors.ensures.len ∙ c.in_ok-put.ensures.len ∙ c.in_ok-file.ensures)
     (c.in_ok-front.ensures.len ∙ c.min.ensures)
     (subst IsHeader c.deref.ensures.value (c.in-Ok.ensures.whole.0 refl)) (c.in-Ok.ensures.read ∙ ap header_read c.deref.ensures.value)
-    (c.in_ok-read_sectors-2.ensures.front ∙ c.in_ok-read_sectors.ensures.front ∙ ap (λ f. block 512 f 0) c.reserve_entries.ensures ∙ c.in_ok-sectors.ensures.front ∙ c.in_ok-put.ensures.here
+    (c.in_ok-read_sectors-2.ensures.front ∙ c.in_ok-read_sectors.ensures.front ∙ ap (λ f. block 512 f 0) c.reserve.ensures ∙ c.in_ok-sectors.ensures.front ∙ c.in_ok-put.ensures.here
     ∙ ap (λ xs. block 512 xs 0) c.deref-2.ensures.value)
 
 pub returns-clause-whole : goal.returns-clause-whole
@@ -33,10 +33,10 @@ returns-clause-whole g c =
     let front : List ℕ = c.in_ok-front.front.items in
     let len : ℕ = c.in_ok-len.len in
     whole_same c.read_sectors-2.new.file front len c.in-Ok.header
-    (c.in_ok-read_sectors-2.ensures.len ∙ c.in_ok-read_sectors.ensures.len ∙ ap length c.reserve_entries.ensures ∙ c.in_ok-sectors.ensures.len ∙ c.in_ok-put.ensures.len ∙ c.in_ok-file.ensures)
+    (c.in_ok-read_sectors-2.ensures.len ∙ c.in_ok-read_sectors.ensures.len ∙ ap length c.reserve.ensures ∙ c.in_ok-sectors.ensures.len ∙ c.in_ok-put.ensures.len ∙ c.in_ok-file.ensures)
     (c.in_ok-front.ensures.len ∙ c.min.ensures)
     (subst IsHeader c.deref.ensures.value (c.in-Ok.ensures.whole.0 refl)) (c.in-Ok.ensures.read ∙ ap header_read c.deref.ensures.value)
-    (c.in_ok-read_sectors-2.ensures.front ∙ c.in_ok-read_sectors.ensures.front ∙ ap (λ f. block 512 f 0) c.reserve_entries.ensures ∙ c.in_ok-sectors.ensures.front ∙ c.in_ok-put.ensures.here
+    (c.in_ok-read_sectors-2.ensures.front ∙ c.in_ok-read_sectors.ensures.front ∙ ap (λ f. block 512 f 0) c.reserve.ensures ∙ c.in_ok-sectors.ensures.front ∙ c.in_ok-put.ensures.here
     ∙ ap (λ xs. block 512 xs 0) c.deref-2.ensures.value)
 
 pub returns-clause-alike : goal.returns-clause-alike
@@ -57,7 +57,7 @@ returns-clause-alike g c =
     let ns_2 : List ℕ = c.deref-5.result.now in
     let len_0 : length b0 ≡ len = c.in_ok-put.ensures.len ∙ c.in_ok-file.ensures in
     let len_1 : length b1 ≡ len = c.in_ok-sectors.ensures.len ∙ len_0 in
-    let len_2 : length b2 ≡ len = c.in_ok-read_sectors.ensures.len ∙ ap length c.reserve_entries.ensures ∙ len_1 in
+    let len_2 : length b2 ≡ len = c.in_ok-read_sectors.ensures.len ∙ ap length c.reserve.ensures ∙ len_1 in
     let at_1 : g.S.Source.bytes c.read_len.new.source ≡ known = c.in_ok-len.ensures.kept in
     let at_2 : g.S.Source.bytes c.read_bytes.new.source ≡ known = c.in_ok-front.ensures.kept ∙ at_1 in
     let at_3 : g.S.Source.bytes c.read_lists.new.source ≡ known = c.in_ok-sectors.ensures.kept ∙ at_2 in
@@ -68,7 +68,7 @@ returns-clause-alike g c =
     cataloged a b0 b1 b2 b3 front found.table ns len h e (c.in_ok-read_sectors-2.ensures.len ∙ len_2) len_1
     (c.in_ok-front.ensures.len ∙ c.min.ensures) is
     (subst IsHeader c.deref.ensures.value (c.in-Ok.ensures.whole.0 refl)) (c.in-Ok.ensures.read ∙ ap header_read c.deref.ensures.value)
-    (c.in_ok-read_sectors-2.ensures.front ∙ c.in_ok-read_sectors.ensures.front ∙ ap (λ f. block 512 f 0) c.reserve_entries.ensures ∙ c.in_ok-sectors.ensures.front ∙ c.in_ok-put.ensures.here
+    (c.in_ok-read_sectors-2.ensures.front ∙ c.in_ok-read_sectors.ensures.front ∙ ap (λ f. block 512 f 0) c.reserve.ensures ∙ c.in_ok-sectors.ensures.front ∙ c.in_ok-put.ensures.here
     ∙ ap (λ xs. block 512 xs 0) c.deref-2.ensures.value)
     (r (e ∙ sym len_0)) found.count found.each
     (chain_was_read a b1 b2 found.table directory h.first_directory found.directory_found (subst (IsRead a b1 b2) c.deref-4.ensures.value (s (e ∙ sym len_1))))
@@ -77,5 +77,5 @@ returns-clause-alike g c =
     (front_known (g.S.Source.bytes c.read_len.new.source) known front c.min.result (min len 512) at_1 c.min.ensures c.in_ok-front.ensures.bytes)
     (some_same (g.S.Source.bytes c.read_bytes.new.source) known (λ a. length a ≡ length b0 → AreListsRead a b0 b1 h ns) at_2 c.in_ok-sectors.ensures.read)
     (some_same (g.S.Source.bytes c.read_lists.new.source) known (λ a. length a ≡ length b1 → IsRead a b1 b2 ns_1) at_3
-    (subst (λ (f : List ℕ). IfSome (g.S.Source.bytes c.read_lists.new.source) (λ a. length a ≡ length f → IsRead a f b2 ns_1)) c.reserve_entries.ensures c.in_ok-read_sectors.ensures.read))
+    (subst (λ (f : List ℕ). IfSome (g.S.Source.bytes c.read_lists.new.source) (λ a. length a ≡ length f → IsRead a f b2 ns_1)) c.reserve.ensures c.in_ok-read_sectors.ensures.read))
     (some_same (g.S.Source.bytes c.read_sectors.new.source) known (λ a. length a ≡ length b2 → IsRead a b2 b3 ns_2) at_4 c.in_ok-read_sectors-2.ensures.read)
