@@ -10,7 +10,7 @@ ghost use Rattle.cfb_directory.specs.Held.{held};
 ghost use Rattle.cfb_directory.specs.Streams.{IsStreamEntry};
 ghost use Rattle.cfb_names.specs.Names.{key};
 ghost use Rattle.std.specs.List.{All};
-ghost use Rattle.std.specs.Prelude.{[], ◌*◌, ◌++◌, ◌<◌, ◌∷◌, ◌≡◌, ◌≢◌, ◌↔◌, IfErr, IfOk, IsTrue, List, OnOk, length, slice_index_or, suc, take, true, ℕ};
+ghost use Rattle.std.specs.Prelude.{[], ◌*◌, ◌<◌, ◌≡◌, ◌≢◌, ◌↔◌, IfErr, IfOk, IsTrue, List, OnOk, length, slice_index_or, suc, take, true, ℕ};
 ghost use Rattle.storage_tree.specs.Change.{Seen};
 ghost use Rattle.storage_tree.specs.Kept.{kept};
 ghost use Rattle.storage_tree.specs.Tree as tree;
@@ -22,7 +22,6 @@ ghost use Rattle.outline_entries.specs.Places.{IsFileKept, IsPlaced, Leads};
 ghost use Rattle.stream_io.specs.Marks.{IsNext};
 ghost use Rattle.stream_io.specs.Reads.{AreSorted, IsChildPushed, IsChildRead, IsNodeRead, IsOutlined, IsPartOutlined, IsStorageRead, MayRefuseFile, MayRefuseFind, MayRefusePlace, MayRefuseStorage, MayRefuseStream, MayWant, chain_fault, directory_in, met, stream_after};
 ghost use Rattle.file_outline.specs.Streams.{stream_at};
-ghost use Rattle.file_outline.specs.declared.outline.Part.TheVariants.{Stream};
 ghost use Rattle.file_outline.specs.View.{contents, outline_view, shown, table_for};
 ghost use Rattle.stream_io.specs.View.{directory_bytes};
 ghost use Rattle.stream_io.specs.declared.fault.ReadFault.TheVariants.{NoMemory};
@@ -49,15 +48,6 @@ use stored_values::class_id::ClassId;
 
 /// How many storages may stand inside one another below the root.
 const DEEPEST: u32 = 32;
-
-/// Puts a name and where its stream lies behind those so far.
-#[inline(never)]
-fn push_part(parts: &mut Vec<(Name, Part)>, name: &Name, place: Place) -> Result<(), ReadFault>
-    ensures pushed { OnOk result (parts.new.items ≡ parts.old.items ++ (name.now, Stream place) ∷ []) }
-    ensures refused { IfErr result (λ e. e ≡ NoMemory) }
-{
-    Ok(parts.push((name.copy(), Part::Stream(place)))?)
-}
 
 /// The tables of a file, which mark what was read of it, and its directory.
 #[derive(Drop)]
@@ -111,7 +101,7 @@ impl<'a, 'd> Reader<'a, 'd> {
         self.mark_stream(place)?;
         match keep.below(stream.name) {
             Keep::Nothing => Ok(()),
-            _ => push_part(parts, stream.name, place),
+            _ => Ok(parts.push((stream.name.copy(), Part::Stream(place)))?),
         }
     }
 
@@ -190,28 +180,6 @@ impl<'a, 'd> Reader<'a, 'd> {
         if let Some(stream) = self.entries.stream(id) {
             return self.push_stream(id, stream, keep, parts);
         }
-        self.push_entry(alloc, id, depth, keep, parts)
-    }
-
-    /// The same of an entry of which nothing is lent. It is never built into who calls, who would clear room for it for each stream.
-    ///
-    /// Refused: as `Entries::entry` and `part_outline`, and `NoMemory`.
-    #[cycle(storages)]
-    #[inline(never)]
-    fn push_entry(
-        &mut self,
-        alloc: Global,
-        id: u32,
-        depth: u32,
-        keep: Keep<'_>,
-        parts: &mut Vec<(Name, Part)>,
-    ) -> Result<(), ReadFault>
-        requires below_root { id ≢ 0 }
-        requires root_marked { slice_index_or self.old.entries.used 0 true ≡ true }
-        ensures outlined { OnOk result (IsChildPushed depth id (wanted keep.entry) parts.old.items parts.new.items self.old self.new) }
-        ensures there { (k name : List ℕ) (s : Seen) (new : reader.Reader) → IsChildRead depth id k name s self.old new → IfErr result (λ e. e ≡ NoMemory) }
-        ensures refused { (b : Base) (pending : List ℕ) → IsNext b depth id pending self.old → IfErr result (MayRefuseStorage b) }
-    {
         let entry = self.entries.entry(id)?;
         let below = keep.below(&entry.name);
         let part = self.part_outline(alloc, id, &entry, depth, below)?;

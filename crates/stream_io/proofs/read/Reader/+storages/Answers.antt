@@ -25,17 +25,17 @@ push_child-returns-in-Some-clause-there t c = c.push_stream.ensures.there c.args
 pub push_child-returns-in-Some-clause-refused : goal.push_child-returns-in-Some-clause-refused
 push_child-returns-in-Some-clause-refused t c = λ b pending at. c.push_stream.ensures.refused b c.args.depth pending at
 
-pub push_entry-returns-in_err-entry-clause-there : goal.push_entry-returns-in_err-entry-clause-there
-push_entry-returns-in_err-entry-clause-there t c = λ k name s new h.
+pub push_child-returns-in_err-entry-clause-there : goal.push_child-returns-in_err-entry-clause-there
+push_child-returns-in_err-entry-clause-there t c = λ k name s new h.
     absurd (entry_not_refused c.args.depth c.args.id k name s c.args.self.now new c.in_err-entry.field-0.0 c.requires.below_root h c.in_err-entry.ensures.refused)
 
-pub push_entry-returns-in_err-entry-clause-refused : goal.push_entry-returns-in_err-entry-clause-refused
-push_entry-returns-in_err-entry-clause-refused t c = λ b pending at.
+pub push_child-returns-in_err-entry-clause-refused : goal.push_child-returns-in_err-entry-clause-refused
+push_child-returns-in_err-entry-clause-refused t c = λ b pending at.
     refused_with c.from_residual.result (directory_fault c.in_err-entry.field-0.0) (MayRefuseStorage b) c.from_residual.ensures.1
     (entry_below b c.args.depth c.args.id pending c.args.self.now at c.in_err-entry.field-0.0 c.requires.below_root c.in_err-entry.ensures.refused)
 
-pub push_entry-returns-in_err-part-clause-refused : goal.push_entry-returns-in_err-part-clause-refused
-push_entry-returns-in_err-part-clause-refused t c = λ b pending at.
+pub push_child-returns-in_err-part-clause-refused : goal.push_child-returns-in_err-part-clause-refused
+push_child-returns-in_err-part-clause-refused t c = λ b pending at.
     let again : IsErrAnd c.from_residual-in_err-part.result (λ x. x ≡ c.in_err-part.field-0.0) = search rules in
     refused_with c.from_residual-in_err-part.result c.in_err-part.field-0.0 (MayRefuseStorage b) again (c.in_err-part.ensures.refused b pending at)
 
@@ -119,8 +119,8 @@ storage_outline-returns-clause-outlined t c =
     outlined_all o c.in_ok-ids.ids c.loop-child.parts c.from_bytes.result c.args.entry.now.state c.loop-child-test.false (ap length c.deref-child-items.ensures.value)
     c.loop-child.invariant (c.from_bytes.ensures ∙ c.requires.entry.class) c.requires.entry.state
 
-pub push_entry-returns-in-Nothing-clause-outlined : goal.push_entry-returns-in-Nothing-clause-outlined
-push_entry-returns-in-Nothing-clause-outlined t c =
+pub push_child-returns-in-Nothing-clause-outlined : goal.push_child-returns-in-Nothing-clause-outlined
+push_child-returns-in-Nothing-clause-outlined t c =
     let h = c.in_ok-part.ensures.outlined in
     record {
       child = None;
@@ -135,20 +135,24 @@ push_entry-returns-in-Nothing-clause-outlined t c =
       pushed = refl;
     }
 
-pub push_entry-returns-in_ok-push-in_default-clause-outlined : goal.push_entry-returns-in_ok-push-in_default-clause-outlined
-push_entry-returns-in_ok-push-in_default-clause-outlined t c =
+pub push_child-returns-in_ok-push-in_default-below : goal.push_child-returns-in_ok-push-in_default-below
+push_child-returns-in_ok-push-in_default-below t c =
     let h = c.in_ok-part.ensures.outlined in
     record {
-      child = Some (c.in_ok-entry.entry.name, c.in_ok-part.part);
       outlined = record {
-        name = c.in_ok-entry.entry.name;
-        whole = h.whole;
-        is_read = search rules;
-        sized = h.sized;
-        told = h.told;
-        is_kept = (refl, subst (λ (x : Wanted). IsPartKeptOf x h.whole c.in_ok-part.part) c.below-below.ensures h.is_kept);
+        child = Some (c.in_ok-entry.entry.name, c.in_ok-part.part);
+        outlined = record {
+          name = c.in_ok-entry.entry.name;
+          whole = h.whole;
+          is_read = search rules;
+          sized = h.sized;
+          told = h.told;
+          is_kept = (refl, subst (λ (x : Wanted). IsPartKeptOf x h.whole c.in_ok-part.part) c.below-below.ensures h.is_kept);
+        };
+        pushed = c.in_ok-push-in_default-below.ensures.items;
       };
-      pushed = c.in_ok-push-in_default.ensures.items;
+      there = λ k name s new r. tt;
+      refused = λ b pending at. tt;
     }
 
 pub part_outline-returns-in_ok-mark_stream-in-Stream-clause-outlined : goal.part_outline-returns-in_ok-mark_stream-in-Stream-clause-outlined
