@@ -10,7 +10,7 @@ use folder_program::packing::pack;
 use program_ends::command_lines::{CLEAN, FILE, GET, JSON, LIST, LONG, MAKE, OUT, PATH};
 use program_ends::ends::refuse;
 use program_ends::making::{count_made, make};
-use std::alloc::Global;
+use program_ends::memory::keep_blocks;
 use std::process::ExitCode;
 use std::rt::Runtime;
 
@@ -84,15 +84,6 @@ fn make_described<R: Runtime + AllocGlobal>(rt: &R, path: &str) -> ExitCode {
         |new| count_made(make_with_tree(rt.alloc(), &mut rt.reader(), new)),
         |path, fault| refuse(rt, &fault.report(path)),
     )
-}
-
-/// How many bytes a block has that is taken once and given back untouched.
-const KEPT: usize = 8_388_608;
-
-/// Has large blocks of memory used again: the C library's malloc asks the system for each of them, whose pages are then touched
-/// anew, until one of that size was given back; from then on it keeps those that it has.
-fn keep_blocks(alloc: Global) {
-    drop(Vec::<u8>::with_capacity(alloc, KEPT));
 }
 
 fn making<'a>(made: &ArgMatches<'a>) -> Option<Task<'a>> {

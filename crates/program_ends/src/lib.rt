@@ -6,5 +6,6 @@ pub mod command_lines;
 pub mod ends;
 pub mod journals;
 pub mod making;
+pub mod memory;
 pub mod new_file;
 pub mod starts;

@@ -3,6 +3,7 @@
 use crate::command_lines::{FILE, making_line};
 use crate::ends::{answer_usage, refuse_command, refuse_start};
 use crate::making::make;
+use crate::memory::keep_blocks;
 use crate::new_file::NewFile;
 use clap::ArgMatches;
 use std::alloc::AllocError;
@@ -59,6 +60,7 @@ where
     requires writes { F.IsAlwaysCallable write }
     requires tells { T.IsAlwaysCallable tell }
 {
+    keep_blocks(rt.alloc());
     match start(rt, write, tell) {
         Ok(code) => code,
         Err(error) => refuse_start(rt, &error),
