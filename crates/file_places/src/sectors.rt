@@ -88,7 +88,7 @@ pub(crate) fn read_sectors<S: Source>(
     ensures told { IfErr result IsOfReading }
     ensures kept { S.bytes source.new ≡ S.bytes source.old }
 {
-    // One buffer for all runs: room that is cleared anew for each costs a sixth of what reading a directory does.
+    // One buffer for all runs, so that none is cleared anew for each.
     let mut buffer = Vec::new(alloc);
     let mut at = 0;
     while at < sectors.len() {
