@@ -479,8 +479,8 @@ impl<'a> Entries<'a> {
         self.table.name(id)
     }
 
-    /// The name of an entry below the root, as `name` tells it, where it was read as the entry was packed: of nearly all that are
-    /// packed, and of none that stands as in the file. Nothing is copied and nothing tested.
+    /// The name of an entry below the root, as `name` tells it, where it was read as the entry was packed: that of no entry which
+    /// stands as in the file, nor of one with a class id, state bits or times. Nothing is copied and nothing tested.
     pub fn known_name(&self, id: u32) -> Option<&'a Name>
         ensures read { IfSome result (λ name. IsNameOf id (entry_at self.now.directory id) name.now) }
         ensures valid { IfSome result (λ name. IsName name.now) }

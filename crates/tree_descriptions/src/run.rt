@@ -22,7 +22,7 @@ use texts::words::read_content;
 const LONGEST_WORD: usize = 32_768;
 
 /// A tree of which so far streams of the root alone are described, in name order, and how many bytes they have together,
-/// which is no more than a file has. Most descriptions are so from their first line to their last.
+/// which is no more than a file has.
 #[derive(Drop)]
 pub struct Run {
     pub tree: Rising,
