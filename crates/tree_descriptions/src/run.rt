@@ -60,7 +60,7 @@ impl Run {
     pub fn take_line(&mut self, alloc: Global, line: &[u8]) -> bool
         ensures { TakesLine result line.now self.old self.new }
     {
-        // Nearly all lines are so, and neither a path nor bytes in memory of their own are made of them.
+        // Neither a path nor bytes in memory of their own are made of such a line.
         if let Some((name, word)) = plain_stream(line) {
             if word.len() <= LONGEST_WORD {
                 return self.take_word(alloc, &name, word);
