@@ -1,5 +1,5 @@
 -- The table of the characters that a name can hold.
-use Rattle.std.proofs.Common.{◌≡◌, ◌≢◌, ◌≤◌, ◌++◌, ℕ, List, ◌∷◌, Bool, true, false, cond, nat_eq, slice_index_or, refl, ap, sym, ◌∙◌, arith}
+use Rattle.std.proofs.Common.{◌≡◌, ◌≢◌, ◌≤◌, ◌++◌, ℕ, List, ◌∷◌, Bool, true, false, cond, eqb-true, nat_eq, slice_index_or, refl, ap, sym, ◌∙◌, arith}
 use Rattle.std.specs.List.{range_with_len}
 use Rattle.cfb_names.specs.Names.{is_forbidden}
 use Rattle.packed_entries.proofs.Allowed.{every-is}
@@ -7,9 +7,6 @@ use Rattle.packed_entries.proofs.Allowed.{every-is}
 abbrev table : List ℕ
 table =
     0 ∷ (range_with_len 1 32 ++ (0 ∷ range_with_len 34 13) ++ (0 ∷ range_with_len 48 10) ++ (0 ∷ range_with_len 59 33) ++ (0 ∷ range_with_len 93 35))
-
-equal : (a b : ℕ) → nat_eq a b ≡ true → a ≡ b
-equal a b h = grind (arith, h)
 
 -- what the table has for a character
 abbrev kept : ℕ → ℕ
@@ -24,7 +21,7 @@ told c n l at = ap (λ (k : ℕ). cond (is_forbidden c) (nat_eq (slice_index_or 
 
 pub allowed : (c k : ℕ) → cond (is_forbidden c) (nat_eq k 0) (nat_eq k c) ≡ true → k ≢ 0 → (k ≡ c) × (is_forbidden c ≡ false)
 allowed c k h some = elim (is_forbidden c) as (λ b. is_forbidden c ≡ b → cond b (nat_eq k 0) (nat_eq k c) ≡ true → (k ≡ c) × (is_forbidden c ≡ false)) [
-  | true ↦ λ q g. absurd (some (equal k 0 g))
+  | true ↦ λ q g. absurd (some (eqb-true k 0 g))
   | false ↦ λ q g. (equal k c g, q)
 ] refl h
 

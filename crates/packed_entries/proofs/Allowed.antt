@@ -3,15 +3,13 @@ use Rattle.std.proofs.Common.{◌≡◌, ◌≤◌, ◌<◌, ◌+◌, ◌-◌, �
 use Rattle.std.proofs.lemmas.Bool.{cases_lt}
 use Rattle.std.proofs.lemmas.List.{length-map}
 use Rattle.std.proofs.lemmas.Simd.{mask_l-mod}
+use Rattle.std.proofs.Math.Seq.{drop-nil, take-nil}
 use lib.Lanes.{zip2, mask_l, top, Each1}
 use Rattle.std.specs.List.{list_any, range_with_len}
 use Rattle.cfb_names.specs.Names.{is_forbidden}
 use Rattle.packed_entries.specs.Named.{HoldsName}
 
 -- ---- what holds of each number below another
-equal : (a b : ℕ) → nat_eq a b ≡ true → a ≡ b
-equal a b h = grind (arith, h)
-
 abbrev pub every : (ℕ → Bool) → ℕ → Bool
 every p zero = true
 every p (suc n) = cond (p n) (every p n) false
@@ -19,7 +17,7 @@ every p (suc n) = cond (p n) (every p n) false
 pub every-is : (p : ℕ → Bool) (n d : ℕ) → every p n ≡ true → d < n → p d ≡ true
 every-is p zero d h l = absurd (omega (arith, l))
 every-is p (suc n) d h l = elim (p n) as (λ b. p n ≡ b → cond b (every p n) false ≡ true → p d ≡ true) [
-  | true ↦ λ q g. elim (nat_eq d n) as (λ b. nat_eq d n ≡ b → p d ≡ true) [ true ↦ λ e. ap p (equal d n e) ∙ q | false ↦ λ e. every-is p n d g (grind (arith, l, e)) ] refl
+  | true ↦ λ q g. elim (nat_eq d n) as (λ b. nat_eq d n ≡ b → p d ≡ true) [ true ↦ λ e. ap p (eqb-true d n e) ∙ q | false ↦ λ e. every-is p n d g (grind (arith, l, e)) ] refl
   | false ↦ λ q g. absurd (search rules)
 ] refl h
 
@@ -70,7 +68,7 @@ allowed x low none =
     go false false p q e = (p, q)
 
 nothing : (x : ℕ) → x < 256 → top 7 (flag false x) ≡ false → x ≡ 0
-nothing x low none = equal x 0 (sym (ap (λ b. cond b true (nat_eq x 0)) none) ∙ every-is told_behind 256 x refl low)
+nothing x low none = eqb-true x 0 (sym (ap (λ b. cond b true (nat_eq x 0)) none) ∙ every-is told_behind 256 x refl low)
 
 no_flag : (b : Bool) (m : ℕ) → cond b 1 0 + 2 * m ≡ 0 → (b ≡ false) × (m ≡ 0)
 no_flag true m e = absurd (omega (arith, e))
@@ -88,20 +86,14 @@ record HoldFrom (i n count : ℕ) (xs : List ℕ) : Type 0 where
   allowed_are : list_any is_forbidden (take (count - i) xs) ≡ false
   zeros : drop (count - i) xs ≡ replicate (n - (count - i)) 0
 
-none_of_nothing : (m : ℕ) (p : ℕ → Bool) → list_any p (take m []) ≡ false
-none_of_nothing zero p = refl
-none_of_nothing (suc m) p = refl
-
-behind_nothing : (m : ℕ) → drop {A = ℕ} m [] ≡ replicate (0 - m) 0
-behind_nothing m = let k : 0 - m ≡ 0 = omega arith in go m ∙ ap (λ (j : ℕ). replicate j 0) (sym k)
-  where
-    go : (m : ℕ) → drop {A = ℕ} m [] ≡ []
-    go zero = refl
-    go (suc m) = refl
-
 unflagged : (i n count : ℕ) (xs : List ℕ) → length xs ≡ n → Each1 (Fits w8) xs → mask_l (map (top 7) (flags i n count xs)) ≡ 0 → HoldFrom i n count xs
 unflagged i zero count [] long fits e =
-    record { ascii = none_of_nothing (count - i) (nat_le 128); allowed_are = none_of_nothing (count - i) is_forbidden; zeros = behind_nothing (count - i) }
+    let none : 0 - (count - i) ≡ 0 = omega arith in
+    record {
+      ascii = ap (list_any (nat_le 128)) (take-nil (count - i));
+      allowed_are = ap (list_any is_forbidden) (take-nil (count - i));
+      zeros = drop-nil (count - i) ∙ ap (λ (j : ℕ). replicate j 0) (sym none);
+    }
 unflagged i zero count (x ∷ xs) long fits e = absurd (omega (arith, long))
 unflagged i (suc n) count [] long fits e = absurd (omega (arith, long))
 unflagged i (suc n) count (x ∷ xs) long fits e =

@@ -52,13 +52,16 @@ block_whole w bytes long =
     (λ i. take_all w bytes (omega (arith, long)) i ++ replicate (none i) 0) ∙ append-nil bytes
 
 -- all parts of an entry make it up
+pub length_laid : (characters head place : List ℕ) → length characters ≡ 32 → length head ≡ 16 → length place ≡ 7 → length (laid_out characters head place) ≡ 128
+length_laid characters head place n h p =
+    let units : List ℕ = flat_map unit characters in
+    let zeros : List ℕ = replicate 36 0 in
+    length-append (units ++ head ++ zeros ++ place) (replicate 5 0)
+    ∙ omega (arith, length-append (units ++ head ++ zeros) place, length-append (units ++ head) zeros, length-append units head, length_units characters, n, h, p)
+
 pub length_spelled : (s : Short) → length s.name ≡ 32 → length s.head ≡ 16 → length s.place ≡ 7 → length (spelled s) ≡ 128
 unfolding spelled
-length_spelled s n h p =
-    let units : List ℕ = flat_map unit s.name in
-    let zeros : List ℕ = replicate 36 0 in
-    length-append (units ++ s.head ++ zeros ++ s.place) (replicate 5 0)
-    ∙ omega (arith, length-append (units ++ s.head ++ zeros) s.place, length-append (units ++ s.head) zeros, length-append units s.head, length_units s.name, n, h, p)
+length_spelled s n h p = length_laid s.name s.head s.place n h p
 
 -- the first bytes, and then zeros
 pub fronted : (bytes : List ℕ) (n : ℕ) → n ≡ min (length bytes) 128 → take n bytes ++ drop n (replicate 128 0) ≡ block 128 bytes 0
@@ -151,23 +154,25 @@ back old more slots n is long =
     ∙ take-append-le (length old) old more (omega arith) ∙ take_all (length old) old (omega arith)
 
 -- ---- numbers in the head of an entry
+pub head_cut : (characters head place : List ℕ) → length characters ≡ 32 → length head ≡ 16 → length place ≡ 7 → (at m : ℕ) → at + m ≤ 16
+    → take m (drop (64 + at) (block 128 (laid_out characters head place) 0)) ≡ take m (drop at head)
+head_cut characters head place n h p at m few =
+    let units : List ℕ = flat_map unit characters in
+    let tail : List ℕ = replicate 36 0 ++ (place ++ replicate 5 0) in
+    let whole : block 128 (laid_out characters head place) 0 ≡ units ++ (head ++ tail) =
+    block_whole 128 (laid_out characters head place) (length_laid characters head place n h p) ∙ sym (placed characters head place) in
+    let start : 64 + at ≡ length units + at = omega (arith, length_units characters, n) in
+    let cut : drop (64 + at) (units ++ (head ++ tail)) ≡ drop at head ++ tail =
+    ap (λ k. drop k (units ++ (head ++ tail))) start ∙ drop-append-add units (head ++ tail) at ∙ drop-append-le at head tail (omega (arith, few, h)) in
+    ap (λ xs. take m (drop (64 + at) xs)) whole ∙ ap (take m) cut ∙ take-append-le m (drop at head) tail (omega (arith, few, h, length-drop at head))
+
 pub in_head : (s : Short) (at : ℕ) → length s.name ≡ 32 → length s.head ≡ 16 → length s.place ≡ 7 → 64 ≤ at → at + 4 ≤ 80
     → u32_at s.head (at - 64) ≡ u32_at (block 128 (spelled s) 0) at
 unfolding spelled u32_at
 in_head s at n h p from to =
-    let units : List ℕ = flat_map unit s.name in
-    let zeros : List ℕ = replicate 36 0 in
-    let tail : List ℕ = replicate 5 0 in
-    let rest : List ℕ = zeros ++ (s.place ++ tail) in
-    let behind : List ℕ = drop (at - 64) s.head in
-    let place : at ≡ length units + (at - 64) = omega (arith, from, length_units s.name, n) in
-    let there : at ≤ length (units ++ s.head) = omega (arith, to, length-append units s.head, length_units s.name, n, h) in
-    let some : 4 ≤ length behind = omega (arith, from, to, h, length-drop (at - 64) s.head) in
-    let whole : block 128 (spelled s) 0 ≡ (units ++ s.head) ++ rest =
-    block_whole 128 (spelled s) (length_spelled s n h p) ∙ append_assoc (units ++ s.head ++ zeros) s.place tail ∙ append_assoc (units ++ s.head) zeros (s.place ++ tail) in
-    let cut : drop at ((units ++ s.head) ++ rest) ≡ behind ++ rest =
-    drop-append-le at (units ++ s.head) rest there ∙ ap (λ k. drop k (units ++ s.head) ++ rest) place ∙ ap (λ xs. xs ++ rest) (drop-append-add units s.head (at - 64)) in
-    ap (from_le_bytes w32) (sym (ap (λ xs. take 4 (drop at xs)) whole ∙ ap (take 4) cut ∙ take-append-le 4 behind rest some))
+    let place : 64 + (at - 64) ≡ at = omega (arith, from) in
+    ap (from_le_bytes w32)
+    (sym (head_cut s.name s.head s.place n h p (at - 64) 4 (omega (arith, from, to))) ∙ ap (λ k. take 4 (drop k (block 128 (laid_out s.name s.head s.place) 0))) place)
 
 -- ---- sixteen bytes at a time
 

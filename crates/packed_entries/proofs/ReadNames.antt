@@ -1,6 +1,6 @@
 -- What stands in the bytes of an entry whose name was read.
-use Rattle.std.proofs.Common.{◌≡◌, ◌<◌, ◌≤◌, ◌+◌, ◌-◌, ◌*◌, ◌/◌, ℕ, zero, suc, List, [], ◌∷◌, ◌++◌, length, take, drop, get_or, replicate, refl, sym, ◌∙◌, ap, subst, arith, append_assoc, drop-drop, length-append, length-drop}
-use Rattle.std.proofs.lemmas.List.{drop-append-le, get_or-drop, get_or-take, length-replicate, length-take-le, take-append-drop, take-append-le, take_all}
+use Rattle.std.proofs.Common.{◌≡◌, ◌<◌, ◌≤◌, ◌+◌, ◌-◌, ◌*◌, ◌/◌, ℕ, zero, suc, List, [], ◌∷◌, ◌++◌, length, take, drop, get_or, replicate, sym, ◌∙◌, ap, subst, arith, drop-drop, length-append}
+use Rattle.std.proofs.lemmas.List.{get_or-drop, get_or-take, length-replicate, length-take-le, take-append-drop, take-append-le, take-replicate, take_all}
 use lib.Lanes.{pick_l}
 use Rattle.std.proofs.Math.ListN.{get_or-append}
 use Rattle.std.proofs.Math.Seq.{drop-append-add, take-append-add}
@@ -12,23 +12,16 @@ use Rattle.cfb_names.specs.View.{IsHeld, name_held, units_of}
 use Rattle.directory_model.specs.Entries.{IsNamed, class_of, first_of, kind, name_length, size_of, state_of}
 use Rattle.directory_model.proofs.Reading.{chars}
 use Rattle.packed_entries.specs.Named.{HoldsName, IsSound, NamedValue, characters_of, laid_out, named_bytes, unit}
-use Rattle.packed_entries.proofs.Held.{block_whole, by_elements, length_units}
+use Rattle.packed_entries.proofs.Held.{block_whole, by_elements, head_cut, length_laid, length_units, placed}
 
 -- a name with zeros behind it
 pub characters_long : (name : List ℕ) → length name ≤ 31 → length (characters_of name) ≡ 32
 characters_long name short = length-append name (replicate (32 - length name) 0) ∙ omega (arith, short, length-replicate {A = ℕ} (32 - length name) 0)
 
-pub laid_long : (characters head place : List ℕ) → length characters ≡ 32 → length head ≡ 16 → length place ≡ 7 → length (laid_out characters head place) ≡ 128
-laid_long characters head place n h p =
-    let units : List ℕ = flat_map unit characters in
-    let zeros : List ℕ = replicate 36 0 in
-    length-append (units ++ head ++ zeros ++ place) (replicate 5 0)
-    ∙ omega (arith, length-append (units ++ head ++ zeros) place, length-append (units ++ head) zeros, length-append units head, length_units characters, n, h, p)
-
 pub whole : (n : NamedValue) → IsSound n → named_bytes n ≡ laid_out (characters_of n.name) n.head n.place
 unfolding named_bytes
 whole n s =
-    block_whole 128 (laid_out (characters_of n.name) n.head n.place) (laid_long (characters_of n.name) n.head n.place (characters_long n.name s.valid.short) s.head s.place)
+    block_whole 128 (laid_out (characters_of n.name) n.head n.place) (length_laid (characters_of n.name) n.head n.place (characters_long n.name s.valid.short) s.head s.place)
 
 -- two bytes of a character
 unit_read : (characters rest : List ℕ) (k : ℕ) → k < length characters → u16_at (flat_map unit characters ++ rest) (2 * k) ≡ get_or characters k 0
@@ -43,9 +36,6 @@ unit_read (c ∷ characters) rest (suc k) lt =
     ap (λ m. from_le_bytes w16 (take 2 (drop m (c ∷ 0 ∷ (flat_map unit characters ++ rest))))) n ∙ unit_read characters rest k (omega (arith, lt))
 
 module _ (n : NamedValue) (s : IsSound n) where
-  name : List ℕ
-  name = n.name
-
   abbrev units : List ℕ
   units = flat_map unit (characters_of n.name)
 
@@ -57,11 +47,7 @@ module _ (n : NamedValue) (s : IsSound n) where
 
   -- its name, and what stands behind it
   parted : named_bytes n ≡ units ++ (n.head ++ tail)
-  parted =
-      whole n s
-      ∙ append_assoc (units ++ n.head ++ replicate 36 0) n.place (replicate 5 0)
-      ∙ append_assoc (units ++ n.head) (replicate 36 0) (n.place ++ replicate 5 0)
-      ∙ append_assoc units n.head tail
+  parted = whole n s ∙ sym (placed (characters_of n.name) n.head n.place)
 
   -- what stands behind its name, and behind its links
   behind_name : drop 64 (named_bytes n) ≡ n.head ++ tail
@@ -75,24 +61,22 @@ module _ (n : NamedValue) (s : IsSound n) where
       sym (drop-drop 16 64 (named_bytes n)) ∙ ap (drop 16) behind_name ∙ ap (λ k. drop k (n.head ++ tail)) m ∙ drop-append-add n.head tail 0
 
   -- bytes of its head
-  head_cut : (at m : ℕ) → at + m ≤ 16 → take m (drop (64 + at) (named_bytes n)) ≡ take m (drop at n.head)
-  head_cut at m few =
-      let behind : drop (64 + at) (named_bytes n) ≡ drop at n.head ++ tail =
-      sym (drop-drop at 64 (named_bytes n)) ∙ ap (drop at) behind_name ∙ drop-append-le at n.head tail (omega (arith, few, s.head)) in
-      ap (take m) behind ∙ take-append-le m (drop at n.head) tail (omega (arith, few, s.head, length-drop at n.head))
+  in_its_head : (at m : ℕ) → at + m ≤ 16 → take m (drop (64 + at) (named_bytes n)) ≡ take m (drop at n.head)
+  unfolding named_bytes
+  in_its_head at m few = head_cut (characters_of n.name) n.head n.place (characters_long n.name s.valid.short) s.head s.place at m few
 
   pub number_read : (at : ℕ) → at + 4 ≤ 16 → u32_at n.head at ≡ u32_at (named_bytes n) (64 + at)
   unfolding u32_at
-  number_read at few = ap (from_le_bytes w32) (sym (head_cut at 4 few))
+  number_read at few = ap (from_le_bytes w32) (sym (in_its_head at 4 few))
 
   length_read : u16_at n.head 0 ≡ u16_at (named_bytes n) 64
   unfolding u16_at
-  length_read = ap (from_le_bytes w16) (sym (head_cut 0 2 (omega arith)))
+  length_read = ap (from_le_bytes w16) (sym (in_its_head 0 2 (omega arith)))
 
   pub kind_read : get_or n.head 2 0 ≡ kind (named_bytes n)
   kind_read =
       sym (get_or-take 1 (drop 2 n.head) 0 0 (omega arith) ∙ get_or-drop 2 n.head 0 0)
-      ∙ ap (λ xs. get_or xs 0 0) (sym (head_cut 2 1 (omega arith)))
+      ∙ ap (λ xs. get_or xs 0 0) (sym (in_its_head 2 1 (omega arith)))
       ∙ get_or-take 1 (drop 66 (named_bytes n)) 0 0 (omega arith) ∙ get_or-drop 66 (named_bytes n) 0 0
 
   -- zeros
@@ -156,11 +140,6 @@ module _ (characters : List ℕ) (count : ℕ) (long : length characters ≡ 32)
   front_long : length front ≡ count
   front_long = length-take-le count characters (omega (arith, long, few))
 
-  zeros_cut : (m k : ℕ) → m ≤ k → take m (replicate {A = ℕ} k 0) ≡ replicate m 0
-  zeros_cut zero k le = refl
-  zeros_cut (suc m) zero le = absurd (omega (arith, le))
-  zeros_cut (suc m) (suc k) le = ap (λ xs. 0 ∷ xs) (zeros_cut m k (omega (arith, le)))
-
   all : characters ≡ front ++ replicate (32 - count) 0
   all = sym (take-append-drop count characters) ∙ ap (λ xs. front ++ xs) h.zeros
 
@@ -168,7 +147,7 @@ module _ (characters : List ℕ) (count : ℕ) (long : length characters ≡ 32)
   cut =
       let n : 31 ≡ length front + (31 - count) = omega (arith, front_long, few) in
       ap (take 31) all ∙ ap (λ k. take k (front ++ replicate (32 - count) 0)) n ∙ take-append-add front (replicate (32 - count) 0) (31 - count)
-      ∙ ap (λ xs. front ++ xs) (zeros_cut (31 - count) (32 - count) (omega arith))
+      ∙ ap (λ xs. front ++ xs) (take-replicate (31 - count) (32 - count) 0 (omega arith))
 
   pub name_is : name_held (count ∷ take 31 characters) ≡ front
   name_is =
