@@ -22,11 +22,11 @@ told c n l at = ap (λ (k : ℕ). cond (is_forbidden c) (nat_eq (slice_index_or 
 pub allowed : (c k : ℕ) → cond (is_forbidden c) (nat_eq k 0) (nat_eq k c) ≡ true → k ≢ 0 → (k ≡ c) × (is_forbidden c ≡ false)
 allowed c k h some = elim (is_forbidden c) as (λ b. is_forbidden c ≡ b → cond b (nat_eq k 0) (nat_eq k c) ≡ true → (k ≡ c) × (is_forbidden c ≡ false)) [
   | true ↦ λ q g. absurd (some (eqb-true k 0 g))
-  | false ↦ λ q g. (equal k c g, q)
+  | false ↦ λ q g. (eqb-true k c g, q)
 ] refl h
 
 pub forbidden : (c k : ℕ) → cond (is_forbidden c) (nat_eq k 0) (nat_eq k c) ≡ true → k ≡ 0 → is_forbidden c ≡ true
 forbidden c k h none = elim (is_forbidden c) as (λ b. is_forbidden c ≡ b → cond b (nat_eq k 0) (nat_eq k c) ≡ true → is_forbidden c ≡ true) [
   | true ↦ λ q g. q
-  | false ↦ λ q g. ap is_forbidden (sym (equal k c g) ∙ none)
+  | false ↦ λ q g. ap is_forbidden (sym (eqb-true k c g) ∙ none)
 ] refl h

@@ -5,10 +5,10 @@ ghost use Rattle.std.specs.Prelude.{◌≡◌, ◌≢◌, IfErr, IfSome, OnOk};
 
 use crate::fault::GetFault;
 use cfb_names::name::Name;
+use file_queries::queries::read_stream;
 use std::alloc::Global;
 use std::io::{Read, Write};
 use stream_io::fault::StreamFault;
-use stream_io::read::read_stream;
 use texts::input::read_all;
 use texts::output::write_all;
 

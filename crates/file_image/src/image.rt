@@ -21,12 +21,13 @@ use cfb_bytes::numbers::read_u32;
 use file_model::fault::WriteFault;
 use file_placing::freed::Freed;
 use file_placing::placing::place_over;
+use file_queries::queries::is_file_of;
 use file_writer::write::{fits, write_file};
 use std::alloc::{AllocError, Global};
 use std::marker::Model;
 use storage_tree::tree::Tree;
 use stream_io::fault::ReadFault;
-use stream_io::read::{is_file_of, read_outline};
+use stream_io::read::read_outline;
 
 /// A compound file: its bytes, which denote a tree.
 #[derive(Drop)]

@@ -4,13 +4,14 @@
 use crate::texts::{are_all, spelled};
 use cfb_names::name::{Name, named};
 use file_outline::outline::{Outline, Part};
+use file_queries::queries::{is_file_of, read_stream};
 use std::alloc::Global;
 use std::process::Abort;
 use storage_tree::storage::Found;
 use storage_tree::tree::Tree;
 use stored_values::class_id::ClassId;
 use stream_io::fault::{ReadFault, StreamFault};
-use stream_io::read::{is_file_of, read_file, read_outline, read_stream};
+use stream_io::read::{read_file, read_outline};
 
 /// A header and a FAT, a root of class 7 with state bits 258 above the stream `A`, the mini FAT, and the mini stream with the
 /// bytes 1, 2, 3.

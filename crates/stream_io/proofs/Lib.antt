@@ -14,6 +14,5 @@ pub mod ReadingFile
 pub mod ReadingThere
 pub mod ReadingTold
 pub mod ReadingAlike
-pub mod ReadingSame
 pub mod ReadingMemory
 pub mod ReadingLent

@@ -37,8 +37,7 @@ use cfb_names::fault::DirFault;
 use cfb_names::name::Name;
 use cfb_places::places::Places;
 use entry_sorting::sorting::by_name;
-use file_comparing::comparing::is_shown;
-use file_outline::filling::{bytes_at, storage_at};
+use file_outline::filling::storage_at;
 use file_outline::finding::place_at;
 use file_outline::keeping::Keep;
 use file_outline::outline::{Outline, Part, Place, is_short};
@@ -233,10 +232,10 @@ impl<'a, 'd> Reader<'a, 'd> {
 
 /// The tables of a file all of whose chains were walked, and what is kept of its outline.
 #[derive(Drop)]
-struct Layout<'a> {
-    fat: Fat<'a>,
-    mini: Fat<'a>,
-    root: Outline,
+pub struct Layout<'a> {
+    pub fat: Fat<'a>,
+    pub mini: Fat<'a>,
+    pub root: Outline,
 }
 
 /// The bytes of a directory.
@@ -314,7 +313,7 @@ fn walk<'a>(
 /// The tables and the outline of a compound file. Each chain of sectors is walked once, and no stream is read.
 ///
 /// Refused: as `read_file`.
-fn lay_out<'a>(alloc: Global, file: &'a [u8]) -> Result<Layout<'a>, ReadFault>
+pub fn lay_out<'a>(alloc: Global, file: &'a [u8]) -> Result<Layout<'a>, ReadFault>
     ensures denotes { IfOk result (λ l. ∥ Denotes file.now (shown (contents l.fat l.mini) l.root) ∥₁) }
     ensures sized { IfOk result (λ l. outline_of (shown (contents l.fat l.mini) l.root) ≡ outline_view l.root) }
     ensures placed { IfOk result (λ l. ∥ IsPlaced file.now (shown (contents l.fat l.mini) l.root) l.root ∥₁) }
@@ -341,26 +340,6 @@ pub fn read_file(alloc: Global, file: &[u8]) -> Result<Tree, ReadFault>
     let layout = lay_out(alloc, file)?;
     let root = storage_at(alloc, &layout.fat, &layout.mini, &layout.root)?;
     Ok(Tree::from_root(alloc, root))
-}
-
-/// Whether a compound file denotes a tree, which is compared with it stream by stream. Each chain of sectors is walked as for
-/// `read_file`, and of its streams one at a time is read.
-///
-/// Refused: as `read_file`.
-pub fn is_file_of(alloc: Global, file: &[u8], wanted: &Tree) -> Result<bool, ReadFault>
-    ensures same { IfOk result (λ same. IsTrue same ↔ ∥ Denotes file.now (kept wanted.now).now ∥₁) }
-    ensures reads { (t : tree.Tree) → Denotes file.now t → IfErr result (λ e. e ≡ NoMemory) }
-    ensures refused { IfErr result (MayRefuseFile file.now) }
-{
-    let layout = lay_out(alloc, file)?;
-    let same = is_shown(
-        alloc,
-        &layout.fat,
-        &layout.mini,
-        &layout.root,
-        wanted.root(),
-    )?;
-    Ok(same)
 }
 
 /// The outline of a compound file: its storages and streams, where each stream lies, and how many bytes it has. Each chain of
@@ -416,28 +395,5 @@ pub fn find_placed(
     match place_at(&walked.root, path) {
         Ok(place) => Ok(place),
         Err(fault) => Err(StreamFault::Tree(fault)),
-    }
-}
-
-/// The bytes of the stream at a path of the tree that a compound file denotes. Each chain of sectors is walked as for
-/// `read_file`, and no other stream is read.
-///
-/// Refused: as `read_file`; then `NotFound` where nothing stands at the path, and `WrongKind` where a storage does, or where
-/// a stream stands on the way.
-pub fn read_stream(alloc: Global, file: &[u8], path: &[Name]) -> Result<Vec<u8>, StreamFault>
-    ensures found { IfOk result (λ v. (t : tree.Tree) × ∥ Denotes file.now t ∥₁ × (stream_at path.now t ≡ Ok v.items)) }
-    ensures refused { IfErr result (MayRefuseStream file.now path.now) }
-{
-    let layout = match lay_out(alloc, file) {
-        Ok(layout) => layout,
-        Err(fault) => return Err(StreamFault::Read(fault)),
-    };
-    let place = match place_at(&layout.root, path) {
-        Ok(place) => place,
-        Err(fault) => return Err(StreamFault::Tree(fault)),
-    };
-    match bytes_at(alloc, &layout.fat, &layout.mini, place) {
-        Ok(bytes) => Ok(bytes),
-        Err(_) => Err(StreamFault::Read(ReadFault::NoMemory)),
     }
 }

@@ -4,7 +4,7 @@ use Rattle.file_outline.specs.Streams.{stream_at}
 use Rattle.file_outline.specs.View.{contents, shown}
 use Rattle.file_outline.specs.declared.outline.Place.{Place}
 use Rattle.stream_io.proofs.ReadingTold.{read_refused, told_err, told_ok}
-use Rattle.stream_io.proofs.read.read_stream.Goals as goal
+use Rattle.file_queries.proofs.queries.read_stream.Goals as goal
 
 pub returns-in-Err-clause-refused : goal.returns-in-Err-clause-refused
 returns-in-Err-clause-refused c =

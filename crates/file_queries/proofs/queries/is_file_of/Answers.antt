@@ -6,10 +6,10 @@ use Rattle.storage_tree.specs.Tree.{Tree}
 use Rattle.file_model.specs.Denotes.{Denotes}
 use Rattle.stream_io.specs.Reads.{MayRefuseFile}
 use Rattle.stream_io.proofs.ReadingRefused.{same_memory}
-use Rattle.stream_io.proofs.ReadingSame.{told_same}
+use Rattle.file_queries.proofs.Same.{told_same}
 use Rattle.file_outline.specs.View.{contents, shown}
 use Rattle.storage_tree.specs.Kept.{kept}
-use Rattle.stream_io.proofs.read.is_file_of.Goals as goal
+use Rattle.file_queries.proofs.queries.is_file_of.Goals as goal
 
 pub returns-clause-same : goal.returns-clause-same
 returns-clause-same c = (
