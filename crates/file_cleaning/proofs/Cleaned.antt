@@ -1,33 +1,57 @@
 -- A file that was written of the tree of another.
-use Rattle.std.proofs.Common.{ℕ, List, Option, Some, None, IfSome}
-use Rattle.std.proofs.Math.Logic.{∥∥₁_map}
+use Rattle.std.proofs.Common.{◌≡◌, ◌≢◌, ◌∙◌, ℕ, List, Option, Some, None, IfSome, length, refl, ap, subst, sym}
+use Rattle.std.proofs.Math.Logic.{∥∥₁_elim, ∥∥₁_map, ∥∥₁_prop}
+use Rattle.std.specs.Io.KnownBytes.{Appends}
 use Rattle.storage_tree.specs.Tree.{Tree}
+use Rattle.file_fronts.proofs.Blank.{outline-blank}
 use Rattle.file_model.specs.Denotes.{Denotes}
-use Rattle.file_writer.specs.Sending.{MayRefuseSend, WritesFile}
-use Rattle.file_writer.specs.declared.sending.SendFault.{SendFault}
-use Rattle.file_writer.specs.declared.sending.SendFault.TheVariants as send
+use Rattle.file_model.specs.Refusals.{Refuses, writable}
+use Rattle.file_outline.specs.View.{outline_view}
+use Rattle.file_writer.specs.Laid.{file_of}
+use Rattle.file_writer.specs.Sending.{WritesFile}
 use Rattle.file_commands.specs.Cleaning.{Cleans, MayRefuseClean}
-use Rattle.tree_seeking.specs.Sources.{MayRefuseSource}
-use Rattle.tree_seeking.specs.declared.fault.SourceFault.{SourceFault}
-use Rattle.tree_seeking.specs.declared.fault.SourceFault.TheVariants as source
-use Rattle.file_cleaning.specs.Faults.{of_send_fault, of_source_fault}
+use Rattle.file_moving.specs.Moves.{MayRefuseMove}
+use Rattle.file_moving.specs.Opened.{IsOpenedOf}
+use Rattle.file_moving.specs.Sizes.{blank_of}
+use Rattle.file_moving.specs.Sources.{MayRefuseSource}
+use Rattle.file_moving.specs.declared.fault.SourceFault.{SourceFault}
+use Rattle.file_moving.specs.declared.fault.SourceFault.TheVariants as source
+use Rattle.file_moving.specs.declared.moving.MoveFault.{MoveFault}
+use Rattle.file_moving.specs.declared.moving.MoveFault.TheVariants as move
+use Rattle.file_moving.specs.declared.reading.Opened.{Opened}
+use Rattle.stream_seeking.specs.declared.fault.CopyFault.TheVariants as copy
+use Rattle.texts.specs.declared.input.InputFault.TheVariants as input
+use Rattle.file_cleaning.proofs.Settled.{appended, has_file, one_writable, same_number}
+use Rattle.file_cleaning.specs.Faults.{of_move_fault, of_source_fault}
 
-cleans : (file : List ℕ) (t : Tree) (old new : Option (List ℕ)) (count : ℕ) → ∥ Denotes file t ∥₁ → WritesFile t old new count → Cleans file old new count
-cleans file t old new count d w = record {
-  t = t;
-  denotes = d;
-  fits = w.fits;
-  clean = w.file;
-  same = w.denotes (∥∥₁_map d (λ x. x.is_tree));
-  laid_out = w.laid_out;
-  written = w.written;
-  counted = w.counted;
-}
+-- what was opened of a file, of whichever tree that is
+abbrev pub IsOpened : List ℕ → Opened → Type 0
+IsOpened file opened = (t : Tree) × ∥ IsOpenedOf file t opened ∥₁
 
-pub known_cleans : (known : Option (List ℕ)) (t : Tree) (old new : Option (List ℕ)) (count : ℕ) → IfSome known (λ file. ∥ Denotes file t ∥₁) → WritesFile t old new count
-    → IfSome known (λ file. Cleans file old new count)
-known_cleans None t old new count d w = tt
-known_cleans (Some file) t old new count d w = cleans file t old new count d w
+-- the tree of zeros fits where that tree does
+fits_too : (file : List ℕ) (t : Tree) (opened : Opened) → ∥ IsOpenedOf file t opened ∥₁ → writable (blank_of opened.outline) ≡ writable t
+fits_too file t opened is = one_writable (blank_of opened.outline) t (∥∥₁_map is (λ x. outline-blank (outline_view opened.outline) ∙ x.placed.outlined))
+
+cleans : (file : List ℕ) (opened : Opened) (old new : Option (List ℕ)) (count : ℕ) → IsOpened file opened
+    → ((t : Tree) → IsOpenedOf file t opened → WritesFile t old new count) → Cleans file old new count
+cleans file opened old new count q w =
+    let t : Tree = q.0 in
+    let denotes : ∥ Denotes file t ∥₁ = ∥∥₁_map q.1 (λ x. x.placed.denotes) in
+    record {
+      t = t;
+      denotes = denotes;
+      fits = has_file t (∥∥₁_map q.1 (λ x. (w t x).fits));
+      clean = file_of t;
+      same = ∥∥₁_elim q.1 ∥∥₁_prop (λ x. subst (λ (f : List ℕ). ∥ Denotes f t ∥₁) (w t x).laid_out ((w t x).denotes (∥∥₁_map denotes (λ d. d.is_tree))));
+      laid_out = refl;
+      written = appended old new (file_of t) (∥∥₁_map q.1 (λ x. subst (λ (f : List ℕ). Appends old new f) (w t x).laid_out (w t x).written));
+      counted = same_number count (length (file_of t)) (∥∥₁_map q.1 (λ x. (w t x).counted ∙ ap (λ (f : List ℕ). length f) (w t x).laid_out));
+    }
+
+pub known_cleans : (known : Option (List ℕ)) (opened : Opened) (old new : Option (List ℕ)) (count : ℕ)
+    → IfSome known (λ file. IsOpened file opened) → IfSome known (λ file. (t : Tree) → IsOpenedOf file t opened → WritesFile t old new count) → IfSome known (λ file. Cleans file old new count)
+known_cleans None opened old new count d w = tt
+known_cleans (Some file) opened old new count d w = cleans file opened old new count d w
 
 -- ---- why it isn't written
 source_fault : (file : List ℕ) (fault : SourceFault) → MayRefuseSource file fault → MayRefuseClean file (of_source_fault fault)
@@ -38,11 +62,23 @@ pub source_refused : (known : Option (List ℕ)) (fault : SourceFault) → IfSom
 source_refused None fault r = tt
 source_refused (Some file) fault r = source_fault file fault r
 
-send_fault : (file : List ℕ) (t : Tree) (fault : SendFault) → ∥ Denotes file t ∥₁ → MayRefuseSend t fault → MayRefuseClean file (of_send_fault fault)
-send_fault file t (send.Write fault) d r = (t, d, r)
-send_fault file t send.Unwritable d r = (t, d, r)
+unreadable : input.Unreadable ≢ input.TooBig
+unreadable e = cc
 
-pub send_refused : (known : Option (List ℕ)) (t : Tree) (fault : SendFault) → IfSome known (λ file. ∥ Denotes file t ∥₁) → MayRefuseSend t fault
-    → IfSome known (λ file. MayRefuseClean file (of_send_fault fault))
-send_refused None t fault d r = tt
-send_refused (Some file) t fault d r = send_fault file t fault d r
+no_memory : input.NoMemory ≢ input.TooBig
+no_memory e = cc
+
+move_fault : (file : List ℕ) (opened : Opened) (fault : MoveFault) → IsOpened file opened → MayRefuseMove (blank_of opened.outline) fault → MayRefuseClean file (of_move_fault fault)
+move_fault file opened (move.Write fault) q r =
+    (q.0, ∥∥₁_map q.1 (λ x. x.placed.denotes), subst (λ told. Refuses told fault) (fits_too file q.0 opened q.1) r)
+move_fault file opened (move.Copy copy.Unreadable) q r =
+    (q.0, ∥∥₁_map q.1 (λ x. x.placed.denotes), sym (fits_too file q.0 opened q.1) ∙ r, unreadable)
+move_fault file opened (move.Copy copy.NoMemory) q r =
+    (q.0, ∥∥₁_map q.1 (λ x. x.placed.denotes), sym (fits_too file q.0 opened q.1) ∙ r, no_memory)
+move_fault file opened (move.Copy copy.Unwritable) q r =
+    (q.0, ∥∥₁_map q.1 (λ x. x.placed.denotes), sym (fits_too file q.0 opened q.1) ∙ r)
+
+pub move_refused : (known : Option (List ℕ)) (opened : Opened) (fault : MoveFault) → IfSome known (λ file. IsOpened file opened) → MayRefuseMove (blank_of opened.outline) fault
+    → IfSome known (λ file. MayRefuseClean file (of_move_fault fault))
+move_refused None opened fault q r = tt
+move_refused (Some file) opened fault q r = move_fault file opened fault q r

@@ -1,17 +1,21 @@
 -- What is told of a file that isn't cleaned.
 use Rattle.file_commands.specs.declared.fault.CleanFault.{CleanFault}
 use Rattle.file_commands.specs.declared.fault.CleanFault.TheVariants as clean
-use Rattle.file_writer.specs.declared.sending.SendFault.{SendFault}
-use Rattle.file_writer.specs.declared.sending.SendFault.TheVariants as send
-use Rattle.tree_seeking.specs.declared.fault.SourceFault.{SourceFault}
-use Rattle.tree_seeking.specs.declared.fault.SourceFault.TheVariants as source
+use Rattle.file_moving.specs.declared.fault.SourceFault.{SourceFault}
+use Rattle.file_moving.specs.declared.fault.SourceFault.TheVariants as source
+use Rattle.file_moving.specs.declared.moving.MoveFault.{MoveFault}
+use Rattle.file_moving.specs.declared.moving.MoveFault.TheVariants as move
+use Rattle.stream_seeking.specs.declared.fault.CopyFault.TheVariants as copy
+use Rattle.texts.specs.declared.input.InputFault.TheVariants as input
 
--- a fault of a file whose tree is read
+-- a fault of a file that is opened
 abbrev pub of_source_fault : SourceFault → CleanFault
 of_source_fault (source.Input fault) = clean.Input fault
 of_source_fault (source.Read fault) = clean.Read fault
 
--- a fault of a tree that is written
-abbrev pub of_send_fault : SendFault → CleanFault
-of_send_fault (send.Write fault) = clean.Write fault
-of_send_fault send.Unwritable = clean.Unwritable
+-- a fault of a file that is written anew
+abbrev pub of_move_fault : MoveFault → CleanFault
+of_move_fault (move.Write fault) = clean.Write fault
+of_move_fault (move.Copy copy.Unreadable) = clean.Cut input.Unreadable
+of_move_fault (move.Copy copy.NoMemory) = clean.Cut input.NoMemory
+of_move_fault (move.Copy copy.Unwritable) = clean.Unwritable

@@ -1,19 +1,20 @@
 //! Writing a compound file anew of one that can be sought in.
 
-ghost use Rattle.file_commands.specs.Cleaning.{Cleans, MayRefuseClean};
-ghost use Rattle.file_cleaning.specs.Faults.{of_send_fault, of_source_fault};
-ghost use Rattle.std.specs.Prelude.{◌≡◌, ◌≢◌, IfErr, IfOk, IfSome};
+ghost use Rattle.file_commands.specs.Cleaning.{Cleans, MayRefuseClean, early};
+ghost use Rattle.file_cleaning.specs.Faults.{of_move_fault, of_source_fault};
+ghost use Rattle.std.specs.Prelude.{◌≡◌, IfErr, IfOk, IfSome, true};
 
 use file_commands::fault::CleanFault;
+use file_moving::fault::SourceFault;
+use file_moving::moving::{MoveFault, move_file};
+use file_moving::reading::{Opened, open};
 use file_places::source::Source;
-use file_writer::sending::{SendFault, send_file};
 use std::alloc::Global;
 use std::io::Write;
-use storage_tree::storage::Storage;
-use tree_seeking::fault::SourceFault;
-use tree_seeking::reading::read_source;
+use stream_seeking::fault::CopyFault;
+use texts::input::InputFault;
 
-/// A fault of a file whose tree is read.
+/// A fault of a file that is opened.
 fn of_source(fault: SourceFault) -> CleanFault
     ensures { result ≡ of_source_fault fault }
 {
@@ -23,22 +24,24 @@ fn of_source(fault: SourceFault) -> CleanFault
     }
 }
 
-/// A fault of a tree that is written.
-fn of_sending(fault: SendFault) -> CleanFault
-    ensures { result ≡ of_send_fault fault }
+/// A fault of a file that is written anew.
+fn of_moving(fault: MoveFault) -> CleanFault
+    ensures { result ≡ of_move_fault fault }
 {
     match fault {
-        SendFault::Write(fault) => CleanFault::Write(fault),
-        SendFault::Unwritable => CleanFault::Unwritable,
+        MoveFault::Write(fault) => CleanFault::Write(fault),
+        MoveFault::Copy(CopyFault::Unreadable) => CleanFault::Cut(InputFault::Unreadable),
+        MoveFault::Copy(CopyFault::NoMemory) => CleanFault::Cut(InputFault::NoMemory),
+        MoveFault::Copy(CopyFault::Unwritable) => CleanFault::Unwritable,
     }
 }
 
 /// Writes a compound file of the tree that a compound file holds, and gives its length. Nothing else of the file is
-/// looked at: what stands in free sectors, behind a stream's end or in entries without a link is left behind. Each stream is held
-/// once: a long one in memory of its own, the short ones in that of the mini stream, which is read at once. A short one that lies
-/// scattered in it is copied.
+/// looked at: what stands in free sectors, behind a stream's end or in entries without a link is left behind. No stream is held: each is
+/// read where it lies as it is written, in pieces of at most 65,536 bytes.
 ///
-/// Refused: as `clean_file`. Nothing is written then. `Unwritable` where a write fails.
+/// Refused: as `clean_file`, and nothing is written then. Once writing has begun, `Cut` where a read fails or memory is wanting, and
+/// `Unwritable` where a write fails.
 pub fn clean_source<S: Source, W: Write>(
     alloc: Global,
     source: &mut S,
@@ -46,33 +49,33 @@ pub fn clean_source<S: Source, W: Write>(
 ) -> Result<usize, CleanFault>
     ensures cleaned { IfOk result (λ count. IfSome (S.bytes source.old) (λ file. Cleans file (W.contents writer.old) (W.contents writer.new) count)) }
     ensures refused { IfErr result (λ fault. IfSome (S.bytes source.old) (λ file. MayRefuseClean file fault)) }
-    ensures unwritten { IfErr result (λ fault. fault ≢ CleanFault.Unwritable → writer.new ≡ writer.old) }
+    ensures unwritten { IfErr result (λ fault. early fault ≡ true → writer.new ≡ writer.old) }
 {
-    match clean_with_tree(alloc, source, writer) {
+    match clean_opened(alloc, source, writer) {
         Ok((count, _)) => Ok(count),
         Err(fault) => Err(fault),
     }
 }
 
-/// Does what `clean_source` does, and gives the root of the tree besides: who is about to end needn't give its memory back piece by
+/// Does what `clean_source` does, and gives what was opened besides: who is about to end needn't give its memory back piece by
 /// piece.
 ///
 /// Refused: as `clean_source`.
-pub fn clean_with_tree<S: Source, W: Write>(
+pub fn clean_opened<S: Source, W: Write>(
     alloc: Global,
     source: &mut S,
     writer: &mut W,
-) -> Result<(usize, Storage), CleanFault>
+) -> Result<(usize, Opened), CleanFault>
     ensures cleaned { IfOk result (λ made. IfSome (S.bytes source.old) (λ file. Cleans file (W.contents writer.old) (W.contents writer.new) made.0)) }
     ensures refused { IfErr result (λ fault. IfSome (S.bytes source.old) (λ file. MayRefuseClean file fault)) }
-    ensures unwritten { IfErr result (λ fault. fault ≢ CleanFault.Unwritable → writer.new ≡ writer.old) }
+    ensures unwritten { IfErr result (λ fault. early fault ≡ true → writer.new ≡ writer.old) }
 {
-    let root = match read_source(alloc, source) {
-        Ok(root) => root,
+    let opened = match open(alloc, source) {
+        Ok(opened) => opened,
         Err(fault) => return Err(of_source(fault)),
     };
-    match send_file(alloc, &root, writer) {
-        Ok(count) => Ok((count, root)),
-        Err(fault) => Err(of_sending(fault)),
+    match move_file(alloc, source, &opened, writer) {
+        Ok(count) => Ok((count, opened)),
+        Err(fault) => Err(of_moving(fault)),
     }
 }

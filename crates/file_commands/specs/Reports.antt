@@ -31,4 +31,5 @@ abbrev pub clean_report : CleanFault → List ℕ → List ℕ → List ℕ
 clean_report (clean.Input fault) name out = of_file name (input_fault_name fault)
 clean_report (clean.Read fault) name out = of_file name (read_fault_name fault)
 clean_report (clean.Write fault) name out = of_file out (fault_name fault)
+clean_report (clean.Cut fault) name out = of_file name (input_fault_name fault)
 clean_report clean.Unwritable name out = of_file out (codes "Unwritable")

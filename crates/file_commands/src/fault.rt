@@ -69,6 +69,9 @@ pub enum CleanFault {
     /// The tree isn't written.
     #[error("{0}")]
     Write(WriteFault),
+    /// The file isn't read further, once writing has begun.
+    #[error("{0}")]
+    Cut(InputFault),
     /// A write fails.
     #[error("writing fails")]
     Unwritable,

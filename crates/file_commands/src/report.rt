@@ -52,6 +52,7 @@ impl CleanFault {
             CleanFault::Input(fault) => Report::File(file, fault.name()),
             CleanFault::Read(fault) => Report::File(file, fault.name()),
             CleanFault::Write(fault) => Report::File(out, fault.name()),
+            CleanFault::Cut(fault) => Report::File(file, fault.name()),
             CleanFault::Unwritable => Report::File(out, "Unwritable"),
         }
     }

@@ -1,73 +1,88 @@
 -- A step of pushing the entries of siblings.
-use Rattle.std.proofs.Common.{◌≡◌, ◌+◌, ℕ, List, [], ◌∷◌, ◌++◌, length, sym, ◌∙◌, ap, subst, arith, append_assoc, ◌<◌, ◌^◌}
-use Rattle.storage_nodes.specs.Tree.{Tree, Children, tree}
+use Rattle.std.proofs.Common.{◌≡◌, ◌<◌, ◌+◌, ◌^◌, ℕ, List, [], ◌∷◌, ◌++◌, length, sym, ◌∙◌, ap, subst, arith, append_assoc}
+use Rattle.storage_nodes.specs.Tree.{Tree, Children}
 use Rattle.storage_nodes.specs.Child.{Seen, bytes, inner, child}
-use Rattle.storage_nodes.specs.View.{view, seen, children}
-use Rattle.storage_nodes.specs.declared.storage.Node.{Node}
-use Rattle.storage_nodes.specs.declared.storage.Node.TheVariants as variant
-use Rattle.storage_nodes.specs.declared.storage.Storage.{Storage}
-use Rattle.storage_nodes.proofs.Views.{seen-storage, view-out}
 use Rattle.file_model.specs.Need.{entries_of, over_streams_of, short_pieces, long_pieces}
-use Rattle.file_layout.specs.Directory.{IsSpelled, AreSpelled, children_in, class_in, entries_with, ids_from, state_in}
-use Rattle.file_parts.specs.Streams.{minis_with, sectors_with}
-use Rattle.file_planning.specs.Siblings.{AreSiblings, IsChildSpelled, past, past_all}
-use Rattle.file_parts.specs.Leads.{each_lead, leads_below, storage_leads}
+use Rattle.file_layout.specs.Directory.{AreSpelled, IsSpelled, entries_with, ids_from, long_streams, short_streams}
+use Rattle.file_layout.specs.Image.{pieces_of, runs}
+use Rattle.file_parts.specs.Leads.{stream_leads}
+use Rattle.file_parts.specs.Streams.{long_within, minis_with, sectors_with, short_within}
+use Rattle.file_planning.specs.Siblings.{past, past_all, past_stream}
 use Rattle.file_planning.specs.Walked.{child_leads, sibling_leads}
 use Rattle.file_parts.specs.declared.leads.Lead.{Lead}
+use Rattle.file_parts.specs.declared.tables.Tables.{Tables}
 use Rattle.file_planning.specs.declared.entries.Cursor.{Cursor}
-use Rattle.file_planning.specs.declared.entries.Siblings.{Siblings}
-use Rattle.file_planning.proofs.ContentsWalk.{Entries, entries-first, ids-first, minis-first, sectors-first, leads-first, leads-are}
+use Rattle.tree_walks.specs.Walks.{Is, Steps}
+use Rattle.tree_walks.specs.declared.walks.What.{What}
+use Rattle.tree_walks.specs.declared.walks.What.TheVariants.{Stream, Storage}
+use Rattle.file_planning.proofs.ContentsWalk.{entries-first, ids-first, minis-first, sectors-first, leads-first}
 
-module _ (rest es : Entries) (k : List ℕ) (v : List ℕ × Node) (steps : rest ≡ (k, v) ∷ es) (at next : Cursor) (after : next ≡ past at (seen v.1)) where
-  pub step-places : (place n : ℕ) → place + length (ids_from at.id (children rest)) ≡ n → place + 1 + length (ids_from next.id (children es)) ≡ n
-  step-places place n h =
-      let e : length (ids_from at.id (children rest)) ≡ length (at.id ∷ ids_from (at.id + entries_with (seen v.1)) (children es)) = ap length (ids-first at.id rest es k v steps) in
-      let f : length (ids_from next.id (children es)) ≡ length (ids_from (at.id + entries_with (seen v.1)) (children es)) = ap (λ c. length (ids_from c.id (children es))) after in
-      omega arith
+-- what is said of a child once it is pushed
+pub record IsPushed (ids : List ℕ) (place : ℕ) (at next : Cursor) (out more : List Lead) (old new : Tables) (s : Seen) : Type 0 where
+  pub after : next ≡ past at s
+  pub leads : more ≡ out ++ child_leads ids place at s
+  pub minis : new.minis.items ≡ old.minis.items ++ runs at.mini (pieces_of 64 (short_within s))
+  pub fat : new.fat.items ≡ old.fat.items ++ runs at.sector (pieces_of 512 (long_within s))
+  pub spelled : (k n : List ℕ) (cs : Children) → AreSpelled cs → AreSpelled (child k (n, s) cs)
 
-  pub step-next : (last : Cursor) → past_all at (children rest) ≡ last → past_all next (children es) ≡ last
-  step-next last h =
-      let i : at.id + entries_with (seen v.1) + entries_of (children es) ≡ at.id + entries_of (children rest) = omega (arith, entries-first rest es k v steps) in
-      let m : at.mini + minis_with (seen v.1) + over_streams_of short_pieces (children es) ≡ at.mini + over_streams_of short_pieces (children rest) = omega (arith, minis-first rest es k v steps) in
-      let s : at.sector + sectors_with (seen v.1) + over_streams_of long_pieces (children es) ≡ at.sector + over_streams_of long_pieces (children rest) = omega (arith, sectors-first rest es k v steps) in
-      ap (λ c. past_all c (children es)) after ∙ (λ t. record { id = i t; mini = m t; sector = s t }) ∙ h
+module _ (ids : List ℕ) (place : ℕ) (at next : Cursor) (out more : List Lead) (old new : Tables) where
+  -- a stream of so many bytes is pushed, and a child that is one
+  pub leaf-pushed : {B : Type 0} (stands : B → Tree) (size : ℕ) → next ≡ past_stream at size → more ≡ out ++ stream_leads ids place at.mini at.sector size ∷ []
+      → ((b : List ℕ) → length b ≡ size → new.minis.items ≡ old.minis.items ++ runs at.mini (pieces_of 64 (short_within (bytes b))))
+      → ((b : List ℕ) → length b ≡ size → new.fat.items ≡ old.fat.items ++ runs at.sector (pieces_of 512 (long_within (bytes b))))
+      → size < 2 ^ 32 → (s : Seen) → Is stands (Stream size) s → IsPushed ids place at next out more old new s
+  leaf-pushed stands size after leads minis fat few (bytes b) is = record {
+    after = after ∙ ap (past_stream at) is;
+    leads = leads ∙ ap (λ n. out ++ stream_leads ids place at.mini at.sector n ∷ []) is;
+    minis = minis b (sym is);
+    fat = fat b (sym is);
+    spelled = λ k n cs others. (subst (λ (count : ℕ). count < 2 ^ 32) is few, others);
+  }
+  leaf-pushed stands size after leads minis fat few (inner t) is = absurd is
 
-  pub step-pushed : (ids : List ℕ) (place : ℕ) (out out' whole : List Lead) → out' ≡ out ++ child_leads ids place at (seen v.1)
-      → out ++ sibling_leads ids place at (children rest) ≡ whole → out' ++ sibling_leads ids (place + 1) next (children es) ≡ whole
-  step-pushed ids place out out' whole pushed h =
-      let one : List Lead = child_leads ids place at (seen v.1) in
-      let more : List Lead = sibling_leads ids (place + 1) (past at (seen v.1)) (children es) in
-      (λ t. pushed t ++ sibling_leads ids (place + 1) (after t) (children es)) ∙ append_assoc out one more
-      ∙ ap (λ x. out ++ x) (sym (leads-first ids place at rest es k v steps)) ∙ h
+  -- and a storage is, and a child that is that one
+  pub storage-pushed : {B : Type 0} (stands : B → Tree) (x : B) → next ≡ past at (inner (stands x)) → more ≡ out ++ child_leads ids place at (inner (stands x))
+      → new.minis.items ≡ old.minis.items ++ runs at.mini (pieces_of 64 (short_streams (stands x)))
+      → new.fat.items ≡ old.fat.items ++ runs at.sector (pieces_of 512 (long_streams (stands x)))
+      → IsSpelled (stands x) → (s : Seen) → Is stands (Storage x) s → IsPushed ids place at next out more old new s
+  storage-pushed stands x after leads minis fat spelled (bytes b) is = absurd is
+  storage-pushed stands x after leads minis fat spelled (inner t) is =
+      subst (λ (u : Tree). IsPushed ids place at next out more old new (inner u)) is
+      (record { after = after; leads = leads; minis = minis; fat = fat; spelled = λ k n cs others. (spelled, others) })
 
--- where the entry of a storage leads, and those below it
-pub storage-pushed : (ids : List ℕ) (place : ℕ) (at : Cursor) (node : Node) (s : Storage) (siblings : Siblings) (e : Lead) (old mid new : List Lead)
-    → node ≡ variant.Storage s → AreSiblings siblings (at.id + 1) (children_in (view s)) → e ≡ storage_leads ids place at.id (view s)
-    → mid ≡ old ++ e ∷ [] → new ≡ mid ++ sibling_leads siblings.ids.items 0 (record { id = at.id + 1; mini = at.mini; sector = at.sector }) (children_in (view s))
-    → new ≡ old ++ child_leads ids place at (seen node)
-storage-pushed ids place at node s siblings e old mid new is has says first rest =
-    let t : Tree = view s in
-    let one : List Lead = storage_leads ids place at.id t ∷ [] in
-    let more : List Lead = leads_below at.id at.mini at.sector t in
-    let a : mid ≡ old ++ one = first ∙ (λ i. old ++ says i ∷ []) in
-    let b : sibling_leads siblings.ids.items 0 (record { id = at.id + 1; mini = at.mini; sector = at.sector }) (children_in t) ≡ more =
-    ap (λ xs. each_lead xs 0 (at.id + 1) at.mini at.sector (children_in t)) has.ids ∙ sym (leads-are at.id at.mini at.sector t) in
-    rest ∙ (λ i. a i ++ b i) ∙ append_assoc old one more ∙ ap (λ x. old ++ child_leads ids place at x) (sym (ap seen is ∙ seen-storage s))
+  -- which is told where what was made is moved to
+  pub moved : (made : Cursor) (longer : List Lead) (last : Tables) (s : Seen) → made ≡ next → longer ≡ more → last ≡ new
+      → IsPushed ids place at next out more old new s → IsPushed ids place at made out longer old last s
+  moved made longer last s a b c h = record {
+    after = a ∙ h.after;
+    leads = b ∙ h.leads;
+    minis = ap (λ (ts : Tables). ts.minis.items) c ∙ h.minis;
+    fat = ap (λ (ts : Tables). ts.fat.items) c ∙ h.fat;
+    spelled = h.spelled;
+  }
 
-spelled-child : (k n : List ℕ) (s : Seen) (cs : Children) → IsChildSpelled s → AreSpelled cs → AreSpelled (child k (n, s) cs)
-spelled-child k n (bytes b) cs h i = (h, i)
-spelled-child k n (inner t) cs h i = (h, i)
+module _ {B : Type 0} {stands : B → Tree} {old new : Children} {name : List ℕ} {what : What B} (step : Steps stands old name what new) where
+  pub step-spelled : ((k n : List ℕ) (cs : Children) → AreSpelled cs → AreSpelled (child k (n, step.seen) cs)) → AreSpelled new → AreSpelled old
+  step-spelled h i = subst AreSpelled (sym step.first) (h step.key name new i)
 
-pub step-spelled : (rest es : Entries) (k : List ℕ) (v : List ℕ × Node) → rest ≡ (k, v) ∷ es → IsChildSpelled (seen v.1) → AreSpelled (children es) → AreSpelled (children rest)
-step-spelled rest es k v e h i = subst (λ (r : Entries). AreSpelled (children r)) (sym e) (spelled-child k v.0 (seen v.1) (children es) h i)
+  module _ (at next : Cursor) (after : next ≡ past at step.seen) where
+    pub step-places : (place n : ℕ) → place + length (ids_from at.id old) ≡ n → place + 1 + length (ids_from next.id new) ≡ n
+    step-places place n h =
+        let e : length (ids_from at.id old) ≡ length (at.id ∷ ids_from (at.id + entries_with step.seen) new) = ap length (ids-first step at.id) in
+        let f : length (ids_from next.id new) ≡ length (ids_from (at.id + entries_with step.seen) new) = ap (λ c. length (ids_from c.id new)) after in
+        omega arith
 
-spelled-tree : (t : Tree) → length (class_in t) ≡ 16 → state_in t < 2 ^ 32 → AreSpelled (children_in t) → IsSpelled t
-spelled-tree (tree class state cs) c s h = (c, s, h)
+    pub step-next : (last : Cursor) → past_all at old ≡ last → past_all next new ≡ last
+    step-next last h =
+        let i : at.id + entries_with step.seen + entries_of new ≡ at.id + entries_of old = omega (arith, entries-first step) in
+        let m : at.mini + minis_with step.seen + over_streams_of short_pieces new ≡ at.mini + over_streams_of short_pieces old = omega (arith, minis-first step) in
+        let s : at.sector + sectors_with step.seen + over_streams_of long_pieces new ≡ at.sector + over_streams_of long_pieces old = omega (arith, sectors-first step) in
+        ap (λ c. past_all c new) after ∙ (λ t. record { id = i t; mini = m t; sector = s t }) ∙ h
 
-pub spelled-storage : (s : Storage) → length s.class ≡ 16 → s.state < 2 ^ 32 → AreSpelled (children_in (view s)) → IsSpelled (view s)
-spelled-storage s c b h =
-    let out : view s ≡ tree s.class s.state (children s.children.entries) = view-out s in
-    spelled-tree (view s) (ap (λ t. length (class_in t)) out ∙ c) (let e : state_in (view s) ≡ s.state = ap state_in out in omega arith) h
-
-pub child-spelled : (node : Node) (s : Storage) → node ≡ variant.Storage s → IsSpelled (view s) → IsChildSpelled (seen node)
-child-spelled node s e h = subst IsChildSpelled (sym (ap seen e ∙ seen-storage s)) h
+    pub step-pushed : (ids : List ℕ) (place : ℕ) (out more whole : List Lead) → more ≡ out ++ child_leads ids place at step.seen
+        → out ++ sibling_leads ids place at old ≡ whole → more ++ sibling_leads ids (place + 1) next new ≡ whole
+    step-pushed ids place out more whole pushed h =
+        let one : List Lead = child_leads ids place at step.seen in
+        let others : List Lead = sibling_leads ids (place + 1) (past at step.seen) new in
+        (λ t. pushed t ++ sibling_leads ids (place + 1) (after t) new) ∙ append_assoc out one others
+        ∙ ap (λ x. out ++ x) (sym (leads-first step ids place at)) ∙ h

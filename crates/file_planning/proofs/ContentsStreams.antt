@@ -2,10 +2,8 @@
 use Rattle.std.proofs.Common.{◌≡◌, ◌+◌, ℕ, Bool, true, false, List, [], ◌∷◌, ◌++◌, length, if◌then◌else◌, nat_lt, refl, sym, ◌∙◌, ap, append_assoc, arith}
 use Rattle.std.specs.List.{sum}
 use Rattle.std.proofs.lemmas.List.{map-append}
-use Rattle.storage_nodes.specs.Tree.{Children}
+use Rattle.storage_nodes.specs.Tree.{Tree, Children}
 use Rattle.storage_nodes.specs.Child.{Seen, bytes, inner, child}
-use Rattle.storage_nodes.specs.View.{seen, children}
-use Rattle.storage_nodes.specs.declared.storage.Node.{Node}
 use Rattle.file_model.specs.Limits.{CUTOFF}
 use Rattle.file_layout.specs.Image.{pieces_of, run, runs}
 use Rattle.file_layout.proofs.ContentsNext.{longs-sum, shorts-sum}
@@ -16,7 +14,8 @@ use Rattle.file_parts.specs.Streams.{long_within, minis_with, sectors_with, shor
 use Rattle.file_parts.proofs.Children.{longs-child, shorts-child}
 use Rattle.file_planning.specs.Siblings.{past}
 use Rattle.file_planning.specs.declared.entries.Cursor.{Cursor}
-use Rattle.file_planning.proofs.ContentsWalk.{Entries}
+use Rattle.tree_walks.specs.Walks.{Steps}
+use Rattle.tree_walks.specs.declared.walks.What.{What}
 
 -- runs of some streams behind those of others
 runs-append : (at : ℕ) (xs ys : List ℕ) → runs at (xs ++ ys) ≡ runs at xs ++ runs (at + sum xs) ys
@@ -29,14 +28,14 @@ runs-append at (x ∷ xs) ys =
     ∙ ap (λ n. (run at x ++ runs (at + x) xs) ++ runs n ys) e
 
 runs-step : (w : ℕ) (of : Children → List (List ℕ)) (within : Seen → List (List ℕ)) → ((k n : List ℕ) (s : Seen) (cs : Children) → of (child k (n, s) cs) ≡ within s ++ of cs)
-    → (at next : ℕ) (rest es : Entries) (k : List ℕ) (v : List ℕ × Node) (out more whole : List ℕ) → rest ≡ (k, v) ∷ es → next ≡ at + sum (pieces_of w (within (seen v.1)))
-    → more ≡ out ++ runs at (pieces_of w (within (seen v.1))) → out ++ runs at (pieces_of w (of (children rest))) ≡ whole → more ++ runs next (pieces_of w (of (children es))) ≡ whole
-runs-step w of within first at next rest es k v out more whole steps after pushed h =
-    let xs : List ℕ = pieces_of w (within (seen v.1)) in
-    let ys : List ℕ = pieces_of w (of (children es)) in
-    let split : pieces_of w (of (children rest)) ≡ xs ++ ys =
-    ap (λ r. pieces_of w (of (children r))) steps ∙ ap (pieces_of w) (first k v.0 (seen v.1) (children es))
-    ∙ map-append (λ (b : List ℕ). pieces w (length b)) (within (seen v.1)) (of (children es)) in
+    → (at next : ℕ) (old new : Children) (k n : List ℕ) (s : Seen) (out more whole : List ℕ) → old ≡ child k (n, s) new → next ≡ at + sum (pieces_of w (within s))
+    → more ≡ out ++ runs at (pieces_of w (within s)) → out ++ runs at (pieces_of w (of old)) ≡ whole → more ++ runs next (pieces_of w (of new)) ≡ whole
+runs-step w of within first at next old new k n s out more whole steps after pushed h =
+    let xs : List ℕ = pieces_of w (within s) in
+    let ys : List ℕ = pieces_of w (of new) in
+    let split : pieces_of w (of old) ≡ xs ++ ys =
+    ap (λ cs. pieces_of w (of cs)) steps ∙ ap (pieces_of w) (first k n s new)
+    ∙ map-append (λ (b : List ℕ). pieces w (length b)) (within s) (of new) in
     (λ i. pushed i ++ runs (after i) ys) ∙ append_assoc out (runs at xs) (runs (at + sum xs) ys)
     ∙ ap (λ r. out ++ r) (sym (runs-append at xs ys)) ∙ ap (λ ns. out ++ runs at ns) (sym split) ∙ h
 
@@ -57,15 +56,16 @@ long-sum (bytes b) = long-one (nat_lt (length b) CUTOFF) b
 long-sum (inner t) = longs-sum t
 
 -- one more child, of which the runs of the streams were put
-module _ (at next : Cursor) (rest es : Entries) (k : List ℕ) (v : List ℕ × Node) (out more whole : List ℕ) (steps : rest ≡ (k, v) ∷ es) (after : next ≡ past at (seen v.1)) where
-  pub short-runs-more : more ≡ out ++ runs at.mini (pieces_of 64 (short_within (seen v.1))) → out ++ runs at.mini (pieces_of 64 (short_streams_of (children rest))) ≡ whole
-      → more ++ runs next.mini (pieces_of 64 (short_streams_of (children es))) ≡ whole
+module _ {B : Type 0} {stands : B → Tree} {old new : Children} {name : List ℕ} {what : What B} (step : Steps stands old name what new)
+    (at next : Cursor) (after : next ≡ past at step.seen) (out more whole : List ℕ) where
+  pub short-runs-more : more ≡ out ++ runs at.mini (pieces_of 64 (short_within step.seen)) → out ++ runs at.mini (pieces_of 64 (short_streams_of old)) ≡ whole
+      → more ++ runs next.mini (pieces_of 64 (short_streams_of new)) ≡ whole
   short-runs-more =
-      runs-step 64 short_streams_of short_within (shorts-child child (λ k n b cs. refl) (λ k n t cs. refl)) at.mini next.mini rest es k v out more whole steps
-      (ap (λ (c : Cursor). c.mini) after ∙ ap (λ n. at.mini + n) (sym (short-sum (seen v.1))))
+      runs-step 64 short_streams_of short_within (shorts-child child (λ k n b cs. refl) (λ k n t cs. refl)) at.mini next.mini old new step.key name step.seen out more whole step.first
+      (ap (λ (c : Cursor). c.mini) after ∙ ap (λ n. at.mini + n) (sym (short-sum step.seen)))
 
-  pub long-runs-more : more ≡ out ++ runs at.sector (pieces_of 512 (long_within (seen v.1))) → out ++ runs at.sector (pieces_of 512 (long_streams_of (children rest))) ≡ whole
-      → more ++ runs next.sector (pieces_of 512 (long_streams_of (children es))) ≡ whole
+  pub long-runs-more : more ≡ out ++ runs at.sector (pieces_of 512 (long_within step.seen)) → out ++ runs at.sector (pieces_of 512 (long_streams_of old)) ≡ whole
+      → more ++ runs next.sector (pieces_of 512 (long_streams_of new)) ≡ whole
   long-runs-more =
-      runs-step 512 long_streams_of long_within (longs-child child (λ k n b cs. refl) (λ k n t cs. refl)) at.sector next.sector rest es k v out more whole steps
-      (ap (λ (c : Cursor). c.sector) after ∙ ap (λ n. at.sector + n) (sym (long-sum (seen v.1))))
+      runs-step 512 long_streams_of long_within (longs-child child (λ k n b cs. refl) (λ k n t cs. refl)) at.sector next.sector old new step.key name step.seen out more whole step.first
+      (ap (λ (c : Cursor). c.sector) after ∙ ap (λ n. at.sector + n) (sym (long-sum step.seen)))

@@ -1,2 +1,3 @@
 pub mod Siblings
 pub mod Walked
+pub mod Depth

@@ -1,12 +1,12 @@
 -- The entries of siblings as the writer keeps them.
-use Rattle.std.specs.Prelude.{◌≡◌, ◌<◌, ◌^◌, ◌+◌, ℕ, length, if◌then◌else◌, nat_lt}
+use Rattle.std.specs.Prelude.{◌≡◌, ◌<◌, ◌+◌, ℕ, length, if◌then◌else◌, nat_lt}
 use Rattle.directory_model.specs.SearchTree.{IsSearchTree}
 use Rattle.storage_nodes.specs.Tree.{Children}
-use Rattle.storage_nodes.specs.Child.{Seen, bytes, inner}
+use Rattle.storage_nodes.specs.Child.{Seen}
 use Rattle.file_model.specs.Limits.{CUTOFF}
 use Rattle.file_model.specs.Need.{entries_of, over_streams_of, short_pieces, long_pieces, pieces}
 use Rattle.file_parts.specs.Streams.{minis_with, sectors_with}
-use Rattle.file_layout.specs.Directory.{IsSpelled, entries_with, ids_from}
+use Rattle.file_layout.specs.Directory.{entries_with, ids_from}
 use Rattle.file_planning.specs.declared.entries.Siblings.{Siblings}
 use Rattle.file_planning.specs.declared.entries.Cursor.{Cursor}
 
@@ -38,8 +38,3 @@ pub record IsBelow (at : Cursor) (bound : ℕ) : Type 0 where
   pub id : at.id < bound
   pub mini : at.mini < bound
   pub sector : at.sector < bound
-
--- a child whose class ids have 16 bytes and whose numbers have four
-abbrev pub IsChildSpelled : Seen → Type 0
-IsChildSpelled (bytes b) = length b < 2 ^ 32
-IsChildSpelled (inner t) = IsSpelled t

@@ -2,17 +2,16 @@
 
 ghost use Rattle.std.specs.Prelude.{[], ◌≡◌, ◌<◌, ◌+◌, ◌^◌, ◌++◌, ◌∷◌, ℕ, List, IfOk, OnOk, length};
 ghost use Rattle.std.specs.Vec.{vec_len};
-ghost use Rattle.storage_nodes.specs.View.{seen, view};
 ghost use Rattle.file_model.specs.Need.{entries, long_sectors};
 ghost use Rattle.file_model.specs.declared.limit.TheConstants.{MANY};
 ghost use Rattle.file_parts.specs.Counted.{AreCounts};
-ghost use Rattle.file_planning.specs.Siblings.{IsBelow, IsChildSpelled, AreSiblings, IsJoined, past, past_all, past_stream};
+ghost use Rattle.file_planning.specs.Siblings.{IsBelow, AreSiblings, IsJoined, past, past_all, past_stream};
 ghost use Rattle.file_parts.specs.Leads.{IsDirectory, storage_leads, stream_leads};
 ghost use Rattle.file_planning.specs.Walked.{child_leads, sibling_leads};
 ghost use Rattle.file_layout.specs.Image.{pieces_of, runs};
 ghost use Rattle.file_parts.specs.Streams.{long_within, short_within};
-ghost use Rattle.storage_nodes.specs.Child.{bytes as content};
-ghost use Rattle.file_layout.specs.Directory.{AreSpelled, balanced as balanced_links, children_in, first_of_stream, ids_from, long_start, long_streams, root_says, short_streams};
+ghost use Rattle.storage_nodes.specs.Child.{bytes as content, inner};
+ghost use Rattle.file_layout.specs.Directory.{AreSpelled, IsSpelled, balanced as balanced_links, children_in, class_in, first_of_stream, ids_from, long_start, long_streams, root_says, short_streams, state_in};
 
 use crate::needs::needs_with;
 use directory_model::entries::{EntryKind, NO_STREAM};
@@ -23,19 +22,20 @@ use file_parts::leads::{Directory, Lead, class_bytes, state_bits};
 use file_parts::streams::{is_short, mini_count, sector_count};
 use file_parts::tables::{Tables, push_run};
 use std::alloc::{AllocError, Global};
-use storage_nodes::storage::{Node, Storage};
+use tree_walks::walks::{Branch, What};
 
 /// The ids of a storage's children, of which the first has this one.
-fn child_ids(alloc: Global, storage: &Storage, first: u32) -> Result<Vec<u32>, AllocError>
-    requires { first + entries (view storage.now) < MANY }
-    ensures listed { IfOk result (λ ids. ids.items ≡ ids_from first (children_in (view storage.now))) }
+fn child_ids<B: Branch>(alloc: Global, storage: B, first: u32) -> Result<Vec<u32>, AllocError>
+    requires { first + entries (B.tree storage) < MANY }
+    ensures listed { IfOk result (λ ids. ids.items ≡ ids_from first (children_in (B.tree storage))) }
     ensures few { IfOk result (λ ids. vec_len ids < MANY) }
 {
-    let mut ids = Vec::with_capacity(alloc, storage.children.len())?;
+    let mut ids = Vec::with_capacity(alloc, storage.count())?;
     let mut id = first;
-    for (_, child) in storage.children.iter() {
+    let mut walk = storage.walk();
+    while let Some(child) = B::next(&mut walk) {
         ids.push(id)?;
-        id += needs_with(&child.1).entries;
+        id += needs_with(child.what).entries;
     }
     Ok(ids)
 }
@@ -48,9 +48,9 @@ struct Siblings {
 }
 
 /// The children of a storage, of which the first has this id.
-fn siblings_of(alloc: Global, storage: &Storage, first: u32) -> Result<Siblings, AllocError>
-    requires { first + entries (view storage.now) < MANY }
-    ensures { IfOk result (λ siblings. AreSiblings siblings first (children_in (view storage.now))) }
+fn siblings_of<B: Branch>(alloc: Global, storage: B, first: u32) -> Result<Siblings, AllocError>
+    requires { first + entries (B.tree storage) < MANY }
+    ensures { IfOk result (λ siblings. AreSiblings siblings first (children_in (B.tree storage))) }
 {
     let ids = child_ids(alloc, storage, first)?;
     let links = balanced(alloc, ids.len() as u32)?;
@@ -137,16 +137,22 @@ fn stream_lead(siblings: &Siblings, place: usize, at: Cursor, len: usize) -> Lea
 }
 
 /// Where the entry of the storage at a place leads, whose children are these.
-fn storage_lead(siblings: &Siblings, place: usize, storage: &Storage, children: &Siblings) -> Lead
+fn storage_lead<B: Branch>(
+    siblings: &Siblings,
+    place: usize,
+    children: &Siblings,
+    storage: B,
+) -> Lead
     requires joined { IsJoined siblings.now }
     requires there { place < length siblings.now.ids.items }
     requires below { IsJoined children.now }
-    ensures class_id { length storage.now.class ≡ 16 }
-    ensures state_bits { storage.now.state < 2 ^ 32 }
-    ensures leads { (id : ℕ) → AreSiblings children.now (id + 1) (children_in (view storage.now)) → result ≡ storage_leads siblings.now.ids.items place id (view storage.now) }
+    ensures class_id { length (class_in (B.tree storage)) ≡ 16 }
+    ensures state_bits { state_in (B.tree storage) < 2 ^ 32 }
+    ensures leads { (id : ℕ) → AreSiblings children.now (id + 1) (children_in (B.tree storage)) → result ≡ storage_leads siblings.now.ids.items place id (B.tree storage) }
 {
-    let _class = class_bytes(storage.class.as_bytes());
-    let _state = state_bits(storage.state);
+    let class = storage.class();
+    let _class = class_bytes(class.as_bytes());
+    let _state = state_bits(storage.state());
     Lead {
         left: siblings.left(place),
         right: siblings.right(place),
@@ -215,92 +221,87 @@ fn push_leaf(
 
 /// Adds where the entries below a storage lead, whose children these are, and the runs of the streams there.
 #[cycle(push_leads)]
-fn push_below(
+fn push_below<B: Branch>(
     alloc: Global,
     leads: &mut Vec<Lead>,
     tables: &mut Tables,
-    storage: &Storage,
+    storage: B,
     siblings: &Siblings,
     at: Cursor,
 ) -> Result<Cursor, AllocError>
-    requires siblings { AreSiblings siblings.now at.id (children_in (view storage.now)) }
-    requires few { IsBelow (past_all at (children_in (view storage.now))) MANY }
-    ensures pushed { OnOk result (leads.new.items ≡ leads.old.items ++ sibling_leads siblings.now.ids.items 0 at (children_in (view storage.now))) }
-    ensures minis { OnOk result (tables.new.minis.items ≡ tables.old.minis.items ++ runs at.mini (pieces_of 64 (short_streams (view storage.now)))) }
-    ensures fat { OnOk result (tables.new.fat.items ≡ tables.old.fat.items ++ runs at.sector (pieces_of 512 (long_streams (view storage.now)))) }
-    ensures next { IfOk result (λ next. next ≡ past_all at (children_in (view storage.now))) }
-    ensures spelled { OnOk result (AreSpelled (children_in (view storage.now))) }
+    requires siblings { AreSiblings siblings.now at.id (children_in (B.tree storage)) }
+    requires few { IsBelow (past_all at (children_in (B.tree storage))) MANY }
+    ensures pushed { OnOk result (leads.new.items ≡ leads.old.items ++ sibling_leads siblings.now.ids.items 0 at (children_in (B.tree storage))) }
+    ensures minis { OnOk result (tables.new.minis.items ≡ tables.old.minis.items ++ runs at.mini (pieces_of 64 (short_streams (B.tree storage)))) }
+    ensures fat { OnOk result (tables.new.fat.items ≡ tables.old.fat.items ++ runs at.sector (pieces_of 512 (long_streams (B.tree storage)))) }
+    ensures next { IfOk result (λ next. next ≡ past_all at (children_in (B.tree storage))) }
+    ensures spelled { OnOk result (AreSpelled (children_in (B.tree storage))) }
 {
     let mut next = at;
     let mut place = 0;
-    for (_, child) in storage.children.iter() {
-        // most children are streams, which need none of what a storage does
-        if let Node::Stream(bytes) = &child.1 {
-            next = push_leaf(leads, tables, siblings, place, next, bytes.len())?;
-            place += 1;
-            continue;
+    let mut walk = storage.walk();
+    while let Some(child) = B::next(&mut walk) {
+        match child.what {
+            What::Stream(size) => {
+                next = push_leaf(leads, tables, siblings, place, next, size)?;
+            }
+            What::Storage(inner) => {
+                next = push_storage(alloc, leads, tables, inner, siblings, place, next)?;
+            }
         }
-        next = push_child(alloc, leads, tables, &child.1, siblings, place, next)?;
         place += 1;
     }
     Ok(next)
 }
 
-/// Adds where the entry of a child at a place leads, and those below it, and the runs of their streams.
+/// Adds where the entry of the storage at a place leads, and those below it, and the runs of their streams.
 #[cycle(push_leads)]
-fn push_child(
+fn push_storage<B: Branch>(
     alloc: Global,
     leads: &mut Vec<Lead>,
     tables: &mut Tables,
-    child: &Node,
+    storage: B,
     siblings: &Siblings,
     place: usize,
     at: Cursor,
 ) -> Result<Cursor, AllocError>
     requires joined { IsJoined siblings.now }
     requires there { place < length siblings.now.ids.items }
-    requires few { IsBelow (past at (seen child.now)) MANY }
-    ensures pushed { OnOk result (leads.new.items ≡ leads.old.items ++ child_leads siblings.now.ids.items place at (seen child.now)) }
-    ensures minis { OnOk result (tables.new.minis.items ≡ tables.old.minis.items ++ runs at.mini (pieces_of 64 (short_within (seen child.now)))) }
-    ensures fat { OnOk result (tables.new.fat.items ≡ tables.old.fat.items ++ runs at.sector (pieces_of 512 (long_within (seen child.now)))) }
-    ensures next { IfOk result (λ next. next ≡ past at (seen child.now)) }
-    ensures spelled { OnOk result (IsChildSpelled (seen child.now)) }
+    requires few { IsBelow (past at (inner (B.tree storage))) MANY }
+    ensures pushed { OnOk result (leads.new.items ≡ leads.old.items ++ child_leads siblings.now.ids.items place at (inner (B.tree storage))) }
+    ensures minis { OnOk result (tables.new.minis.items ≡ tables.old.minis.items ++ runs at.mini (pieces_of 64 (short_streams (B.tree storage)))) }
+    ensures fat { OnOk result (tables.new.fat.items ≡ tables.old.fat.items ++ runs at.sector (pieces_of 512 (long_streams (B.tree storage)))) }
+    ensures next { IfOk result (λ next. next ≡ past at (inner (B.tree storage))) }
+    ensures spelled { OnOk result (IsSpelled (B.tree storage)) }
 {
-    match child {
-        Node::Stream(bytes) => {
-            let next = push_leaf(leads, tables, siblings, place, at, bytes.len())?;
-            Ok(next)
-        }
-        Node::Storage(inner) => {
-            let below = Cursor {
-                id: at.id + 1,
-                mini: at.mini,
-                sector: at.sector,
-            };
-            let children = siblings_of(alloc, inner, below.id)?;
-            leads.push(storage_lead(siblings, place, inner, &children))?;
-            let next = push_below(alloc, leads, tables, inner, &children, below)?;
-            Ok(next)
-        }
-    }
+    let below = Cursor {
+        id: at.id + 1,
+        mini: at.mini,
+        sector: at.sector,
+    };
+    let children = siblings_of(alloc, storage, below.id)?;
+    leads.push(storage_lead(siblings, place, &children, storage))?;
+    let next = push_below(alloc, leads, tables, storage, &children, below)?;
+    Ok(next)
 }
 
 /// What the root's entry says, whose children these are.
-fn root_entry(root: &Storage, children: &Siblings, counts: Counts) -> EntryFields
-    requires children { AreSiblings children.now 1 (children_in (view root.now)) }
-    requires counts { AreCounts counts (view root.now) }
-    ensures class_id { length root.now.class ≡ 16 }
-    ensures state_bits { root.now.state < 2 ^ 32 }
-    ensures says { result ≡ root_says balanced_links counts.fat (view root.now) }
+fn root_entry<B: Branch>(root: B, children: &Siblings, counts: Counts) -> EntryFields
+    requires children { AreSiblings children.now 1 (children_in (B.tree root)) }
+    requires counts { AreCounts counts (B.tree root) }
+    ensures class_id { length (class_in (B.tree root)) ≡ 16 }
+    ensures state_bits { state_in (B.tree root) < 2 ^ 32 }
+    ensures says { result ≡ root_says balanced_links counts.fat (B.tree root) }
 {
-    let state = state_bits(root.state);
+    let class = root.class();
+    let state = state_bits(root.state());
     let before = counts.own_sectors() + counts.directory_sectors() + counts.mini_fat_sectors();
     EntryFields {
         kind: EntryKind::Root,
         left: NO_STREAM,
         right: NO_STREAM,
         child: children.top(),
-        class: class_bytes(root.class.as_bytes()),
+        class: class_bytes(class.as_bytes()),
         state,
         first: chain_start(before, counts.mini_stream_sectors()),
         size: 64 * counts.minis,
@@ -308,17 +309,17 @@ fn root_entry(root: &Storage, children: &Siblings, counts: Counts) -> EntryField
 }
 
 /// The directory of a tree with these counts. The runs of the streams go into the tables.
-pub(crate) fn directory_of(
+pub(crate) fn directory_of<B: Branch>(
     alloc: Global,
     tables: &mut Tables,
-    root: &Storage,
+    root: B,
     counts: Counts,
 ) -> Result<Directory, AllocError>
-    requires counts { AreCounts counts (view root.now) }
-    requires few { long_start counts.fat (view root.now) + long_sectors (view root.now) < MANY }
-    ensures directory { IfOk result (λ directory. IsDirectory directory counts.fat (view root.now)) }
-    ensures minis { OnOk result (tables.new.minis.items ≡ tables.old.minis.items ++ runs 0 (pieces_of 64 (short_streams (view root.now)))) }
-    ensures fat { OnOk result (tables.new.fat.items ≡ tables.old.fat.items ++ runs (long_start counts.fat (view root.now)) (pieces_of 512 (long_streams (view root.now)))) }
+    requires counts { AreCounts counts (B.tree root) }
+    requires few { long_start counts.fat (B.tree root) + long_sectors (B.tree root) < MANY }
+    ensures directory { IfOk result (λ directory. IsDirectory directory counts.fat (B.tree root)) }
+    ensures minis { OnOk result (tables.new.minis.items ≡ tables.old.minis.items ++ runs 0 (pieces_of 64 (short_streams (B.tree root)))) }
+    ensures fat { OnOk result (tables.new.fat.items ≡ tables.old.fat.items ++ runs (long_start counts.fat (B.tree root)) (pieces_of 512 (long_streams (B.tree root)))) }
 {
     let before = counts.own_sectors() + counts.directory_sectors() + counts.mini_fat_sectors();
     let sector = before + counts.mini_stream_sectors();

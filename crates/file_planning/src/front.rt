@@ -1,7 +1,6 @@
 //! What stands before the streams in the file of a tree: its header, its tables and its directory.
 
 ghost use Rattle.std.specs.Prelude.{◌≡◌, IfOk};
-ghost use Rattle.storage_nodes.specs.View.{view};
 ghost use Rattle.file_parts.specs.Counted.{AreEnough};
 ghost use Rattle.file_parts.specs.Filled.{fat_numbers, mini_numbers};
 ghost use Rattle.file_parts.specs.Front.{IsFront};
@@ -14,18 +13,18 @@ use file_parts::leads::Directory;
 use file_parts::pieces::ROOM;
 use file_parts::tables::{Tables, fill_table, tables_for};
 use std::alloc::{AllocError, Global};
-use storage_nodes::storage::Storage;
+use tree_walks::walks::Branch;
 
 /// The tables of the file of a tree with these counts, and its directory, of one walk over the tree.
-fn parts_for(
+fn parts_for<B: Branch>(
     alloc: Global,
-    root: &Storage,
+    root: B,
     counts: Counts,
 ) -> Result<(Tables, Directory), AllocError>
-    requires { AreEnough counts (view root.now) }
-    ensures fat { IfOk result (λ parts. parts.0.fat.items ≡ fat_numbers counts.fat (view root.now)) }
-    ensures minis { IfOk result (λ parts. parts.0.minis.items ≡ mini_numbers (view root.now)) }
-    ensures directory { IfOk result (λ parts. IsDirectory parts.1 counts.fat (view root.now)) }
+    requires { AreEnough counts (B.tree root) }
+    ensures fat { IfOk result (λ parts. parts.0.fat.items ≡ fat_numbers counts.fat (B.tree root)) }
+    ensures minis { IfOk result (λ parts. parts.0.minis.items ≡ mini_numbers (B.tree root)) }
+    ensures directory { IfOk result (λ parts. IsDirectory parts.1 counts.fat (B.tree root)) }
 {
     let mut tables = tables_for(alloc, counts)?;
     let directory = directory_of(alloc, &mut tables, root, counts)?;
@@ -36,9 +35,9 @@ fn parts_for(
 
 /// The front of the file of a tree with these counts. All memory that its file takes is taken here: behind the header is
 /// room for what waits to be written.
-pub fn front_of(alloc: Global, root: &Storage, counts: Counts) -> Result<Front, AllocError>
-    requires { AreEnough counts (view root.now) }
-    ensures { IfOk result (λ front. IsFront front counts.fat (view root.now)) }
+pub fn front_of<B: Branch>(alloc: Global, root: B, counts: Counts) -> Result<Front, AllocError>
+    requires { AreEnough counts (B.tree root) }
+    ensures { IfOk result (λ front. IsFront front counts.fat (B.tree root)) }
 {
     let difat_count = counts.difat_sectors();
     let (tables, directory) = parts_for(alloc, root, counts)?;

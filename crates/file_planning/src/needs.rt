@@ -1,7 +1,8 @@
 //! The room that a tree needs in its file, counted in one walk.
 
 ghost use Rattle.std.specs.Prelude.{◌≡◌, if◌then◌else◌, Err, IfErr, IfOk, Ok, OnOk, min, nat_lt};
-ghost use Rattle.storage_nodes.specs.View.{seen, view};
+ghost use Rattle.storage_nodes.specs.Child.{Seen};
+ghost use Rattle.tree_walks.specs.Walks.{Is};
 ghost use Rattle.file_layout.specs.Directory.{entries_with};
 ghost use Rattle.file_model.specs.Need.{entries, long_sectors, mini_sectors, pieces};
 ghost use Rattle.file_model.specs.declared.limit.TheConstants.{CUTOFF, MANY};
@@ -14,7 +15,7 @@ use file_model::limit::{MANY, MOST_FAT_SECTORS};
 use file_model::need::fat_sectors;
 use file_parts::counts::Counts;
 use file_parts::streams::{is_short, mini_count, sector_count};
-use storage_nodes::storage::{Node, Storage};
+use tree_walks::walks::{Branch, What};
 
 /// What a part of a tree needs, each sort of room counted up to the bound: entries, mini sectors and sectors of long streams.
 #[derive(Clone, Copy)]
@@ -26,16 +27,17 @@ pub(crate) struct Needs {
 
 /// What a storage needs below its own entry.
 #[cycle(count_needs)]
-pub(crate) fn needs_below(storage: &Storage) -> Needs
-    ensures entries { result.entries ≡ min MANY (entries (view storage.now)) }
-    ensures minis { result.minis ≡ min MANY (mini_sectors (view storage.now)) }
-    ensures longs { result.longs ≡ min MANY (long_sectors (view storage.now)) }
+pub(crate) fn needs_below<B: Branch>(storage: B) -> Needs
+    ensures entries { result.entries ≡ min MANY (entries (B.tree storage)) }
+    ensures minis { result.minis ≡ min MANY (mini_sectors (B.tree storage)) }
+    ensures longs { result.longs ≡ min MANY (long_sectors (B.tree storage)) }
 {
     let mut entries: u32 = 0;
     let mut minis: u32 = 0;
     let mut longs: u32 = 0;
-    for (_, child) in storage.children.iter() {
-        let needs = needs_with(&child.1);
+    let mut walk = storage.walk();
+    while let Some(child) = B::next(&mut walk) {
+        let needs = needs_with(child.what);
         entries = (entries + needs.entries).min(MANY);
         minis = (minis + needs.minis).min(MANY);
         longs = (longs + needs.longs).min(MANY);
@@ -49,14 +51,14 @@ pub(crate) fn needs_below(storage: &Storage) -> Needs
 
 /// What a child needs with its own entry.
 #[cycle(count_needs)]
-pub(crate) fn needs_with(child: &Node) -> Needs
-    ensures entries { result.entries ≡ min MANY (entries_with (seen child.now)) }
-    ensures minis { result.minis ≡ min MANY (minis_with (seen child.now)) }
-    ensures longs { result.longs ≡ min MANY (sectors_with (seen child.now)) }
+pub(crate) fn needs_with<B: Branch>(child: What<B>) -> Needs
+    ensures entries { (s : Seen) → Is B.tree child s → result.entries ≡ min MANY (entries_with s) }
+    ensures minis { (s : Seen) → Is B.tree child s → result.minis ≡ min MANY (minis_with s) }
+    ensures longs { (s : Seen) → Is B.tree child s → result.longs ≡ min MANY (sectors_with s) }
 {
     match child {
-        Node::Stream(bytes) => needs_of_stream(bytes.len()),
-        Node::Storage(inner) => {
+        What::Stream(size) => needs_of_stream(size),
+        What::Storage(inner) => {
             let below = needs_below(inner);
             Needs {
                 entries: (1 + below.entries).min(MANY),
@@ -89,8 +91,8 @@ fn needs_of_stream(len: usize) -> Needs
 }
 
 /// What a tree needs, each sort of room counted up to the bound.
-fn survey(root: &Storage) -> Counts
-    ensures { IsCounted result (view root.now) }
+fn survey<B: Branch>(root: B) -> Counts
+    ensures { IsCounted result (B.tree root) }
 {
     let needs = needs_below(root);
     let mut counts = Counts {
@@ -106,10 +108,10 @@ fn survey(root: &Storage) -> Counts
 /// The counts of a tree, and the least number of FAT sectors that covers it.
 ///
 /// Refused: `TooBig` where that is above the limit.
-pub fn count(root: &Storage) -> Result<Counts, WriteFault>
-    ensures refused { IfErr result (λ e. writable (view root.now) ≡ Err e) }
-    ensures allowed { OnOk result (writable (view root.now) ≡ Ok tt) }
-    ensures counted { IfOk result (λ counts. AreEnough counts (view root.now)) }
+pub fn count<B: Branch>(root: B) -> Result<Counts, WriteFault>
+    ensures refused { IfErr result (λ e. writable (B.tree root) ≡ Err e) }
+    ensures allowed { OnOk result (writable (B.tree root) ≡ Ok tt) }
+    ensures counted { IfOk result (λ counts. AreEnough counts (B.tree root)) }
 {
     let counts = survey(root);
     if counts.fat > MOST_FAT_SECTORS {

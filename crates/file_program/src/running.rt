@@ -3,7 +3,7 @@
 use cfb_names::name::Name;
 use fault_texts::telling::Form as CheckForm;
 use file_checks::checking::{check_file, check_source};
-use file_cleaning::cleaning::clean_with_tree;
+use file_cleaning::cleaning::clean_opened;
 use file_commands::cleaning::clean_file;
 use file_commands::commands::list_file;
 use file_commands::fault::{CleanFault, GetFault, ListFault};
@@ -233,7 +233,7 @@ fn clean_open<R: Runtime + AllocGlobal>(
     new: &mut NewFile<'_, R>,
 ) -> Result<usize, CleanFault> {
     if is_sought(&source) {
-        count_made(clean_with_tree(rt.alloc(), &mut Sought::new(source), new))
+        count_made(clean_opened(rt.alloc(), &mut Sought::new(source), new))
     } else {
         clean_file(rt.alloc(), &mut source, new)
     }

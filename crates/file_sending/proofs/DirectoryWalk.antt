@@ -1,78 +1,107 @@
 -- A walk over the children of a storage, whose entries are sent.
-use Rattle.std.proofs.Common.{◌≡◌, ◌≤◌, ◌+◌, ◌*◌, ℕ, length, length-append, List, ◌∷◌, refl, sym, ◌∙◌, ap, subst, arith, ◌++◌, append_assoc}
-use Rattle.storage_nodes.specs.Tree.{Children}
+use Rattle.std.proofs.Common.{◌≡◌, ◌≤◌, ◌+◌, ◌*◌, ℕ, length, length-append, List, Option, [], refl, sym, ◌∙◌, ap, subst, arith, ◌++◌, append_assoc}
+use Rattle.storage_nodes.specs.Tree.{Children, Tree, tree}
 use Rattle.storage_nodes.specs.Child.{Seen, bytes, inner, child}
-use Rattle.storage_nodes.specs.View.{children, seen, view}
-use Rattle.storage_nodes.specs.declared.storage.Node.{Node}
-use Rattle.storage_nodes.specs.declared.storage.Node.TheVariants as variant
-use Rattle.storage_nodes.specs.declared.storage.Storage.{Storage}
-use Rattle.storage_nodes.proofs.Views.{seen-storage, seen-stream}
 use Rattle.file_model.specs.Need.{entries, entries_of}
-use Rattle.file_layout.specs.Directory.{class_in, entries_with}
+use Rattle.file_layout.specs.Directory.{children_in}
 use Rattle.directory_model.specs.Written.{entry_bytes}
 use Rattle.directory_model.specs.declared.entries.EntryFields.{EntryFields}
 use Rattle.directory_model.proofs.Fields.{length-entry_bytes}
-use Rattle.file_parts.specs.Leads.{child_led, each_led, lead_in, led_below, storage_led, stream_led}
+use Rattle.file_parts.specs.Leads.{each_led, lead_in, led_below, storage_led, stream_led}
 use Rattle.file_parts.specs.declared.leads.Lead.{Lead}
-use Rattle.file_parts.proofs.Children.{entries-child}
+use Rattle.file_parts.specs.Sends.{Sends}
+use Rattle.file_parts.proofs.Sent.{sends_both, sends_none}
+use Rattle.tree_walks.specs.Walks.{Is, Steps}
+use Rattle.tree_walks.specs.declared.walks.What.{What}
+use Rattle.tree_walks.specs.declared.walks.What.TheVariants as variant
 
-abbrev pub Entries : Type 0
-Entries = List (List ℕ × (List ℕ × Node))
+-- the first of these children has so many entries with those below it, whose bytes are these where its lead stands here
+pub record Begins (leads : List Lead) (at : ℕ) (old : Children) (sent : List ℕ) (count : ℕ) (new : Children) : Type 0 where
+  pub led : each_led leads at old ≡ sent ++ each_led leads (at + count) new
+  pub counted : entries_of old ≡ count + entries_of new
 
-pub entries-first : (rest es : Entries) (k : List ℕ) (v : List ℕ × Node) → rest ≡ (k, v) ∷ es
-    → entries_of (children rest) ≡ entries_with (seen v.1) + entries_of (children es)
-entries-first rest es k v e = ap (λ r. entries_of (children r)) e ∙ entries-child child (λ k n b cs. refl) (λ k n t cs. refl) k v.0 (seen v.1) (children es)
+-- all of a storage is below it
+all-led : (leads : List Lead) (at : ℕ) (t : Tree) (cs : Children) → cs ≡ children_in t → each_led leads at cs ≡ led_below leads at t
+all-led leads at (tree class state es) cs e = ap (each_led leads at) e
 
-led-child : (leads : List Lead) (at : ℕ) (k n : List ℕ) (s : Seen) (cs : Children)
-    → each_led leads at (child k (n, s) cs) ≡ child_led leads at n s ++ each_led leads (at + entries_with s) cs
-led-child leads at k n (bytes b) cs = refl
-led-child leads at k n (inner t) cs =
-    let e : at + 1 + entries t ≡ at + (1 + entries t) = omega arith in
-    let one : List ℕ = entry_bytes n (storage_led (lead_in leads at) t) in
-    let more : List ℕ = led_below leads (at + 1) t in
-    ap (λ x. one ++ (more ++ each_led leads x cs)) e ∙ sym (append_assoc one more (each_led leads (at + (1 + entries t)) cs))
+all-entries : (t : Tree) (cs : Children) → cs ≡ children_in t → entries_of cs ≡ entries t
+all-entries (tree class state es) cs e = ap entries_of e
+
+module _ {B : Type 0} (stands : B → Tree) (leads : List Lead) (at : ℕ) where
+  stream-seen : (size : ℕ) (k n : List ℕ) (s : Seen) (new : Children) → Is stands (variant.Stream size) s
+      → Begins leads at (child k (n, s) new) (entry_bytes n (stream_led (lead_in leads at) size)) 1 new
+  stream-seen size k n (bytes b) new is = record {
+    led = ap (λ z. entry_bytes n (stream_led (lead_in leads at) z) ++ each_led leads (at + 1) new) (sym is);
+    counted = refl;
+  }
+  stream-seen size k n (inner t) new is = absurd is
+
+  storage-seen : (s : B) (k n : List ℕ) (z : Seen) (new : Children) → Is stands (variant.Storage s) z
+      → Begins leads at (child k (n, z) new) (entry_bytes n (storage_led (lead_in leads at) (stands s)) ++ led_below leads (at + 1) (stands s)) (1 + entries (stands s)) new
+  storage-seen s k n (bytes b) new is = absurd is
+  storage-seen s k n (inner t) new is =
+      let one : Tree → List ℕ = λ u. entry_bytes n (storage_led (lead_in leads at) u) in
+      let more : Tree → List ℕ = λ u. led_below leads (at + 1) u in
+      let next : at + 1 + entries t ≡ at + (1 + entries t) = omega arith in record {
+        led = ap (λ x. one t ++ (more t ++ each_led leads x new)) next ∙ sym (append_assoc (one t) (more t) (each_led leads (at + (1 + entries t)) new))
+            ∙ ap (λ u. (one u ++ more u) ++ each_led leads (at + (1 + entries u)) new) (sym is);
+        counted = ap (λ u. 1 + entries u + entries_of new) (sym is);
+      }
+
+  -- a walk steps over a stream, and over a storage, of which this entry is made
+  module _ (old new : Children) (n name : List ℕ) (what : What B) (lead : Lead) (steps : Steps stands old n what new) (named : name ≡ n) (there : lead ≡ lead_in leads at) where
+    pub stream-first : (size : ℕ) (e : EntryFields) → what ≡ variant.Stream size → e ≡ stream_led lead size → Begins leads at old (entry_bytes name e) 1 new
+    stream-first size e is says =
+        let all : e ≡ stream_led (lead_in leads at) size = says ∙ ap (λ (l : Lead). stream_led l size) there in
+        subst (λ (cs : Children). Begins leads at cs (entry_bytes name e) 1 new) (sym steps.first)
+        (subst (λ (zs : List ℕ). Begins leads at (child steps.key (n, steps.seen) new) zs 1 new) (λ i. entry_bytes (sym named i) (sym all i))
+        (stream-seen size steps.key n steps.seen new (subst (λ (w : What B). Is stands w steps.seen) is steps.is)))
+
+    pub storage-first : (s : B) (e : EntryFields) → what ≡ variant.Storage s → e ≡ storage_led lead (stands s)
+        → Begins leads at old (entry_bytes name e ++ led_below leads (at + 1) (stands s)) (1 + entries (stands s)) new
+    storage-first s e is says =
+        let all : e ≡ storage_led (lead_in leads at) (stands s) = says ∙ ap (λ (l : Lead). storage_led l (stands s)) there in
+        let more : List ℕ = led_below leads (at + 1) (stands s) in
+        subst (λ (cs : Children). Begins leads at cs (entry_bytes name e ++ more) (1 + entries (stands s)) new) (sym steps.first)
+        (subst (λ (zs : List ℕ). Begins leads at (child steps.key (n, steps.seen) new) zs (1 + entries (stands s)) new) (λ i. entry_bytes (sym named i) (sym all i) ++ more)
+        (storage-seen s steps.key n steps.seen new (subst (λ (w : What B). Is stands w steps.seen) is steps.is)))
+
+-- what a walk has sent of a storage whose leads stand from a place on, where these children are still before it
+abbrev pub Sent : (w v : Option (List ℕ)) (waited waits : List ℕ) (leads : List Lead) (from : ℕ) (t : Tree) (at : ℕ) (cs : Children) → Type 0
+Sent w v waited waits leads from t at cs = (sent : List ℕ)
+    × Sends w v waited waits sent
+    × (sent ++ each_led leads at cs ≡ led_below leads from t)
+    × (at + entries_of cs ≡ from + entries t)
+    × (entries_of cs ≤ entries t)
+    × (length (each_led leads at cs) ≡ 128 * entries_of cs → length (led_below leads from t) ≡ 128 * entries t)
+
+pub none-sent : (w : Option (List ℕ)) (b : List ℕ) (leads : List Lead) (at : ℕ) (t : Tree) (cs : Children) → cs ≡ children_in t → Sent w w b b leads at t at cs
+none-sent w b leads at t cs e =
+    let led : each_led leads at cs ≡ led_below leads at t = all-led leads at t cs e in
+    let counted : entries_of cs ≡ entries t = all-entries t cs e in
+    ([], sends_none w b, led, ap (λ n. at + n) counted, omega (arith, counted), λ h. ap length (sym led) ∙ h ∙ ap (λ n. 128 * n) counted)
 
 -- one more child is sent
-module _ (leads : List Lead) (at next : ℕ) (rest es : Entries) (k : List ℕ) (v : List ℕ × Node) (steps : rest ≡ (k, v) ∷ es) (after : next ≡ at + entries_with (seen v.1)) where
-  led-first : each_led leads at (children rest) ≡ child_led leads at v.0 (seen v.1) ++ each_led leads next (children es)
-  led-first =
-      ap (λ r. each_led leads at (children r)) steps ∙ led-child leads at k v.0 (seen v.1) (children es)
-      ∙ ap (λ n. child_led leads at v.0 (seen v.1) ++ each_led leads n (children es)) (sym after)
-
-  pub led-more : (sent whole : List ℕ) → sent ++ each_led leads at (children rest) ≡ whole
-      → (sent ++ child_led leads at v.0 (seen v.1)) ++ each_led leads next (children es) ≡ whole
-  led-more sent whole h =
-      append_assoc sent (child_led leads at v.0 (seen v.1)) (each_led leads next (children es)) ∙ ap (λ r. sent ++ r) (sym led-first) ∙ h
-
-  pub led-counted : (all : ℕ) → at + entries_of (children rest) ≡ all → next + entries_of (children es) ≡ all
-  led-counted all h = omega (arith, h, after, entries-first rest es k v steps)
-
-  pub led-long : length (child_led leads at v.0 (seen v.1)) ≡ 128 * entries_with (seen v.1) → length (each_led leads next (children es)) ≡ 128 * entries_of (children es)
-      → length (each_led leads at (children rest)) ≡ 128 * entries_of (children rest)
-  led-long one more =
-      let both : length (child_led leads at v.0 (seen v.1) ++ each_led leads next (children es)) ≡ length (child_led leads at v.0 (seen v.1)) + length (each_led leads next (children es)) =
-      length-append (child_led leads at v.0 (seen v.1)) (each_led leads next (children es)) in
-      omega (arith, ap length led-first, both, one, more, entries-first rest es k v steps)
+pub one-sent : (w v u : Option (List ℕ)) (a b d : List ℕ) (leads : List Lead) (from : ℕ) (t : Tree) (at next : ℕ) (old new : Children) (more : List ℕ) (count : ℕ)
+    → Sent w v a b leads from t at old → Begins leads at old more count new → next ≡ at + count → Sends v u b d more → length more ≡ 128 * count
+    → Sent w u a d leads from t next new
+one-sent w v u a b d leads from t at next old new more count i first after went one =
+    let led : each_led leads at old ≡ more ++ each_led leads next new = first.led ∙ ap (λ n. more ++ each_led leads n new) (sym after) in
+    let both : length (more ++ each_led leads next new) ≡ length more + length (each_led leads next new) = length-append more (each_led leads next new) in (
+      i.0 ++ more,
+      sends_both w v u a b d i.0 more i.1 went,
+      append_assoc i.0 more (each_led leads next new) ∙ ap (λ r. i.0 ++ r) (sym led) ∙ i.2,
+      omega (arith, i.3, after, first.counted),
+      omega (arith, i.4, first.counted),
+      λ h. i.5 (omega (arith, ap length led, both, one, h, first.counted)),
+    )
 
 -- the entry of a stream, and that of a storage with those below it, which take 128 bytes each
-module _ (leads : List Lead) (at : ℕ) (name : List ℕ) (node : Node) (short : length name ≤ 31) where
-  pub stream-long : (b : List ℕ) → node ≡ variant.Stream b → length (child_led leads at name (seen node)) ≡ 128 * entries_with (seen node)
-  stream-long b is =
-      subst (λ (s : Seen). length (child_led leads at name s) ≡ 128 * entries_with s) (sym (ap seen is ∙ seen-stream b))
-      (length-entry_bytes name (stream_led (lead_in leads at) (length b)) short refl)
+pub one-long : (name : List ℕ) (e : EntryFields) (lead : Lead) (size : ℕ) → length name ≤ 31 → e ≡ stream_led lead size → length (entry_bytes name e) ≡ 128 * 1
+one-long name e lead size short says = length-entry_bytes name e short (ap (λ (x : EntryFields). length x.class) says)
 
-  pub storage-long : (s : Storage) (lead : Lead) (e : EntryFields) → node ≡ variant.Storage s → e ≡ storage_led lead (view s) → length e.class ≡ 16 → length (led_below leads (at + 1) (view s)) ≡ 128 * entries (view s)
-      → length (child_led leads at name (seen node)) ≡ 128 * entries_with (seen node)
-  storage-long s lead e is says class below =
-      let whole : length (class_in (view s)) ≡ 16 = ap (λ (x : EntryFields). length x.class) (sym says) ∙ class in
-      let one : List ℕ = entry_bytes name (storage_led (lead_in leads at) (view s)) in
-      let a : length (one ++ led_below leads (at + 1) (view s)) ≡ length one + length (led_below leads (at + 1) (view s)) = length-append one (led_below leads (at + 1) (view s)) in
-      let b : length one ≡ 128 = length-entry_bytes name (storage_led (lead_in leads at) (view s)) short whole in
-      let both : length (one ++ led_below leads (at + 1) (view s)) ≡ 128 * (1 + entries (view s)) = omega (arith, a, b, below) in
-      subst (λ (z : Seen). length (child_led leads at name z) ≡ 128 * entries_with z) (sym (ap seen is ∙ seen-storage s)) both
-
-pub storage-led : (leads : List Lead) (at : ℕ) (name name' : List ℕ) (node : Node) (s : Storage) (lead : Lead) (e : EntryFields) → node ≡ variant.Storage s → name' ≡ name
-    → lead ≡ lead_in leads at → e ≡ storage_led lead (view s) → entry_bytes name' e ++ led_below leads (at + 1) (view s) ≡ child_led leads at name (seen node)
-storage-led leads at name name' node s lead e is named there says =
-    let all : e ≡ storage_led (lead_in leads at) (view s) = says ∙ ap (λ (l : Lead). storage_led l (view s)) there in
-    (λ i. entry_bytes (named i) (all i) ++ led_below leads (at + 1) (view s)) ∙ sym (ap (child_led leads at name) (ap seen is ∙ seen-storage s))
+pub both-long : (name : List ℕ) (e : EntryFields) (more : List ℕ) (count : ℕ) → length name ≤ 31 → length e.class ≡ 16 → length more ≡ 128 * count
+    → length (entry_bytes name e ++ more) ≡ 128 * (1 + count)
+both-long name e more count short class below =
+    let both : length (entry_bytes name e ++ more) ≡ length (entry_bytes name e) + length more = length-append (entry_bytes name e) more in
+    omega (arith, both, length-entry_bytes name e short class, below)

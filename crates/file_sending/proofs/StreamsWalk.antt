@@ -9,7 +9,9 @@ use Rattle.file_layout.specs.Image.{padded, whole_pieces}
 use Rattle.file_layout.specs.Directory.{short_streams_of, long_streams_of}
 use Rattle.file_parts.specs.Streams.{long_within, short_within}
 use Rattle.file_parts.proofs.Children.{longs-child, shorts-child}
-use Rattle.file_sending.proofs.DirectoryWalk.{Entries}
+
+abbrev pub Entries : Type 0
+Entries = List (List ℕ × (List ℕ × Node))
 
 walk-more : (put : List (List ℕ) → List ℕ) (of : Children → List (List ℕ)) (within : Seen → List (List ℕ)) → ((xs ys : List (List ℕ)) → put (xs ++ ys) ≡ put xs ++ put ys)
     → ((k n : List ℕ) (s : Seen) (cs : Children) → of (child k (n, s) cs) ≡ within s ++ of cs)

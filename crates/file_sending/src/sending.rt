@@ -1,14 +1,15 @@
 //! The file of a tree sent to where it goes, without a copy of its streams in memory.
 
-ghost use Rattle.file_layout.specs.Directory.{balanced, long_streams, parts_of, short_streams};
+ghost use Rattle.file_layout.specs.Directory.{balanced, directory_of_tree, long_streams, parts_of, short_streams};
 ghost use Rattle.file_layout.specs.Image.{behind_fat, image, padded, whole_pieces};
-ghost use Rattle.file_parts.specs.Counted.{AreEnough};
+ghost use Rattle.file_parts.specs.Counted.{AreCounts, AreEnough};
 ghost use Rattle.file_parts.specs.Front.{IsFront};
 ghost use Rattle.file_parts.specs.Sends.{Sends};
-ghost use Rattle.file_model.specs.Need.{data_sectors, long_sectors, mini_sectors};
+ghost use Rattle.file_fronts.specs.Front.{front_bytes};
+ghost use Rattle.file_model.specs.Need.{data_sectors, directory_sectors, long_sectors, mini_sectors};
 ghost use Rattle.file_parts.specs.Streams.{long_within, short_within};
 ghost use Rattle.std.specs.Io.KnownBytes.{Appends};
-ghost use Rattle.std.specs.Prelude.{[], ◌*◌, ◌+◌, ◌++◌, ◌∷◌, ◌≡◌, IfSome, OnOk, length};
+ghost use Rattle.std.specs.Prelude.{[], ◌*◌, ◌+◌, ◌++◌, ◌∷◌, ◌≡◌, IfOk, IfSome, OnOk, length};
 ghost use Rattle.storage_nodes.specs.View.{seen, view};
 
 use crate::directory::send_directory;
@@ -19,6 +20,7 @@ use file_parts::streams::{is_short, mini_zeros, sector_zeros};
 use std::alloc::AllocError;
 use std::io::{self, Write};
 use storage_nodes::storage::{Node, Storage};
+use tree_walks::walks::Branch;
 
 /// Adds the bytes of a stream, with zeros up to whole mini sectors.
 fn push_minis(waiting: &mut Vec<u8>, bytes: &[u8]) -> Result<(), AllocError>
@@ -161,6 +163,27 @@ fn send_long_streams<W: Write>(
     Ok(())
 }
 
+/// Sends what stands before the streams in the file of a tree with these counts, of which this is the front, and gives what
+/// waits then.
+pub fn send_front<W: Write, B: Branch>(
+    writer: &mut W,
+    front: Front,
+    root: B,
+    counts: Counts,
+) -> io::Result<Vec<u8>>
+    requires counts { AreCounts counts (B.tree root) }
+    requires front { IsFront front counts.fat (B.tree root) }
+    ensures sent { IfOk result (λ waiting. Sends (W.contents writer.old) (W.contents writer.new) [] waiting.items (front_bytes counts.fat (B.tree root))) }
+    ensures long { OnOk result (length (directory_of_tree balanced counts.fat (B.tree root)) ≡ 512 * directory_sectors (B.tree root)) }
+{
+    let mut waiting = front.header;
+    send_numbers(writer, &mut waiting, &front.tables.fat)?;
+    send_numbers(writer, &mut waiting, &front.difat)?;
+    send_directory(writer, &mut waiting, root, &front.directory, counts)?;
+    send_numbers(writer, &mut waiting, &front.tables.minis)?;
+    Ok(waiting)
+}
+
 /// Writes the file of a tree with these counts, of which this is the front, and all through to the writer's end.
 pub fn send_all<W: Write>(
     writer: &mut W,
@@ -173,11 +196,7 @@ pub fn send_all<W: Write>(
     ensures sent { OnOk result (Appends (W.contents writer.old) (W.contents writer.new) (image counts.fat (parts_of balanced counts.fat (view root.now)))) }
     ensures long { OnOk result (length (image counts.fat (parts_of balanced counts.fat (view root.now))) ≡ 512 * (1 + behind_fat counts.fat + data_sectors (view root.now))) }
 {
-    let mut waiting = front.header;
-    send_numbers(writer, &mut waiting, &front.tables.fat)?;
-    send_numbers(writer, &mut waiting, &front.difat)?;
-    send_directory(writer, &mut waiting, root, &front.directory, counts)?;
-    send_numbers(writer, &mut waiting, &front.tables.minis)?;
+    let mut waiting = send_front(writer, front, root, counts)?;
     send_mini_stream(writer, &mut waiting, root, counts.minis)?;
     send_long_streams(writer, &mut waiting, root, counts.longs)?;
     finish(writer, &waiting)?;

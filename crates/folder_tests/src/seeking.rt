@@ -183,7 +183,7 @@ fn is_cleaned(alloc: Global, file: &[u8], calls: usize) -> bool {
     }
 }
 
-/// Whether so many calls are too few for it, and nothing is written.
+/// Whether so many calls are too few to open it, and nothing is written.
 fn is_left(alloc: Global, file: &[u8], calls: usize) -> bool {
     let mut source = Few { bytes: file, calls };
     let mut out = Vec::new(alloc);
@@ -193,10 +193,24 @@ fn is_left(alloc: Global, file: &[u8], calls: usize) -> bool {
     }
 }
 
+/// Whether so many calls are too few to read all its streams, and a front of it is written, which is empty or not.
+fn is_broken_off(alloc: Global, file: &[u8], calls: usize, empty: bool) -> bool {
+    let mut source = Few { bytes: file, calls };
+    let mut out = Vec::new(alloc);
+    match clean_source(alloc, &mut source, &mut out) {
+        Err(CleanFault::Cut(InputFault::Unreadable)) => {
+            out.is_empty() == empty && file.starts_with(&out)
+        }
+        _ => false,
+    }
+}
+
 #[test]
 fn a_file_is_cleaned_by_places(rt: HostRuntime) {
     let file = made(&rt, rt.alloc(), DESCRIPTION);
     assert!(rt; is_cleaned(rt.alloc(), &file, CALLS + 3));
-    assert!(rt; is_left(rt.alloc(), &file, CALLS + 2));
-    assert!(rt; is_left(rt.alloc(), &file, CALLS));
+    assert!(rt; is_broken_off(rt.alloc(), &file, CALLS + 2, false));
+    assert!(rt; is_broken_off(rt.alloc(), &file, CALLS + 1, true));
+    assert!(rt; is_broken_off(rt.alloc(), &file, CALLS, true));
+    assert!(rt; is_left(rt.alloc(), &file, CALLS - 1));
 }

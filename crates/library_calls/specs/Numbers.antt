@@ -95,6 +95,7 @@ abbrev pub clean_number : CleanFault → ℕ
 clean_number (clean.Input fault) = input_number fault
 clean_number (clean.Read fault) = read_number fault
 clean_number (clean.Write fault) = write_number fault
+clean_number (clean.Cut fault) = input_number fault
 clean_number clean.Unwritable = 5
 
 -- the names, as the program prints them; a number of no fault has none

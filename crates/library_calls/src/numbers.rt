@@ -165,6 +165,7 @@ pub fn clean_number(fault: CleanFault) -> u32
         CleanFault::Input(fault) => input_number(fault),
         CleanFault::Read(fault) => read_number(fault),
         CleanFault::Write(fault) => write_number(fault),
+        CleanFault::Cut(fault) => input_number(fault),
         CleanFault::Unwritable => 5,
     }
 }

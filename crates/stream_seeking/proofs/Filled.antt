@@ -4,7 +4,7 @@ use Rattle.std.proofs.lemmas.List.{append-nil, drop-drop, drop_all, drop-append-
 use Rattle.std.proofs.Math.Seq.{drop-append-add}
 use Rattle.cfb_bytes.specs.Bytes.{block}
 use Rattle.cfb_header.specs.Bytes.{joined, sector}
-use Rattle.cfb_chain.proofs.Blocks.{block_pushed, length_block}
+use Rattle.cfb_chain.proofs.Blocks.{length_block}
 
 -- so many bytes of a list, zeros behind its end
 abbrev pad : ℕ → List ℕ → List ℕ

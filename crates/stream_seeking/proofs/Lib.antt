@@ -6,5 +6,4 @@ pub mod Fronts
 pub mod Placing
 pub mod Shown
 pub mod Alike
-pub mod Tabled
 pub mod Rows

@@ -176,11 +176,11 @@ shown_is file t o p =
 -- ---- what is read by tables
 module _ (file : List ℕ) (l : Layout) (tables : Tables) (are : AreTablesOf file l tables) where
   read_held : IsLaidOut file l → (short : Bool) (first size : ℕ) (ns : List ℕ) → IsChainOf (if short then minis file l else sectors file l) first size ns
-      → take size (if short then joined (block 64 tables.mini_stream) (map (λ n. 64 * n) (walked (λ n. u32_at tables.mini_fat.items (4 * n)) first ((size + 63) / 64)))
+      → take size (if short then joined (block 64 (joined (sector file) tables.mini_stream.items)) (map (λ n. 64 * n) (walked (λ n. u32_at tables.mini_fat.items (4 * n)) first ((size + 63) / 64)))
       else joined (sector file) (followed tables.fat.items ((size + 511) / 512) first))
       ≡ take size (joined (if short then minis file l else sectors file l).piece ns)
   read_held laid true first size ns chain =
-      (λ i. take size (joined (block 64 (are.stream i)) (map (λ n. 64 * n) (walked (are.next i) first ((size + 63) / 64)))))
+      (λ i. take size (joined (block 64 (joined (sector file) (are.stream i))) (map (λ n. 64 * n) (walked (are.next i) first ((size + 63) / 64)))))
       ∙ sym (short_read file l laid first size ns chain)
   read_held laid false first size ns chain =
       ap (λ xs. take size (joined (sector file) (followed xs ((size + 511) / 512) first))) (table_over file l (directory_of file l) tables.fat.items are.over)

@@ -19,7 +19,7 @@ minis_read mini_stream mini_fat place = joined (block 64 mini_stream) (map (λ n
 abbrev pub read_by : List ℕ → Tables → Place → List ℕ
 read_by file tables place = take place.size (
     if nat_lt place.size CUTOFF
-    then minis_read tables.mini_stream tables.mini_fat.items place
+    then minis_read (joined (sector file) tables.mini_stream.items) tables.mini_fat.items place
     else joined (sector file) (followed tables.fat.items ((place.size + 511) / 512) place.first)
     )
 
@@ -27,4 +27,4 @@ read_by file tables place = take place.size (
 pub record AreTablesOf (file : List ℕ) (l : Layout) (tables : Tables) : Type 0 where
   pub over : IsOver file l (directory_of file l) tables.fat.items
   pub next : (λ (n : ℕ). u32_at tables.mini_fat.items (4 * n)) ≡ (minis file l).next
-  pub stream : tables.mini_stream ≡ joined (sector file) (stream_sectors file l)
+  pub stream : tables.mini_stream.items ≡ stream_sectors file l

@@ -42,7 +42,7 @@ pub struct Lies {
 }
 
 /// How many sectors the bytes of a place take.
-pub(crate) fn count_sectors(place: Place) -> usize
+pub fn count_sectors(place: Place) -> usize
     ensures { result ≡ (place.size + 511) / 512 }
 {
     (place.size as usize + 511) / 512
@@ -95,7 +95,7 @@ pub(crate) fn mini_fat_bytes(
 }
 
 /// How many mini sectors the bytes of a place take.
-pub(crate) fn count_minis(place: Place) -> usize
+pub fn count_minis(place: Place) -> usize
     ensures { result ≡ (place.size + 63) / 64 }
 {
     (place.size as usize + 63) / 64

@@ -11,7 +11,7 @@ use cfb_places::places::Places;
 use std::alloc::{AllocError, Global};
 
 /// The sectors from one on, each followed by the one that its entry names, as far as entries go, and no more than so many.
-pub(crate) fn follow(
+pub fn follow(
     alloc: Global,
     table: &[u32],
     first: u32,
@@ -53,7 +53,7 @@ pub(crate) fn number(bytes: &[u8], k: u32) -> u32
 }
 
 /// So many mini sectors from one on, each followed by the one that its entry in the mini FAT names.
-pub(crate) fn follow_minis(
+pub fn follow_minis(
     alloc: Global,
     mini_fat: &[u8],
     first: u32,
@@ -72,7 +72,7 @@ pub(crate) fn follow_minis(
 }
 
 /// Whether so many mini sectors from one on follow one another, each at the next number.
-pub(crate) fn are_in_a_row(mini_fat: &[u8], first: u32, count: usize) -> bool
+pub fn are_in_a_row(mini_fat: &[u8], first: u32, count: usize) -> bool
     requires whole { (m : ℕ) × (length mini_fat.now ≡ 4 * m) }
     ensures { result ≡ true → walked (λ n. u32_at mini_fat.now (4 * n)) first count ≡ range_with_len first count }
 {

@@ -11,7 +11,7 @@ use file_places::source::Source;
 use std::alloc::Global;
 
 /// The size of a sector.
-pub(crate) const SECTOR: usize = 512;
+pub const SECTOR: usize = 512;
 
 /// The size of a mini sector.
 const MINI: usize = 64;
@@ -37,7 +37,7 @@ pub(crate) fn fill<S: Source>(
 }
 
 /// Fills a buffer with the first bytes of sectors, reading neighbours at once.
-pub(crate) fn fill_sectors<S: Source>(
+pub fn fill_sectors<S: Source>(
     source: &mut S,
     len: usize,
     sectors: &[u32],

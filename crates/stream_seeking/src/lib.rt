@@ -3,8 +3,8 @@
 #![tactic(auto)]
 
 pub mod blocks;
-mod chains;
+pub mod chains;
 pub mod copying;
 pub mod fault;
-mod filling;
+pub mod filling;
 pub mod tables;

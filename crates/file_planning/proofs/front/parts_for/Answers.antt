@@ -1,7 +1,6 @@
 use Rattle.std.proofs.Common.{◌≡◌, ◌∙◌, ◌++◌, ℕ, List, ap, arith, length, rules}
 use Rattle.std.specs.Vec.{vec_len}
 use Rattle.storage_nodes.specs.Tree.{Tree}
-use Rattle.storage_nodes.specs.View.{view}
 use Rattle.file_layout.specs.Directory.{balanced, parts_of, short_streams}
 use Rattle.file_layout.specs.Image.{behind_fat, counts, own_entries, pieces_of, runs}
 use Rattle.file_layout.proofs.ContentsNext.{shorts-sum}
@@ -11,8 +10,8 @@ use Rattle.file_parts.proofs.Whole.{as_counted, fat_joined}
 use Rattle.file_planning.proofs.front.parts_for.Goals as goal
 
 pub fill_table-requires-clause-fits : goal.fill_table-requires-clause-fits
-fill_table-requires-clause-fits c =
-    let t : Tree = view c.args.root.now in
+fill_table-requires-clause-fits g c =
+    let t : Tree = g.B.Branch.tree c.args.root in
     let f : ℕ = c.args.counts.fat in
     let all : c.directory_of.new.tables.fat.items ≡ own_entries f ++ runs (behind_fat f) (counts (parts_of balanced f t)) =
     c.in_ok-directory.ensures.fat ∙ fat_joined f t c.in_ok-tables.tables.fat.items (c.in_ok-tables.ensures.fat ∙ as_counted c.args.counts t c.requires.counts) in
@@ -20,8 +19,8 @@ fill_table-requires-clause-fits c =
     omega (arith, len, ap (λ (xs : List ℕ). length xs) all, length-fat f t, c.requires.covered)
 
 pub fill_table-requires-2-clause-fits : goal.fill_table-requires-2-clause-fits
-fill_table-requires-2-clause-fits c =
-    let t : Tree = view c.args.root.now in
+fill_table-requires-2-clause-fits g c =
+    let t : Tree = g.B.Branch.tree c.args.root in
     let ns : List ℕ = pieces_of 64 (short_streams t) in
     let all : c.directory_of.new.tables.minis.items ≡ runs 0 ns =
     c.in_ok-directory.ensures.minis ∙ ap (λ xs. xs ++ runs 0 ns) c.in_ok-tables.ensures.minis in

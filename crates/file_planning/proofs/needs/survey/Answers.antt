@@ -2,4 +2,4 @@ use Rattle.std.proofs.Common.{rules}
 use Rattle.file_planning.proofs.needs.survey.Goals as goal
 
 pub returns : goal.returns
-returns c = search rules
+returns g c = search rules

@@ -3,7 +3,6 @@ use Rattle.std.specs.List.{concat}
 use Rattle.directory_model.specs.Entries.{root_name}
 use Rattle.directory_model.specs.Written.{entry_bytes, free_entry_bytes}
 use Rattle.storage_nodes.specs.Tree.{Tree}
-use Rattle.storage_nodes.specs.View.{view}
 use Rattle.file_model.specs.Need.{directory_sectors, pieces}
 use Rattle.file_layout.specs.Directory.{balanced, entries_below, long_start}
 use Rattle.file_parts.specs.Leads.{led_below}
@@ -23,7 +22,7 @@ returns-clause-sent g c =
     let first : List ℕ = c.send_entry.new.waiting.items in
     let more : List ℕ = c.send_below.new.waiting.items in
     let waits : List ℕ = c.send_unused.new.waiting.items in
-    let t : Tree = view c.args.root.now in
+    let t : Tree = g.B.Branch.tree c.args.root in
     let f : ℕ = c.args.counts.fat in
     let named : c.as_bytes.result.now ≡ root_name = c.as_bytes.ensures.spelled ∙ c.root-name.ensures in
     let below : led_below c.deref.result.now 0 t ≡ entries_below balanced 0 0 (long_start f t) t =
@@ -38,7 +37,7 @@ returns-clause-sent g c =
 
 pub returns-clause-long : goal.returns-clause-long
 returns-clause-long g c =
-    let t : Tree = view c.args.root.now in
+    let t : Tree = g.B.Branch.tree c.args.root in
     let f : ℕ = c.args.counts.fat in
     let below : led_below c.deref.result.now 0 t ≡ entries_below balanced 0 0 (long_start f t) t =
     led-all c.deref.result.now 0 0 (long_start f t) t c.requires.directory.spelled (c.deref.ensures.value ∙ c.requires.directory.leads) in

@@ -1,0 +1,24 @@
+use Rattle.std.proofs.Common.{List, Option, IfSome, ℕ, subst, sym}
+use Rattle.file_commands.specs.Cleaning.{MayRefuseClean}
+use Rattle.storage_tree.specs.Tree.{Tree}
+use Rattle.file_moving.specs.Opened.{IsOpenedOf}
+use Rattle.file_writer.specs.Sending.{WritesFile}
+use Rattle.file_cleaning.proofs.Cleaned.{known_cleans, move_refused, source_refused}
+use Rattle.file_cleaning.proofs.cleaning.clean_opened.Goals as goal
+
+pub returns-in-Err-clause-refused : goal.returns-in-Err-clause-refused
+returns-in-Err-clause-refused g c =
+    let known : Option (List ℕ) = g.S.Source.bytes c.args.source.now in
+    subst (λ fault. IfSome known (λ file. MayRefuseClean file fault)) (sym c.of_source.ensures) (source_refused known c.in-Err.fault c.in-Err.ensures.refused)
+
+pub returns-in-Ok-move_file-clause-cleaned : goal.returns-in-Ok-move_file-clause-cleaned
+returns-in-Ok-move_file-clause-cleaned g c =
+    known_cleans (g.S.Source.bytes c.args.source.now) c.in-Ok.opened (g.W.Write.contents c.args.writer.now) (g.W.Write.contents c.move_file.new.writer) c.in-Ok-move_file.count
+    c.in-Ok.ensures.opened (subst (λ known. IfSome known (λ file. (t : Tree) → IsOpenedOf file t c.in-Ok.opened
+    → WritesFile t (g.W.Write.contents c.args.writer.now) (g.W.Write.contents c.move_file.new.writer) c.in-Ok-move_file.count)) c.open.ensures.kept c.in-Ok-move_file.ensures.written)
+
+pub returns-in-Err-move_file-clause-refused : goal.returns-in-Err-move_file-clause-refused
+returns-in-Err-move_file-clause-refused g c =
+    let known : Option (List ℕ) = g.S.Source.bytes c.args.source.now in
+    subst (λ fault. IfSome known (λ file. MayRefuseClean file fault)) (sym c.of_moving.ensures)
+    (move_refused known c.in-Ok.opened c.in-Err-move_file.fault c.in-Ok.ensures.opened c.in-Err-move_file.ensures.refused)

@@ -1,0 +1,3 @@
+pub mod Blank
+pub mod BlankFront
+pub mod Outlined

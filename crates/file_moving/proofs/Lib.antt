@@ -1,0 +1,4 @@
+pub mod Blank
+pub mod Sources
+pub mod Walks
+pub mod Weights

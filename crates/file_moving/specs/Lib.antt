@@ -1,0 +1,4 @@
+pub mod Sizes
+pub mod Opened
+pub mod Sources
+pub mod Moves

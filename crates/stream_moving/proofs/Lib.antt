@@ -1,0 +1,5 @@
+pub mod Rows
+pub mod Held
+pub mod Minis
+pub mod Ends
+pub mod Pieces

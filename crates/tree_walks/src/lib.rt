@@ -1,0 +1,5 @@
+//! Storages that are walked child by child, whatever holds them.
+#![tactic(auto)]
+
+mod storages;
+pub mod walks;
