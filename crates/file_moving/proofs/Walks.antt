@@ -10,42 +10,21 @@ use Rattle.file_layout.specs.Image.{padded, whole_pieces}
 use Rattle.file_model.specs.Limits.{CUTOFF}
 use Rattle.file_model.specs.Outline as model
 use Rattle.file_model.specs.Outline.{nested, no_parts, outline, outline_of, outlines_of, part, part_of, sized, storage_part, stream_part}
-use Rattle.file_outline.specs.View.{outline_step, outline_view, part_step, part_view, parts_view, shown, shown_part, shown_parts}
-use Rattle.file_outline.specs.declared.outline.Outline.{Outline, fold_out-Outline}
+use Rattle.file_outline.specs.View.{outline_view, part_view, parts_view, shown, shown_part, shown_parts}
+use Rattle.file_outline.specs.declared.outline.Outline.{Outline}
 use Rattle.file_outline.specs.declared.outline.Part.{Part}
 use Rattle.file_outline.specs.declared.outline.Part.TheVariants as variant
 use Rattle.file_outline.specs.declared.outline.Place.{Place}
 use Rattle.file_outline.proofs.Outlines.{outlines-child, shown-nested, shown-out}
 use Rattle.outline_entries.proofs.Told.{view_nested}
+use Rattle.stream_seeking.proofs.Shown.{first_in, first_is, rest_in, rest_is, view_out}
 use Rattle.file_parts.specs.Streams.{long_within, short_within}
 use Rattle.file_parts.proofs.Children.{longs-child, shorts-child}
 
 -- ---- what stands in an outline
-view_out : (o : Outline) → outline_view o ≡ outline o.class o.state (parts_view o.parts.items)
-view_out o = fold_out-Outline model.Part model.Outline part_step outline_step o
-
 abbrev inside : model.Part → model.Outline
 inside (sized size) = outline [] 0 no_parts
 inside (nested o) = o
-
--- ---- what stands first in the outline of some parts
-abbrev first_in : model.Parts → model.Part
-first_in no_parts = sized 0
-first_in (stream_part n size ps) = sized size
-first_in (storage_part n o ps) = nested o
-
-abbrev rest_in : model.Parts → model.Parts
-rest_in no_parts = no_parts
-rest_in (stream_part n size ps) = ps
-rest_in (storage_part n o ps) = ps
-
-first_is : (n : List ℕ) (p : model.Part) (ps : model.Parts) → first_in (part n p ps) ≡ p
-first_is n (sized size) ps = refl
-first_is n (nested o) ps = refl
-
-rest_is : (n : List ℕ) (p : model.Part) (ps : model.Parts) → rest_in (part n p ps) ≡ ps
-rest_is n (sized size) ps = refl
-rest_is n (nested o) ps = refl
 
 module _ (content : Place → List ℕ) (p : List ℕ × Part) (ps : List (List ℕ × Part)) where
   -- parts that are as long as their streams, whole or without the first

@@ -8,16 +8,15 @@ ghost use Rattle.file_model.specs.Outline.{part_of};
 ghost use Rattle.file_outline.specs.View.{part_view, shown, shown_part};
 ghost use Rattle.file_parts.specs.Sends.{Sends};
 ghost use Rattle.file_parts.specs.Streams.{long_within, short_within};
-ghost use Rattle.std.specs.Prelude.{◌*◌, ◌<◌, ◌≡◌, List, OnOk, Some, length, replicate, ℕ};
+ghost use Rattle.std.specs.Prelude.{◌*◌, ◌≡◌, List, OnOk, Some, length, ℕ};
 ghost use Rattle.stream_moving.specs.Windows.{IsWindow};
 ghost use Rattle.stream_seeking.specs.Tables.{read_by};
 
 use file_outline::outline::{Outline, Part, is_short};
-use file_parts::pieces::send_zeros;
 use file_parts::streams::sector_zeros;
 use file_places::source::Source;
 use std::io::Write;
-use stream_moving::moving::{send_long, send_short};
+use stream_moving::moving::{pad, send_long, send_short};
 use stream_moving::window::Window;
 use stream_seeking::fault::CopyFault;
 use stream_seeking::tables::Tables;
@@ -68,17 +67,6 @@ fn send_short_part<S: Source, W: Write>(
             send_short(alloc, writer, waiting, source, tables, window, *place)
         }
         Part::Storage(inner) => send_shorts(writer, waiting, source, tables, window, inner),
-    }
-}
-
-/// Sends zeros.
-fn pad<W: Write>(writer: &mut W, waiting: &mut Vec<u8>, count: usize) -> Result<(), CopyFault>
-    requires { count < 512 }
-    ensures { OnOk result (Sends (W.contents writer.old) (W.contents writer.new) waiting.old.items waiting.new.items (replicate count 0)) }
-{
-    match send_zeros(writer, waiting, count) {
-        Ok(()) => Ok(()),
-        Err(_) => Err(CopyFault::Unwritable),
     }
 }
 

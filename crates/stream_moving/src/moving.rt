@@ -201,8 +201,10 @@ fn send_sectors<S: Source, W: Write>(
     Ok(())
 }
 
-/// Sends zeros.
-fn pad<W: Write>(writer: &mut W, waiting: &mut Vec<u8>, count: usize) -> Result<(), CopyFault>
+/// Sends zeros, fewer than a sector has.
+///
+/// Refused: `Unwritable` where a write fails.
+pub fn pad<W: Write>(writer: &mut W, waiting: &mut Vec<u8>, count: usize) -> Result<(), CopyFault>
     requires { count < 512 }
     ensures { OnOk result (Sends (W.contents writer.old) (W.contents writer.new) waiting.old.items waiting.new.items (replicate count 0)) }
 {

@@ -35,25 +35,25 @@ use Rattle.stream_seeking.proofs.Joined.{joined_cut}
 use Rattle.stream_seeking.proofs.Minis.{sector_width, short_held, short_read}
 
 -- ---- what stands first in an outline's parts
-abbrev first_in : model.Parts → model.Part
+abbrev pub first_in : model.Parts → model.Part
 first_in no_parts = sized 0
 first_in (stream_part n size ps) = sized size
 first_in (storage_part n o ps) = nested o
 
-abbrev rest_in : model.Parts → model.Parts
+abbrev pub rest_in : model.Parts → model.Parts
 rest_in no_parts = no_parts
 rest_in (stream_part n size ps) = ps
 rest_in (storage_part n o ps) = ps
 
-first_is : (n : List ℕ) (p : model.Part) (ps : model.Parts) → first_in (part n p ps) ≡ p
+pub first_is : (n : List ℕ) (p : model.Part) (ps : model.Parts) → first_in (part n p ps) ≡ p
 first_is n (sized size) ps = refl
 first_is n (nested o) ps = refl
 
-rest_is : (n : List ℕ) (p : model.Part) (ps : model.Parts) → rest_in (part n p ps) ≡ ps
+pub rest_is : (n : List ℕ) (p : model.Part) (ps : model.Parts) → rest_in (part n p ps) ≡ ps
 rest_is n (sized size) ps = refl
 rest_is n (nested o) ps = refl
 
-view_out : (o : Outline) → outline_view o ≡ outline o.class o.state (parts_view o.parts.items)
+pub view_out : (o : Outline) → outline_view o ≡ outline o.class o.state (parts_view o.parts.items)
 view_out o = fold_out-Outline model.Part model.Outline part_step outline_step o
 
 -- ---- an outline that tells of a directory's entries, and the tree that these hold
