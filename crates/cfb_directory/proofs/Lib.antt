@@ -3,6 +3,7 @@ pub mod Numbers
 pub use Rattle.directory_model.proofs.Linked
 pub use Rattle.directory_model.proofs.Marks
 pub mod Walk
+pub mod InOrder
 pub use Rattle.directory_model.proofs.Reading
 pub mod Kept
 pub mod Characters

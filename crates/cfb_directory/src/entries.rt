@@ -5,6 +5,7 @@ ghost use Rattle.cfb_bytes.specs.Marks.{set_all};
 ghost use Rattle.cfb_bytes.specs.Bytes.{u16_at};
 ghost use Rattle.cfb_names.specs.Names.{IsName, is_forbidden};
 ghost use Rattle.cfb_directory.specs.Held.{held};
+ghost use Rattle.cfb_directory.specs.Reached.{AreReached};
 ghost use Rattle.cfb_directory.specs.Streams.{IsStreamEntry};
 ghost use Rattle.cfb_directory.specs.Walk.{IsTaken, MayRefuseName, unmarked};
 ghost use Rattle.cfb_names.specs.declared.fault.DirFault.TheVariants.{BadEntry, NoMemory};
@@ -351,6 +352,47 @@ impl<'a> Table<'a> {
         Ok(())
     }
 
+    /// Finds and marks what links reach from an entry, as a search tree is read in order: what the left link of an entry leads to,
+    /// the entry, what its right link leads to. Those on whose left it is wait meanwhile. Both lists have room for all entries. A
+    /// refusal leaves those marked that were found and that wait.
+    fn walk_in_order(
+        &mut self,
+        top: u32,
+        waiting: &mut Vec<u32>,
+        found: &mut Vec<u32>,
+    ) -> Result<(), DirFault>
+        requires nobody_waits { waiting.old.items ≡ [] }
+        requires none_found { found.old.items ≡ [] }
+        requires room_to_wait { length self.old.used ≤ vec_capacity waiting.old }
+        requires room { length self.old.used ≤ vec_capacity found.old }
+        ensures reached { OnOk result (AreReached self.old self.new top found.new.items) }
+        ensures done { OnOk result (waiting.new.items ≡ []) }
+        ensures free { AreFree self.old (found.new.items ++ waiting.new.items) }
+        ensures marks { self.new ≡ marked self.old (found.new.items ++ waiting.new.items) }
+        ensures refused { IfErr result (MayRefuseLinked self.old top) }
+        ensures waiting_kept { vec_capacity waiting.old ≤ vec_capacity waiting.new }
+        ensures found_kept { vec_capacity found.old ≤ vec_capacity found.new }
+    {
+        let mut at = top;
+        loop {
+            if at != NO_STREAM {
+                match self.check(at) {
+                    Ok(()) => {}
+                    Err(fault) => return Err(fault),
+                }
+                push_within(waiting, at);
+                self.mark(at);
+                at = self.links(at).0;
+                continue;
+            }
+            let Some(id) = waiting.pop() else {
+                return Ok(());
+            };
+            push_within(found, id);
+            at = self.links(id).1;
+        }
+    }
+
     /// Takes marks back, the last one first.
     fn unmark(&mut self, found: &mut Vec<u32>)
         requires { All (λ n. n < length self.old.used) found.old.items }
@@ -493,6 +535,39 @@ impl<'a> Entries<'a> {
         ensures { IfSome result (IsStreamEntry self.now.directory id) }
     {
         self.table.stream(id)
+    }
+
+    /// The children of an entry, as `children` finds them, as a search tree is read in order: where links are those of one, in the
+    /// order of their names. No clause says so of that order: whoever needs it looks at it.
+    ///
+    /// Refused: as `children`.
+    pub fn in_order(&mut self, alloc: Global, id: u32) -> Result<Vec<u32>, DirFault>
+        ensures reached { IfOk result (λ v. AreReached self.old self.new (child (entry_at self.old.directory id)) v.items) }
+        ensures free { IfOk result (λ v. AreFree self.old v.items) }
+        ensures refused { IfErr result (MayRefuseChildren self.old id) }
+        ensures kept { OnErr result (self.new ≡ self.old) }
+    {
+        let top = self.table.child(id)?;
+        self.waiting.clear();
+        self.found.clear();
+        match self
+            .table
+            .walk_in_order(top, &mut self.waiting, &mut self.found)
+        {
+            Ok(()) => {}
+            Err(refused) => {
+                self.table.unmark(&mut self.waiting);
+                self.table.unmark(&mut self.found);
+                return Err(refused);
+            }
+        }
+        match Vec::from_slice(alloc, &self.found) {
+            Ok(children) => Ok(children),
+            Err(_) => {
+                self.table.unmark(&mut self.found);
+                Err(DirFault::NoMemory)
+            }
+        }
     }
 
     /// The children of an entry: just those that links reach from its child, which it marks. A refusal marks none.

@@ -1,3 +1,2 @@
-pub mod Fronts
 pub mod SortedNames
-pub mod Walked
+pub mod Ordered

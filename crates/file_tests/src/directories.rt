@@ -173,16 +173,15 @@ fn entry_is(entries: &Entries, id: u32, name: &str, kind: EntryKind, child: u32)
     }
 }
 
-/// Whether a storage has these children, or is refused so.
-fn children_are(
+/// Whether these children were found, or refused so.
+fn are_found(
     rt: &impl Abort,
     alloc: Global,
-    entries: &mut Entries,
-    id: u32,
+    found: Result<Vec<u32>, DirFault>,
     want: &str,
     fault: &str,
 ) -> bool {
-    match entries.children(alloc, id) {
+    match found {
         Ok(children) => are_numbers(rt, alloc, &children, want),
         Err(refused) => refused.name() == fault,
     }
@@ -198,9 +197,16 @@ fn are_entries(entries: &Entries) -> bool {
 
 /// The root's are marked once they are read.
 fn are_children(rt: &impl Abort, alloc: Global, entries: &mut Entries) -> bool {
-    children_are(rt, alloc, entries, 0, "2,1,3", "")
-        && children_are(rt, alloc, entries, 2, "", "")
-        && children_are(rt, alloc, entries, 0, "", "TreeCycle")
+    are_found(rt, alloc, entries.children(alloc, 0), "2,1,3", "")
+        && are_found(rt, alloc, entries.children(alloc, 2), "", "")
+        && are_found(rt, alloc, entries.children(alloc, 0), "", "TreeCycle")
+}
+
+/// The same where they are read in order.
+fn are_in_order(rt: &impl Abort, alloc: Global, entries: &mut Entries) -> bool {
+    are_found(rt, alloc, entries.in_order(alloc, 0), "1,2,3", "")
+        && are_found(rt, alloc, entries.in_order(alloc, 2), "", "")
+        && are_found(rt, alloc, entries.in_order(alloc, 0), "", "TreeCycle")
 }
 
 fn entries_in<'a>(rt: &impl Abort, alloc: Global, bytes: &'a [u8]) -> Entries<'a> {
@@ -213,6 +219,13 @@ fn entries_are_read(rt: HostRuntime) {
     let mut entries = entries_in(&rt, rt.alloc(), &bytes);
     assert!(rt; are_entries(&entries));
     assert!(rt; are_children(&rt, rt.alloc(), &mut entries));
+}
+
+#[test]
+fn entries_are_read_in_order(rt: HostRuntime) {
+    let bytes = directory(&rt, rt.alloc());
+    let mut entries = entries_in(&rt, rt.alloc(), &bytes);
+    assert!(rt; are_in_order(&rt, rt.alloc(), &mut entries));
 }
 
 /// So many siblings, which is on top, and the left and the right one of each; none is `-`.

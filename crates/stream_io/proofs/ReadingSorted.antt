@@ -2,12 +2,14 @@
 use Rattle.std.proofs.Common.{◌≡◌, ◌≢◌, ◌↔◌, ℕ, true, List, get_or, map, refl, sym, ap, subst}
 use Rattle.std.proofs.lemmas.Cmp.{nat_list_cmp_total}
 use Rattle.std.proofs.lemmas.List.Elements.{All-contains}
+use Rattle.std.proofs.lemmas.List.Sorted.{Contains-permutation, IsPermutation-sym}
 use Rattle.std.specs.List.{All, Contains}
 use Rattle.std.specs.List.Sorted.{IsStrictlySortedBy}
 use Rattle.cfb_names.specs.Names.{key_cmp}
-use Rattle.cfb_directory.specs.Entries.{AreFree, AreLinked, EntriesValue, IsFree, MayRefuseEntry, child, entry_at, marked}
+use Rattle.cfb_directory.specs.Entries.{AreLinked, EntriesValue, IsFree, MayRefuseEntry, child, entry_at, marked}
 use Rattle.cfb_names.specs.declared.fault.DirFault.{DirFault}
 use Rattle.cfb_names.specs.declared.fault.DirFault.TheVariants.{NameEmpty, NameTooLong, NameNotAscii, NameForbidden, DuplicateName, BadEntry, TreeCycle, TooNested, NoMemory}
+use Rattle.cfb_directory.specs.Reached.{AreReached}
 use Rattle.file_faults.specs.Faults.{key_at}
 use Rattle.stream_io.specs.Reads.{AreSorted, met}
 use Rattle.entry_sorting.specs.Sorting.{MayRefuseNames}
@@ -55,20 +57,42 @@ names_not_refused e id found ids fault root l h r refused =
     by_names e id ids root h r fault (subst (λ (xs : List ℕ). MayRefuseNames e.directory xs fault) same refused)
 
 -- ---- as they are found
-pub sorted_met : (r : Reader) (id : ℕ) (found listed sorted items dir : List ℕ) (after : EntriesValue) → AreLinked r.entries.directory (child (entry_at r.entries.directory id)) found
-    → AreFree r.entries found → listed ≡ found → dir ≡ r.entries.directory → IsStrictlySortedBy key_cmp (map (key_at dir) sorted)
-    → ((n : ℕ) → Contains listed n ↔ Contains sorted n) → items ≡ sorted → after ≡ marked r.entries found
-    → (s : AreSorted r.entries id items) × (record { fat = r.fat; mini = r.mini; entries = after } ≡ met s.reached r)
-sorted_met r id found listed sorted items dir after l f is d o s same h = (
+-- what names of some entries are refused for, those of more are
+pub names_moved : (dir ids more : List ℕ) (fault : DirFault) → ((n : ℕ) → Contains ids n → Contains more n) → MayRefuseNames dir ids fault → MayRefuseNames dir more fault
+names_moved dir ids more DuplicateName inside (m, n, at_m, at_n, apart, same) = (m, n, inside m at_m, inside n at_n, apart, same)
+names_moved dir ids more NameEmpty inside (n, at, h) = (n, inside n at, h)
+names_moved dir ids more NameTooLong inside (n, at, h) = (n, inside n at, h)
+names_moved dir ids more NameNotAscii inside (n, at, h) = (n, inside n at, h)
+names_moved dir ids more NameForbidden inside (n, at, h) = (n, inside n at, h)
+names_moved dir ids more BadEntry inside (n, at, h) = (n, inside n at, h)
+names_moved dir ids more TreeCycle inside (n, at, h) = (n, inside n at, h)
+names_moved dir ids more TooNested inside (n, at, h) = (n, inside n at, h)
+names_moved dir ids more NoMemory inside (n, at, h) = (n, inside n at, h)
+
+module _ {e after : EntriesValue} {top : ℕ} {ids : List ℕ} (r : AreReached e after top ids) where
+  same_reached : (n : ℕ) → Contains r.reached n ↔ Contains ids n
+  same_reached n = (Contains-permutation r.reached ids n r.same, Contains-permutation ids r.reached n (IsPermutation-sym r.reached ids r.same))
+
+  pub reached_directory : after.directory ≡ e.directory
+  reached_directory = ap (λ (x : EntriesValue). x.directory) r.marks
+
+  -- a refusal of names by the marked entries is one of those that were reached
+  pub names_reached : (fault : DirFault) → MayRefuseNames after.directory ids fault → MayRefuseNames e.directory r.reached fault
+  names_reached fault h =
+      names_moved e.directory ids r.reached fault (λ n. (same_reached n).1) (subst (λ (d : List ℕ). MayRefuseNames d ids fault) reached_directory h)
+
+pub sorted_met : (r : Reader) (id : ℕ) (ids sorted : List ℕ) (after : EntriesValue) → AreReached r.entries after (child (entry_at r.entries.directory id)) ids
+    → IsStrictlySortedBy key_cmp (map (key_at after.directory) sorted) → ((n : ℕ) → Contains ids n ↔ Contains sorted n)
+    → (s : AreSorted r.entries id sorted) × (record { fat = r.fat; mini = r.mini; entries = after } ≡ met s.reached r)
+sorted_met r id ids sorted after found ordered same = (
   record {
-    reached = found;
-    linked = l;
-    free = f;
-    same = subst (λ (xs : List ℕ). (n : ℕ) → Contains found n ↔ Contains xs n) (sym same) (subst (λ (xs : List ℕ). (n : ℕ) → Contains xs n ↔ Contains sorted n) is s);
-    ordered = subst (λ (xs : List ℕ). IsStrictlySortedBy key_cmp (map (key_at r.entries.directory) xs)) (sym same)
-        (subst (λ (x : List ℕ). IsStrictlySortedBy key_cmp (map (key_at x) sorted)) d o);
+    reached = found.reached;
+    linked = found.linked;
+    free = found.free;
+    same = λ n. (λ h. (same n).0 ((same_reached found n).0 h), λ h. (same_reached found n).1 ((same n).1 h));
+    ordered = subst (λ (d : List ℕ). IsStrictlySortedBy key_cmp (map (key_at d) sorted)) (reached_directory found) ordered;
   },
-  ap (λ (x : EntriesValue). record { fat = r.fat; mini = r.mini; entries = x }) h,
+  ap (λ (x : EntriesValue). record { fat = r.fat; mini = r.mini; entries = x }) found.marks,
 )
 
 -- sorted entries are those found, and lie below the root

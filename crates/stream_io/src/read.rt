@@ -106,7 +106,7 @@ impl<'a, 'd> Reader<'a, 'd> {
 
     /// The children of an entry in the order of their names, which are marked.
     ///
-    /// Refused: as `Entries::children` and `by_name`, and `NoMemory` only where the children are there.
+    /// Refused: as `Entries::in_order` and `by_name`, and `NoMemory` only where the children are there.
     fn sorted_children(&mut self, alloc: Global, id: u32) -> Result<Vec<u32>, ReadFault>
         requires inside { 128 * id < length (directory_in self.old) }
         requires root_marked { slice_index_or self.old.entries.used 0 true ≡ true }
@@ -115,11 +115,9 @@ impl<'a, 'd> Reader<'a, 'd> {
         ensures memory { IfErr result (MayWant self.old.entries id) }
         ensures refused { (b : Base) (room : ℕ) (pending : List ℕ) → IsStorage (directory_in self.old) id → IsNext b room id pending self.old → IfErr result (MayRefuseStorage b) }
     {
-        let ids = self.entries.children(alloc, id)?;
-        let fronts = Vec::with_capacity(alloc, ids.len())?;
-        let order = Vec::with_capacity(alloc, ids.len())?;
+        let ids = self.entries.in_order(alloc, id)?;
         let list = Vec::with_capacity(alloc, ids.len())?;
-        let sorted = by_name(&self.entries, ids, fronts, order, list)?;
+        let sorted = by_name(&self.entries, ids, list)?;
         Ok(sorted)
     }
 

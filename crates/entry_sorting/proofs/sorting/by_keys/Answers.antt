@@ -2,7 +2,7 @@ use Rattle.std.proofs.Common.{◌++◌, ℕ, List, length, take, ◌∙◌, ap, 
 use Rattle.std.specs.List.Sorted.{IsPermutation}
 use Rattle.entry_sorting.specs.Sorting.{AllAdjacentApart, HasEqualNeighbours, keyed, places}
 use Rattle.entry_sorting.proofs.SortedNames.{in_order, named_twice}
-use Rattle.entry_sorting.proofs.Walked.{AreSorted, by_sorting}
+use Rattle.entry_sorting.proofs.Ordered.{AreSorted, by_sorting}
 use Rattle.entry_sorting.proofs.sorting.by_keys.Goals as goal
 
 pub returns-then-not-are_apart-clause-refused : goal.returns-then-not-are_apart-clause-refused

@@ -1,27 +1,13 @@
-use Rattle.std.proofs.Common.{◌≡◌, List, ℕ, length, ◌∙◌, ap, arith}
-use Rattle.cfb_directory.specs.Entries.{AreFree, EntriesValue, marked}
-use Rattle.cfb_directory.specs.Walk.{unmarked}
-use Rattle.cfb_directory.proofs.Marks.{length-set_all, marked-inside, unmarked-all}
+use Rattle.std.proofs.Common.{◌≡◌, length, ◌∙◌, ap, arith}
+use Rattle.cfb_directory.specs.Entries.{EntriesValue}
+use Rattle.cfb_directory.proofs.InOrder.{all_inside, as_many, taken_back}
 use Rattle.cfb_directory.proofs.entries.Entries.children.Goals as goal
 
--- entries have as many marks, whichever are on
-as_many : (e s : EntriesValue) (ids : List ℕ) → s ≡ marked e ids → length s.used ≡ length e.used
-as_many e s ids is = ap (λ (v : EntriesValue). length v.used) is ∙ length-set_all e.used ids
-
-taken_back : (e s t : EntriesValue) (ids : List ℕ) → AreFree e ids → s ≡ marked e ids → t ≡ unmarked s ids → t ≡ e
-taken_back e s t ids free is back = back ∙ unmarked-all e s ids free is
-
 pub unmark-requires : goal.unmark-requires
-unmark-requires c = λ k d lt.
-    let inside = marked-inside c.self.inside.table c.walk.new.found.items c.walk.ensures.free k d lt in
-    let same = ap (λ (v : EntriesValue). length v.used) c.walk.ensures.marks in
-    omega (arith, inside, same)
+unmark-requires c = all_inside c.self.inside.table c.walk.new.self c.walk.new.found.items c.walk.ensures.free c.walk.ensures.marks
 
 pub unmark-requires-in-Err-from_slice : goal.unmark-requires-in-Err-from_slice
-unmark-requires-in-Err-from_slice c = λ k d lt.
-    let inside = marked-inside c.self.inside.table c.walk.new.found.items c.walk.ensures.free k d lt in
-    let same = ap (λ (v : EntriesValue). length v.used) c.walk.ensures.marks in
-    omega (arith, inside, same)
+unmark-requires-in-Err-from_slice c = all_inside c.self.inside.table c.walk.new.self c.walk.new.found.items c.walk.ensures.free c.walk.ensures.marks
 
 pub returns-in-Err-clause-kept : goal.returns-in-Err-clause-kept
 returns-in-Err-clause-kept c =
