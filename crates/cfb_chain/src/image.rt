@@ -84,7 +84,7 @@ impl<'a> Image<'a> {
     }
 
     /// The bytes of sectors, where they stand one after another in memory.
-    pub(crate) fn run(&self, sectors: &[u32]) -> Option<&'a [u8]>
+    pub fn run(&self, sectors: &[u32]) -> Option<&'a [u8]>
         ensures { IfSome result (λ run. run.now ≡ joined (sector (image_bytes self.now)) sectors.now) }
     {
         match self {

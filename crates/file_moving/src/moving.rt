@@ -85,8 +85,8 @@ fn move_all<S: Source, W: Write>(
     }
 }
 
-/// Writes a compound file of the tree that an opened one holds, and gives its length. Of the file its tables are held in memory, of each entry
-/// of its directory where it leads, and at most a few pieces of 65,536 bytes: each stream is read where it lies as it is written.
+/// Writes a compound file of the tree that an opened one holds, and gives its length. Held in memory are the file's outline and its tables, as
+/// they were opened, and at most a few pieces of 65,536 bytes: each stream is read where it lies as it is written.
 ///
 /// Refused: `Write` where the tree has no file, and for want of memory, and nothing is written then; `Copy` where a read fails, where a write
 /// does, and for want of memory, once writing has begun.

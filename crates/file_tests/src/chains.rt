@@ -167,10 +167,23 @@ fn joins(
 }
 
 fn run_is(rt: &impl Abort, alloc: Global, fat: &Fat, sectors: &str, want: &str) -> bool {
-    match fat.run(&numbers(rt, alloc, sectors)) {
+    is_run(rt, alloc, fat.run(&numbers(rt, alloc, sectors)), want)
+}
+
+fn is_run(rt: &impl Abort, alloc: Global, run: Option<&[u8]>, want: &str) -> bool {
+    match run {
         Some(bytes) => are_spelled(rt, alloc, bytes, want),
         None => want == "none",
     }
+}
+
+/// The same of a file itself.
+#[test]
+fn sectors_in_a_row_are_lent(rt: HostRuntime) {
+    let file = file_of(&rt, rt.alloc(), LINKED);
+    let image = Image::Whole(&file);
+    assert!(rt; is_run(&rt, rt.alloc(), image.run(&[6, 7]), "512*06,512*07"));
+    assert!(rt; is_run(&rt, rt.alloc(), image.run(&[1, 8]), "none"));
 }
 
 #[test]

@@ -4,7 +4,13 @@ use Rattle.std.proofs.lemmas.List.{take_all}
 use Rattle.std.proofs.lemmas.List.Elements.{All-head, All-tail}
 use Rattle.std.proofs.Math.Seq.{drop-append-add, take-append-add}
 use Rattle.std.specs.List.{All}
-use Rattle.cfb_header.specs.Bytes.{joined}
+use Rattle.cfb_header.specs.Bytes.{joined, sector}
+use Rattle.cfb_chain.proofs.Blocks.{length_block, length_joined}
+
+-- sectors have whole numbers of four bytes
+pub whole_numbers : (file ns bytes : List ℕ) → bytes ≡ joined (sector file) ns → (m : ℕ) × (length bytes ≡ 4 * m)
+whole_numbers file ns bytes is =
+    (128 * length ns, ap length is ∙ length_joined (sector file) 512 ns (λ n. length_block 512 file (512 + 512 * n)) ∙ omega arith)
 
 pub cut_take : (m n : ℕ) (xs : List ℕ) → m ≤ n → take m (take n xs) ≡ take m xs
 cut_take zero n xs h = refl

@@ -1,7 +1,7 @@
 //! Where the stream of a place lies.
 
 ghost use Rattle.cfb_directory.specs.Entries.{first_of, size_of};
-ghost use Rattle.cfb_header.specs.Bytes.{u32_at};
+ghost use Rattle.cfb_header.specs.Bytes.{joined, sector, u32_at};
 ghost use Rattle.cfb_header.specs.Header.{header_read};
 ghost use Rattle.file_model.specs.Alike.{Alike};
 ghost use Rattle.file_model.specs.Denotes.{Denotes, directory_of, minis, root_of};
@@ -76,6 +76,22 @@ pub(crate) fn mini_stream_sectors(
     Ok(sectors)
 }
 
+/// The sectors of the mini FAT, given the FAT's entries.
+fn mini_fat_sectors(
+    alloc: Global,
+    header: &Header,
+    file: &Places,
+    table: &[u32],
+) -> Result<Vec<u32>, AllocError>
+    requires read { header_read file.now ≡ Ok header.now }
+    ensures next { IfOk result (λ v. (a : List ℕ) → Alike a file.now → (t : Tree) → (d : Denotes a t) → IsOver a d.layout (directory_of a d.layout) table.now
+        → (λ (n : ℕ). u32_at (joined (sector file.now) v.items) (4 * n)) ≡ (minis a d.layout).next) }
+{
+    let count = header.mini_fat_count() as usize;
+    let sectors = follow(alloc, table, header.first_mini_fat(), count)?;
+    Ok(sectors)
+}
+
 /// The bytes of the mini FAT, given the FAT's entries.
 pub(crate) fn mini_fat_bytes(
     alloc: Global,
@@ -88,10 +104,27 @@ pub(crate) fn mini_fat_bytes(
         → (λ (n : ℕ). u32_at v.items (4 * n)) ≡ (minis a d.layout).next) }
     ensures whole { IfOk result (λ v. (m : ℕ) × (length v.items ≡ 4 * m)) }
 {
-    let count = header.mini_fat_count() as usize;
-    let sectors = follow(alloc, table, header.first_mini_fat(), count)?;
+    let sectors = mini_fat_sectors(alloc, header, file, table)?;
     let bytes = join(alloc, file, &sectors)?;
     Ok(bytes)
+}
+
+/// So many mini sectors from one on, by the entries of a mini FAT that lies in these sectors. Where these stand one after another
+/// in memory they are read there, and else joined first.
+fn minis_by(
+    alloc: Global,
+    file: &Places,
+    sectors: &[u32],
+    first: u32,
+    count: usize,
+) -> Result<Vec<u32>, AllocError>
+    ensures { IfOk result (λ v. v.items ≡ walked (λ n. u32_at (joined (sector file.now) sectors.now) (4 * n)) first count) }
+{
+    if let Some(bytes) = Image::Placed(file).run(sectors) {
+        return follow_minis(alloc, bytes, first, count);
+    }
+    let bytes = join(alloc, file, sectors)?;
+    follow_minis(alloc, &bytes, first, count)
 }
 
 /// How many mini sectors the bytes of a place take.
@@ -114,8 +147,8 @@ fn short_blocks(
         → v.items ≡ map (begins_at (stream_sectors a d.layout)) (walked (minis a d.layout).next place.first ((place.size + 63) / 64))) }
 {
     let mini_stream = mini_stream_sectors(alloc, header, file, table)?;
-    let mini_fat = mini_fat_bytes(alloc, header, file, table)?;
-    let minis = follow_minis(alloc, &mini_fat, place.first, count_minis(place))?;
+    let mini_fat = mini_fat_sectors(alloc, header, file, table)?;
+    let minis = minis_by(alloc, file, &mini_fat, place.first, count_minis(place))?;
     let places = mini_places(alloc, &mini_stream, &minis)?;
     Ok(places)
 }

@@ -1,29 +1,12 @@
-use Rattle.std.proofs.Common.{◌≡◌, ◌∙◌, ◌+◌, ◌*◌, ◌/◌, ℕ, List, ap, arith, length, subst, sym, take}
-use Rattle.cfb_chain.specs.Chain.{IsChainOf}
-use Rattle.cfb_chain.proofs.Blocks.{length_block, length_joined}
+use Rattle.std.proofs.Common.{◌∙◌, ◌*◌, ℕ, List, ap}
 use Rattle.cfb_header.specs.Bytes.{joined, sector, u32_at}
-use Rattle.file_model.specs.Denotes.{Layout, directory_of, sectors}
-use Rattle.stream_seeking.proofs.Fronts.{front_read}
-use Rattle.stream_seeking.proofs.Placing.{mini_fat_of, next_same}
+use Rattle.stream_seeking.proofs.Joined.{whole_numbers}
 use Rattle.stream_seeking.proofs.blocks.mini_fat_bytes.Goals as goal
 
 pub returns-clause-next : goal.returns-clause-next
 returns-clause-next c = λ a h t d o.
-    let l : Layout = d.layout in
-    let file : List ℕ = c.args.file.now in
-    let fats : ℕ = c.args.header.now.mini_fat_count in
-    let fat : IsChainOf (sectors a l) c.first_mini_fat.result (512 * fats) l.mini_fat =
-    subst (λ (x : ℕ). IsChainOf (sectors a l) x (512 * fats) l.mini_fat) (sym c.first_mini_fat.ensures) (mini_fat_of a file h t d c.args.header.now c.requires.read) in
-    let whole : (512 * fats + 511) / 512 ≡ fats = omega arith in
-    let fronts : c.in_ok-sectors.sectors.items ≡ take fats l.mini_fat =
-    c.in_ok-sectors.ensures
-    ∙ front_read a l (directory_of a l) c.args.table.now o c.first_mini_fat.result (512 * fats) l.mini_fat fat c.mini_fat_count-count.result (c.mini_fat_count-count.ensures ∙ sym whole)
-    ∙ ap (λ n. take n l.mini_fat) whole in
-    ap (λ (xs : List ℕ). (λ (n : ℕ). u32_at xs (4 * n))) (c.in_ok-bytes.ensures ∙ ap (joined (sector file)) (c.deref.ensures.value ∙ fronts))
-    ∙ next_same a file h t d c.args.header.now c.requires.read
+    ap (λ (xs : List ℕ). (λ (n : ℕ). u32_at xs (4 * n))) (c.in_ok-bytes.ensures ∙ ap (joined (sector c.args.file.now)) c.deref.ensures.value)
+    ∙ c.in_ok-sectors.ensures.next a h t d o
 
 pub returns-clause-whole : goal.returns-clause-whole
-returns-clause-whole c =
-    let file : List ℕ = c.args.file.now in
-    let ns : List ℕ = c.deref.result.now in
-    (128 * length ns, ap length c.in_ok-bytes.ensures ∙ length_joined (sector file) 512 ns (λ n. length_block 512 file (512 + 512 * n)) ∙ omega arith)
+returns-clause-whole c = whole_numbers c.args.file.now c.deref.result.now c.in_ok-bytes.bytes.items c.in_ok-bytes.ensures

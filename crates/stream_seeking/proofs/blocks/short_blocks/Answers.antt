@@ -1,11 +1,8 @@
-use Rattle.std.proofs.Common.{◌≡◌, ◌∙◌, ◌+◌, ◌*◌, ◌/◌, ℕ, List, ap, length, map, subst, sym}
-use Rattle.cfb_header.specs.Bytes.{u32_at}
+use Rattle.std.proofs.Common.{◌∙◌, ◌+◌, ◌*◌, ◌/◌, ℕ, ap, map}
+use Rattle.cfb_header.specs.Bytes.{joined, sector, u32_at}
 use Rattle.stream_seeking.specs.Blocks.{stream_sectors}
 use Rattle.stream_seeking.specs.Chains.{begins_at, walked}
 use Rattle.stream_seeking.proofs.blocks.short_blocks.Goals as goal
-
-pub follow_minis-requires : goal.follow_minis-requires
-follow_minis-requires c = record { whole = subst (λ (xs : List ℕ). (m : ℕ) × (length xs ≡ 4 * m)) (sym c.deref.ensures.value) c.in_ok-mini_fat.ensures.whole }
 
 pub returns : goal.returns
 returns c = record {
@@ -13,6 +10,6 @@ returns c = record {
       let count : ℕ = (c.args.place.size + 63) / 64 in
       c.in_ok-places.ensures
       ∙ (λ i. map (begins_at ((c.deref-2.ensures.value ∙ c.in_ok-mini_stream.ensures.found a h t d o) i)) ((c.deref-3.ensures.value ∙ c.in_ok-minis.ensures) i))
-      ∙ (λ i. map (begins_at (stream_sectors a d.layout)) (walked (λ n. u32_at (c.deref.ensures.value i) (4 * n)) c.args.place.first (c.count_minis.ensures i)))
+      ∙ (λ i. map (begins_at (stream_sectors a d.layout)) (walked (λ n. u32_at (joined (sector c.args.file.now) (c.deref.ensures.value i)) (4 * n)) c.args.place.first (c.count_minis.ensures i)))
       ∙ ap (λ (f : ℕ → ℕ). map (begins_at (stream_sectors a d.layout)) (walked f c.args.place.first count)) (c.in_ok-mini_fat.ensures.next a h t d o);
 }
