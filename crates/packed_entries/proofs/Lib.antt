@@ -1,3 +1,4 @@
 pub mod Allowed
 mod Held
 pub mod ReadNames
+pub mod SmallOnes

@@ -1,2 +1,4 @@
 pub mod Named
+pub mod Small
+pub mod Lent
 pub mod Packed

@@ -3,3 +3,4 @@
 
 pub mod named;
 pub mod packed;
+pub mod small;
