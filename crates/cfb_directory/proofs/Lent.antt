@@ -1,4 +1,4 @@
--- What is told of an entry that is held by its parts.
+-- What is lent of an entry that is held by its parts.
 use Rattle.std.proofs.Common.{◌≡◌, ◌≢◌, ◌<◌, ◌*◌, ℕ, zero, suc, List, length, inr, refl, sym, ◌∙◌, ap, subst}
 use Rattle.cfb_names.specs.Names.{IsName}
 use Rattle.cfb_directory.specs.Entries.{IsKindOf, IsNamed, child, class_of, entry_at, first_of, kind, size_of, state_of}
@@ -13,13 +13,13 @@ stream_kind zero k ne is = absurd (ne refl)
 stream_kind (suc id) k ne is = inr is
 
 pub lent : (directory bytes : List ℕ) (id : ℕ) (s : StreamEntry) → id ≢ 0 → 128 * id < length directory → bytes ≡ entry_at directory id → kind bytes ≡ 2
-    → IsNamed bytes s.name → IsName s.name → s.first ≡ first_of bytes → s.size ≡ size_of bytes → IsStreamEntry directory id s
+    → IsNamed bytes s.name.now → IsName s.name.now → s.first ≡ first_of bytes → s.size ≡ size_of bytes → IsStreamEntry directory id s
 lent directory bytes id s below there is kind_is named valid first size =
     let entry : List ℕ = entry_at directory id in
     let two : kind entry ≡ 2 = ap kind (sym is) ∙ kind_is in
     record {
       entry = record {
-        name = s.name;
+        name = s.name.now;
         kind = Stream;
         class = class_of entry;
         state = state_of entry;
@@ -29,7 +29,7 @@ lent directory bytes id s below there is kind_is named valid first size =
       };
       said = record {
         inside = there;
-        name = name_of-entry id entry s.name below (subst (λ xs. IsNamed xs s.name) is named);
+        name = name_of-entry id entry s.name.now below (subst (λ xs. IsNamed xs s.name.now) is named);
         kind_held = sym two;
         allowed = stream_kind id (kind entry) below two;
         class = refl;

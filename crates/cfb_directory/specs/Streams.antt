@@ -1,4 +1,4 @@
--- What the entry of a stream says.
+-- What the entry of a stream says, where it is lent as it is held.
 use Rattle.std.specs.Prelude.{◌≡◌, ℕ, List}
 use Rattle.cfb_names.specs.Names.{IsName}
 use Rattle.directory_model.specs.Entries.{IsEntry}
@@ -12,6 +12,6 @@ pub record IsStreamEntry (directory : List ℕ) (id : ℕ) (s : StreamEntry) : T
   pub said : IsEntry directory id entry
   pub valid : IsName entry.name
   pub kind : entry.kind ≡ Stream
-  pub name : s.name ≡ entry.name
+  pub name : s.name.now ≡ entry.name
   pub first : s.first ≡ entry.first
   pub size : s.size ≡ entry.size

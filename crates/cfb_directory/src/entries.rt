@@ -9,7 +9,6 @@ ghost use Rattle.cfb_directory.specs.Reached.{AreReached};
 ghost use Rattle.cfb_directory.specs.Streams.{IsStreamEntry};
 ghost use Rattle.cfb_directory.specs.Walk.{IsTaken, MayRefuseName, unmarked};
 ghost use Rattle.cfb_names.specs.declared.fault.DirFault.TheVariants.{BadEntry, NoMemory};
-ghost use Rattle.packed_entries.specs.Lent.{value_of};
 ghost use Rattle.packed_entries.specs.Named.{named_bytes};
 ghost use Rattle.std.specs.List.{All};
 ghost use Rattle.std.specs.Prelude.{◌≡◌, ◌<◌, ◌≤◌, ◌*◌, ◌/◌, ◌-◌, ◌∷◌, ◌++◌, ◌≢◌, [], false, true, replicate, length, vec_capacity, vec_len, IfErr, IfOk, IfSome, OnErr, OnOk};
@@ -20,9 +19,8 @@ use cfb_names::fault::DirFault;
 use cfb_names::name::Name;
 pub use directory_model::entries::{Entry, EntryKind, NO_STREAM};
 use packed_entries::named::Named;
-use std::alloc::{AllocError, Global};
+use std::alloc::Global;
 use std::marker::Model;
-use std::mem;
 
 /// The characters of ASCII that a name can hold, each at its own place, and zeros at the places of the others.
 const ALLOWED: [u8; 128] = [
@@ -34,10 +32,10 @@ const ALLOWED: [u8; 128] = [
     117, 118, 119, 120, 121, 122, 123, 124, 125, 126, 127,
 ];
 
-/// What the entry of a stream says. The size is in bytes.
-#[derive(Drop)]
-pub struct StreamEntry {
-    pub name: Name,
+/// What the entry of a stream says, lent as it is held. The size is in bytes.
+#[derive(Clone, Copy)]
+pub struct StreamEntry<'a> {
+    pub name: &'a Name,
     pub first: u32,
     pub size: u32,
 }
@@ -175,21 +173,6 @@ fn push_within(list: &mut Vec<u32>, id: u32)
     }
 }
 
-/// What was found, out of a list with room for all. A copy where it fills less than half of that; else the list itself, and another
-/// comes in its place. No entry is found twice, so that takes place no more than twice.
-fn taken(alloc: Global, found: &mut Vec<u32>) -> Result<Vec<u32>, AllocError>
-    ensures found { IfOk result (λ v. v.items ≡ found.old.items) }
-    ensures room { vec_capacity found.old ≤ vec_capacity found.new }
-    ensures kept { OnErr result (found.new ≡ found.old) }
-{
-    let room = found.capacity();
-    if found.len() < room / 2 {
-        return Ok(Vec::from_slice(alloc, found)?);
-    }
-    let other = Vec::with_capacity(alloc, room)?;
-    Ok(mem::replace(found, other))
-}
-
 impl<'a> Model for Table<'a> {
     ghost use Rattle.std.specs.Prelude.{◌≡◌, ◌/◌, length};
     ghost use Rattle.cfb_directory.specs.Entries.{EntriesValue};
@@ -218,10 +201,10 @@ impl<'a> Table<'a> {
 
     /// An entry below the root whose name was read as it was packed.
     #[inline(always)]
-    fn named(&self, id: u32) -> Option<Named<'a>>
+    fn named(&self, id: u32) -> Option<&'a Named>
         ensures below_root { IfSome result (λ _. id ≢ 0) }
         ensures there { IfSome result (λ _. 128 * id < length self.now.directory) }
-        ensures bytes { IfSome result (λ n. named_bytes (value_of n) ≡ entry_at self.now.directory id) }
+        ensures bytes { IfSome result (λ n. named_bytes n.now ≡ entry_at self.now.directory id) }
     {
         if id == 0 {
             return None;
@@ -231,9 +214,9 @@ impl<'a> Table<'a> {
 
     /// The name of an entry that is one of a storage or of a stream, where it was read as the entry was packed.
     #[inline(always)]
-    fn known_name(&self, id: u32) -> Option<Name>
-        ensures read { IfSome result (IsNameOf id (entry_at self.now.directory id)) }
-        ensures valid { IfSome result IsName }
+    fn known_name(&self, id: u32) -> Option<&'a Name>
+        ensures read { IfSome result (λ name. IsNameOf id (entry_at self.now.directory id) name.now) }
+        ensures valid { IfSome result (λ name. IsName name.now) }
     {
         match self.named(id) {
             Some(named) => match named.kind() {
@@ -246,7 +229,7 @@ impl<'a> Table<'a> {
 
     /// What the entry of a stream says, where its name was read as it was packed.
     #[inline(always)]
-    fn stream(&self, id: u32) -> Option<StreamEntry>
+    fn stream(&self, id: u32) -> Option<StreamEntry<'a>>
         ensures { IfSome result (IsStreamEntry self.now.directory id) }
     {
         match self.named(id) {
@@ -292,7 +275,7 @@ impl<'a> Table<'a> {
         ensures refused { IfErr result (MayRefuseEntry self.now.directory id) }
     {
         if let Some(name) = self.known_name(id) {
-            return Ok(name);
+            return Ok(name.copy());
         }
         if let Some(entry) = self.directory.whole_entry(id) {
             return self.read_name(id, entry);
@@ -433,7 +416,6 @@ impl<'a> Table<'a> {
     }
 
     /// The left and right link of an entry.
-    #[inline(always)]
     fn links(&self, id: u32) -> (u32, u32)
         requires { 128 * id < length self.now.directory }
         ensures left { result.0 ≡ left (entry_at self.now.directory id) }
@@ -452,7 +434,6 @@ impl<'a> Table<'a> {
     }
 
     /// Refuses an entry that isn't there, or is marked.
-    #[inline(always)]
     fn check(&self, id: u32) -> Result<(), DirFault>
         ensures free { OnOk result (IsFree self.now id) }
         ensures refused { IfErr result (IsTaken self.now id) }
@@ -541,16 +522,16 @@ impl<'a> Entries<'a> {
     }
 
     /// The name of an entry below the root, as `name` tells it, where it was read as the entry was packed: that of no entry which
-    /// stands as in the file, nor of one with a class id, state bits or times. Nothing is tested.
-    pub fn known_name(&self, id: u32) -> Option<Name>
-        ensures read { IfSome result (IsNameOf id (entry_at self.now.directory id)) }
-        ensures valid { IfSome result IsName }
+    /// stands as in the file, nor of one with a class id, state bits or times. Nothing is copied and nothing tested.
+    pub fn known_name(&self, id: u32) -> Option<&'a Name>
+        ensures read { IfSome result (λ name. IsNameOf id (entry_at self.now.directory id) name.now) }
+        ensures valid { IfSome result (λ name. IsName name.now) }
     {
         self.table.known_name(id)
     }
 
     /// What the entry of a stream says, as `entry` tells it, where its name is known: of other entries, nothing.
-    pub fn stream(&self, id: u32) -> Option<StreamEntry>
+    pub fn stream(&self, id: u32) -> Option<StreamEntry<'a>>
         ensures { IfSome result (IsStreamEntry self.now.directory id) }
     {
         self.table.stream(id)
@@ -580,7 +561,7 @@ impl<'a> Entries<'a> {
                 return Err(refused);
             }
         }
-        match taken(alloc, &mut self.found) {
+        match Vec::from_slice(alloc, &self.found) {
             Ok(children) => Ok(children),
             Err(_) => {
                 self.table.unmark(&mut self.found);

@@ -3,7 +3,6 @@
 ghost use Rattle.cfb_bytes.specs.Bytes.{u32_at};
 ghost use Rattle.cfb_directory.specs.Entries.{entry_at};
 ghost use Rattle.cfb_directory.specs.Held.{held};
-ghost use Rattle.packed_entries.specs.Lent.{value_of};
 ghost use Rattle.packed_entries.specs.Named.{named_bytes};
 ghost use Rattle.std.specs.Prelude.{◌*◌, ◌+◌, ◌/◌, ◌<◌, ◌≡◌, ◌≤◌, IfSome, false, length, true};
 
@@ -67,9 +66,9 @@ impl<'a> Directory<'a> {
 
     /// An entry whose name was read as it was packed.
     #[inline(always)]
-    pub(crate) fn named(&self, id: u32) -> Option<Named<'a>>
+    pub(crate) fn named(&self, id: u32) -> Option<&'a Named>
         ensures there { IfSome result (λ _. 128 * id < length (held self.now)) }
-        ensures bytes { IfSome result (λ n. named_bytes (value_of n) ≡ entry_at (held self.now) id) }
+        ensures bytes { IfSome result (λ n. named_bytes n.now ≡ entry_at (held self.now) id) }
     {
         match self {
             Directory::Bytes(_) => None,

@@ -1,3 +1,2 @@
 pub mod SortedNames
 pub mod Ordered
-pub mod Refused

@@ -26,7 +26,7 @@ fn push_within<T: Copy>(list: &mut Vec<T>, item: T)
     }
 }
 
-/// The key of an entry's name.
+/// The key of an entry's name. A name that is lent isn't copied for it.
 ///
 /// Refused: as `Entries::name`.
 fn key_of(entries: &Entries<'_>, id: u32) -> Result<Key, DirFault>
@@ -35,7 +35,7 @@ fn key_of(entries: &Entries<'_>, id: u32) -> Result<Key, DirFault>
     ensures refused { IfErr result (MayRefuseEntry entries.now.directory id) }
 {
     if let Some(name) = entries.known_name(id) {
-        return Ok(key(&name));
+        return Ok(key(name));
     }
     match entries.name(id) {
         Ok(name) => Ok(key(&name)),

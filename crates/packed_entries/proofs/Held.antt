@@ -11,11 +11,12 @@ use Rattle.std.proofs.lemmas.Bool.{cases_lt}
 use Rattle.std.proofs.lemmas.Grind.{flat_map-append}
 use Rattle.std.specs.Prelude.{slice_set}
 use Rattle.std.specs.List.{flat_map, range_with_len}
-use Rattle.cfb_bytes.specs.Bytes.{block}
+use Rattle.std.specs.Int.{from_le_bytes, w32}
+use Rattle.cfb_bytes.specs.Bytes.{block, u32_at}
 use Rattle.packed_entries.specs.Packed.{IsShort, entry_of, evens, odds, spelled, unit}
 use Rattle.packed_entries.specs.declared.packed.Short.{Short}
 use Rattle.packed_entries.specs.declared.packed.Slot.{Slot}
-use Rattle.packed_entries.specs.declared.packed.Slot.TheVariants.{Long, Small, Whole}
+use Rattle.packed_entries.specs.declared.packed.Slot.TheVariants.{Named, Packed, Whole}
 use Rattle.packed_entries.specs.Named.{NamedValue, characters_of, laid_out, named_bytes}
 
 -- ---- characters
@@ -79,8 +80,8 @@ unfolding named_bytes
 length_named n = length_block 128 (laid_out (characters_of n.name) n.head n.place) 0
 
 pub length_entry : (slot : Slot) → length (entry_of slot) ≡ 128
-length_entry (Small small) = length_named small
-length_entry (Long long) = length_named long.value
+length_entry (Packed s) = length_block 128 (spelled s) 0
+length_entry (Named n) = length_named n
 length_entry (Whole bytes) = length_block 128 bytes.items 0
 
 pub length_entries : (slots : List Slot) → length (flat_map entry_of slots) ≡ 128 * length slots
@@ -164,6 +165,14 @@ head_cut characters head place n h p at m few =
     let cut : drop (64 + at) (units ++ (head ++ tail)) ≡ drop at head ++ tail =
     ap (λ k. drop k (units ++ (head ++ tail))) start ∙ drop-append-add units (head ++ tail) at ∙ drop-append-le at head tail (omega (arith, few, h)) in
     ap (λ xs. take m (drop (64 + at) xs)) whole ∙ ap (take m) cut ∙ take-append-le m (drop at head) tail (omega (arith, few, h, length-drop at head))
+
+pub in_head : (s : Short) (at : ℕ) → length s.name ≡ 32 → length s.head ≡ 16 → length s.place ≡ 7 → 64 ≤ at → at + 4 ≤ 80
+    → u32_at s.head (at - 64) ≡ u32_at (block 128 (spelled s) 0) at
+unfolding spelled u32_at
+in_head s at n h p from to =
+    let place : 64 + (at - 64) ≡ at = omega (arith, from) in
+    ap (from_le_bytes w32)
+    (sym (head_cut s.name s.head s.place n h p (at - 64) 4 (omega (arith, from, to))) ∙ ap (λ k. take 4 (drop k (block 128 (laid_out s.name s.head s.place) 0))) place)
 
 -- ---- sixteen bytes at a time
 
@@ -348,7 +357,7 @@ short entry long upper dated last =
 
 -- an entry that is made up so is the one that is spelled out
 pub short_spelled : (s : Short) (entry : List ℕ) → length entry ≡ 128 → s.name ≡ evens (take 64 entry) → s.head ≡ take 16 (drop 64 entry) → s.place ≡ take 7 (drop 116 entry)
-    → IsShort entry → block 128 (spelled s) 0 ≡ entry
+    → IsShort entry → entry_of (Packed s) ≡ entry
 unfolding spelled
 short_spelled s entry long name head place is =
     let all : spelled s ≡ entry = (λ t. flat_map unit (name t) ++ head t ++ replicate 36 0 ++ place t ++ replicate 5 0) ∙ is in

@@ -1,4 +1,3 @@
 pub mod Allowed
 mod Held
 pub mod ReadNames
-pub mod SmallOnes

@@ -6,13 +6,11 @@ use Rattle.std.proofs.Math.ListN.{get_or-append}
 use Rattle.std.proofs.Math.Seq.{drop-append-add, take-append-add}
 use Rattle.std.specs.Int.{from_le_bytes, w16, w32}
 use Rattle.std.specs.List.{flat_map, range_with_len}
-use Rattle.cfb_bytes.specs.Bytes.{block, u16_at, u32_at}
+use Rattle.cfb_bytes.specs.Bytes.{u16_at, u32_at}
 use Rattle.cfb_names.specs.Names.{IsName}
 use Rattle.cfb_names.specs.View.{IsHeld, name_held, units_of}
 use Rattle.directory_model.specs.Entries.{IsNamed, class_of, first_of, kind, name_length, size_of, state_of}
 use Rattle.directory_model.proofs.Reading.{chars}
-use Rattle.packed_entries.specs.declared.packed.Short.{Short}
-use Rattle.packed_entries.specs.Packed.{spelled}
 use Rattle.packed_entries.specs.Named.{HoldsName, IsSound, NamedValue, characters_of, laid_out, named_bytes, unit}
 use Rattle.packed_entries.proofs.Held.{block_whole, by_elements, head_cut, length_laid, length_units, placed}
 
@@ -24,12 +22,6 @@ pub whole : (n : NamedValue) → IsSound n → named_bytes n ≡ laid_out (chara
 unfolding named_bytes
 whole n s =
     block_whole 128 (laid_out (characters_of n.name) n.head n.place) (length_laid (characters_of n.name) n.head n.place (characters_long n.name s.valid.short) s.head s.place)
-
--- what is kept of an entry is all of it
-pub kept_so : (n : NamedValue) (s : Short) (name : List ℕ) → n ≡ record { name = name; head = s.head; place = s.place } → s.name ≡ characters_of name
-    → named_bytes n ≡ block 128 (spelled s) 0
-unfolding named_bytes spelled
-kept_so n s name is characters = ap named_bytes is ∙ ap (λ xs. block 128 (laid_out xs s.head s.place) 0) (sym characters)
 
 -- two bytes of a character
 unit_read : (characters rest : List ℕ) (k : ℕ) → k < length characters → u16_at (flat_map unit characters ++ rest) (2 * k) ≡ get_or characters k 0

@@ -1,4 +1,2 @@
 pub mod Named
-pub mod Small
-pub mod Lent
 pub mod Packed

@@ -3,7 +3,7 @@ use Rattle.std.specs.Prelude.{ℕ, List, [], ◌∷◌, ◌≡◌, drop, take}
 use Rattle.cfb_bytes.specs.Bytes.{block}
 use Rattle.packed_entries.specs.declared.packed.Short.{Short}
 use Rattle.packed_entries.specs.declared.packed.Slot.{Slot}
-use Rattle.packed_entries.specs.declared.packed.Slot.TheVariants.{Small, Long, Whole}
+use Rattle.packed_entries.specs.declared.packed.Slot.TheVariants.{Packed, Named, Whole}
 use Rattle.packed_entries.specs.Named.{laid_out, named_bytes}
 pub use Rattle.packed_entries.specs.Named.{unit}
 
@@ -27,6 +27,6 @@ abbrev pub IsShort : List ℕ → Type 0
 IsShort entry = laid_out (evens (take 64 entry)) (take 16 (drop 64 entry)) (take 7 (drop 116 entry)) ≡ entry
 
 abbrev pub entry_of : Slot → List ℕ
-entry_of (Small small) = named_bytes small
-entry_of (Long long) = named_bytes long.value
+entry_of (Packed s) = block 128 (spelled s) 0
+entry_of (Named n) = named_bytes n
 entry_of (Whole bytes) = block 128 bytes.items 0

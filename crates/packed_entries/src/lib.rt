@@ -3,4 +3,3 @@
 
 pub mod named;
 pub mod packed;
-pub mod small;

@@ -1,34 +1,23 @@
 //! Entries whose names were read.
 
 ghost use Rattle.cfb_names.specs.Names.{IsName};
-ghost use Rattle.cfb_names.specs.View.{IsHeld, name_held};
 ghost use Rattle.directory_model.specs.Entries.{IsNamed, child, class_of, first_of, kind, left, right, size_of, state_of};
 ghost use Rattle.packed_entries.specs.Named.{HoldsName, IsSound, characters_of, laid_out, named_bytes};
 ghost use Rattle.std.specs.Prelude.{◌*◌, ◌+◌, ◌++◌, ◌≡◌, ◌≤◌, ◌∷◌, IfSome, length, replicate, take, true};
 
-use crate::small::Small;
 use cfb_bytes::numbers::read_u32;
 use cfb_names::name::Name;
 use directory_model::entries::{Entry, EntryKind};
 use std::marker::Model;
 use std::simd::prelude::*;
 
-/// An entry with a name that an entry may have, and with no class id, no state bits and no times: its name, what stands from the
-/// name's length to the links, and where its stream lies. All else of it is zero.
+/// An entry with a name that an entry may have, and with no class id, no state bits and no times, as that of a stream is: its
+/// name, what stands from the name's length to the links, and where its stream lies. All else of it is zero.
 #[derive(Drop)]
-pub struct Long {
+pub struct Named {
     name: Name,
     head: [u8; 16],
     place: [u8; 7],
-}
-
-/// Such an entry, lent as it is held.
-#[derive(Clone, Copy)]
-pub enum Named<'a> {
-    /// One with a short name and nothing below it.
-    Small(&'a Small),
-    /// Another.
-    Long(&'a Long),
 }
 
 /// Whether the first of these characters, so many, are a name, and the others zeros.
@@ -68,11 +57,10 @@ fn units_of(characters: u8x32, count: u8) -> [u8; 32]
         .to_array()
 }
 
-/// How the name of these characters lies, if it is one that an entry may have, as long as is said, and zeros stand behind it.
+/// The name of these characters, if it is one that an entry may have, as long as is said, and zeros stand behind it.
 #[inline(always)]
-pub(crate) fn units_in(characters: u8x32, len: u16) -> Option<[u8; 32]>
-    ensures held { IfSome result IsHeld }
-    ensures told { IfSome result (λ units. (len ≡ 2 * length (name_held units) + 2) × (characters ≡ characters_of (name_held units))) }
+pub(crate) fn name_of(characters: u8x32, len: u16) -> Option<Name>
+    ensures { IfSome result (λ name. (len ≡ 2 * length name + 2) × (characters ≡ characters_of name)) }
 {
     if len < 4 || len > 64 || len % 2 != 0 {
         return None;
@@ -81,10 +69,10 @@ pub(crate) fn units_in(characters: u8x32, len: u16) -> Option<[u8; 32]>
     if !holds_name(characters, count) {
         return None;
     }
-    Some(units_of(characters, count))
+    Some(Name::from_units(units_of(characters, count)))
 }
 
-impl Model for Long {
+impl Model for Named {
     ghost use Rattle.packed_entries.specs.Named.{IsSound, NamedValue};
 
     ghost Value = { NamedValue };
@@ -94,181 +82,84 @@ impl Model for Long {
     ghost invariant = { λ n. IsSound (record { name = n.name; head = n.head; place = n.place }) };
 }
 
-impl Long {
+impl Named {
     ghost use Rattle.cfb_bytes.specs.Bytes.{u16_at};
-    ghost use Rattle.directory_model.specs.Entries.{kind, left, right};
-    ghost use Rattle.packed_entries.specs.Named.{IsSound, named_bytes};
-    ghost use Rattle.std.specs.Prelude.{◌*◌, ◌+◌, ◌≡◌, length};
+    ghost use Rattle.directory_model.specs.Entries.{IsNamed, child, class_of, first_of, kind, left, right, size_of, state_of};
+    ghost use Rattle.packed_entries.specs.Named.{characters_of, laid_out, named_bytes};
+    ghost use Rattle.std.specs.Prelude.{◌*◌, ◌+◌, ◌++◌, ◌≡◌, length, replicate};
 
     /// The entry of a name, whose head says how long it is.
-    pub(crate) fn new(name: Name, head: [u8; 16], place: [u8; 7]) -> Long
+    pub(crate) fn new(name: Name, head: [u8; 16], place: [u8; 7]) -> Named
         requires { u16_at head 0 ≡ 2 * length name + 2 }
         ensures { result ≡ record { name = name; head = head; place = place } }
     {
-        Long { name, head, place }
+        Named { name, head, place }
+    }
+
+    /// The characters of its name with zeros behind them, its head, and where its stream lies.
+    pub(crate) fn parts(&self) -> ([u8; 32], [u8; 16], [u8; 7])
+        ensures { result ≡ (characters_of self.now.name, self.now.head, self.now.place) }
+    {
+        let name = self.name.as_bytes();
+        let mut characters = [0; 32];
+        characters[..name.len()].copy_from_slice(name);
+        (characters, self.head, self.place)
     }
 
     /// Its name.
-    fn name(&self) -> Name
-        ensures name { result ≡ self.now.name }
-        ensures sound { IsSound self.now }
+    pub fn name(&self) -> &Name
+        ensures named { IsNamed (named_bytes self.now) result.now }
+        ensures valid { IsName result.now }
     {
-        self.name.copy()
-    }
-
-    /// What stands from its name's length to the links.
-    fn head(&self) -> [u8; 16]
-        ensures { result ≡ self.now.head }
-    {
-        self.head
-    }
-
-    /// Where its stream lies.
-    #[inline(always)]
-    fn place(&self) -> &[u8; 7]
-        ensures place { result.now ≡ self.now.place }
-        ensures sound { IsSound self.now }
-    {
-        &self.place
+        &self.name
     }
 
     /// The number of its kind.
-    #[inline(always)]
-    fn kind(&self) -> u8
+    pub fn kind(&self) -> u8
         ensures { result ≡ kind (named_bytes self.now) }
     {
         self.head[2]
     }
 
     /// Its links to its siblings, the left one and the right one.
-    #[inline(always)]
-    fn links(&self) -> (u32, u32)
+    pub fn links(&self) -> (u32, u32)
         ensures left { result.0 ≡ left (named_bytes self.now) }
         ensures right { result.1 ≡ right (named_bytes self.now) }
     {
         (read_u32(&self.head, 4), read_u32(&self.head, 8))
     }
-}
-
-impl<'a> Named<'a> {
-    ghost use Rattle.cfb_names.specs.Names.{IsName};
-    ghost use Rattle.directory_model.specs.Entries.{IsNamed, child, class_of, first_of, kind, left, right, size_of, state_of};
-    ghost use Rattle.packed_entries.specs.Lent.{value_of};
-    ghost use Rattle.packed_entries.specs.Named.{IsSound, characters_of, named_bytes};
-    ghost use Rattle.std.specs.Prelude.{◌≡◌};
-
-    /// The characters of its name with zeros behind them, its head, and where its stream lies.
-    pub(crate) fn parts(&self) -> ([u8; 32], [u8; 16], [u8; 7])
-        ensures { result ≡ (characters_of (value_of self.now).name, (value_of self.now).head, (value_of self.now).place) }
-    {
-        let name = self.held_name();
-        let name = name.as_bytes();
-        let mut characters = [0; 32];
-        characters[..name.len()].copy_from_slice(name);
-        (characters, self.head(), *self.place())
-    }
-
-    /// Its name, as it is held.
-    #[inline(always)]
-    fn held_name(&self) -> Name
-        ensures name { result ≡ (value_of self.now).name }
-        ensures sound { IsSound (value_of self.now) }
-    {
-        match self {
-            Named::Small(small) => small.name(),
-            Named::Long(long) => long.name(),
-        }
-    }
-
-    /// What stands from its name's length to the links.
-    fn head(&self) -> [u8; 16]
-        ensures { result ≡ (value_of self.now).head }
-    {
-        match self {
-            Named::Small(small) => small.head(),
-            Named::Long(long) => long.head(),
-        }
-    }
-
-    /// Where its stream lies.
-    #[inline(always)]
-    fn place(&self) -> &'a [u8; 7]
-        ensures place { result.now ≡ (value_of self.now).place }
-        ensures sound { IsSound (value_of self.now) }
-    {
-        match self {
-            Named::Small(small) => small.place(),
-            Named::Long(long) => long.place(),
-        }
-    }
-
-    /// Its name.
-    #[inline(always)]
-    pub fn name(&self) -> Name
-        ensures named { IsNamed (named_bytes (value_of self.now)) result }
-        ensures valid { IsName result }
-    {
-        self.held_name()
-    }
-
-    /// The number of its kind.
-    #[inline(always)]
-    pub fn kind(&self) -> u8
-        ensures { result ≡ kind (named_bytes (value_of self.now)) }
-    {
-        match self {
-            Named::Small(small) => small.kind(),
-            Named::Long(long) => long.kind(),
-        }
-    }
-
-    /// Its links to its siblings, the left one and the right one.
-    #[inline(always)]
-    pub fn links(&self) -> (u32, u32)
-        ensures left { result.0 ≡ left (named_bytes (value_of self.now)) }
-        ensures right { result.1 ≡ right (named_bytes (value_of self.now)) }
-    {
-        match self {
-            Named::Small(small) => small.links(),
-            Named::Long(long) => long.links(),
-        }
-    }
 
     /// The sector with which its stream begins.
-    #[inline(always)]
     pub fn first(&self) -> u32
-        ensures { result ≡ first_of (named_bytes (value_of self.now)) }
+        ensures { result ≡ first_of (named_bytes self.now) }
     {
-        let place = self.place();
-        u32::from_le_bytes([place[0], place[1], place[2], place[3]])
+        u32::from_le_bytes([self.place[0], self.place[1], self.place[2], self.place[3]])
     }
 
     /// How many bytes its stream has.
-    #[inline(always)]
     pub fn size(&self) -> u32
-        ensures { result ≡ size_of (named_bytes (value_of self.now)) }
+        ensures { result ≡ size_of (named_bytes self.now) }
     {
-        let place = self.place();
-        u32::from_le_bytes([place[4], place[5], place[6], 0])
+        u32::from_le_bytes([self.place[4], self.place[5], self.place[6], 0])
     }
 
     /// What it says, given its kind.
     pub fn entry(&self, kind: EntryKind) -> Entry
-        ensures name { IsNamed (named_bytes (value_of self.now)) result.name }
+        ensures name { IsNamed (named_bytes self.now) result.name }
         ensures valid { IsName result.name }
         ensures kind { result.kind ≡ kind }
-        ensures class { result.class ≡ class_of (named_bytes (value_of self.now)) }
-        ensures state { result.state ≡ state_of (named_bytes (value_of self.now)) }
-        ensures child { result.child ≡ child (named_bytes (value_of self.now)) }
-        ensures first { result.first ≡ first_of (named_bytes (value_of self.now)) }
-        ensures size { result.size ≡ size_of (named_bytes (value_of self.now)) }
+        ensures class { result.class ≡ class_of (named_bytes self.now) }
+        ensures state { result.state ≡ state_of (named_bytes self.now) }
+        ensures child { result.child ≡ child (named_bytes self.now) }
+        ensures first { result.first ≡ first_of (named_bytes self.now) }
+        ensures size { result.size ≡ size_of (named_bytes self.now) }
     {
         Entry {
-            name: self.held_name(),
+            name: self.name.copy(),
             kind,
             class: [0; 16],
             state: 0,
-            child: read_u32(&self.head(), 12),
+            child: read_u32(&self.head, 12),
             first: self.first(),
             size: self.size(),
         }

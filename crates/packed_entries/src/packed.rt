@@ -1,17 +1,13 @@
 //! The entries of a directory in less memory than they take in a file.
 
-ghost use Rattle.cfb_bytes.specs.Bytes.{block, u16_at};
-ghost use Rattle.cfb_names.specs.View.{IsHeld, name_held};
-ghost use Rattle.packed_entries.specs.Lent.{value_of};
-ghost use Rattle.packed_entries.specs.Named.{characters_of, named_bytes, unit};
+ghost use Rattle.cfb_bytes.specs.Bytes.{block, u32_at};
+ghost use Rattle.packed_entries.specs.Named.{named_bytes, unit};
 ghost use Rattle.packed_entries.specs.Packed.{IsShort, entry_of, evens, odds, spelled};
 ghost use Rattle.std.specs.List.{flat_map};
-ghost use Rattle.std.specs.Prelude.{◌*◌, ◌+◌, ◌++◌, ◌≡◌, ◌≤◌, IfOk, drop, length, replicate, take, true};
+ghost use Rattle.std.specs.Prelude.{◌*◌, ◌+◌, ◌++◌, ◌≡◌, ◌≤◌, drop, length, replicate, take, true};
 
-use crate::named::{Long, Named, units_in};
-use crate::small::Small;
+use crate::named::{Named, name_of};
 use cfb_bytes::numbers::{read_u16, read_u32};
-use cfb_names::name::Name;
 use std::alloc::{AllocError, Global};
 use std::marker::Model;
 use std::simd::prelude::*;
@@ -19,8 +15,12 @@ use std::simd::prelude::*;
 /// How many bytes an entry has.
 const ENTRY_LEN: usize = 128;
 
-/// What isn't zero of an entry with a name in ASCII and no class id, no state bits and no times, as that of a stream is: the
-/// lower bytes of the characters of its name, what stands from the name's length to the links, and where its stream lies.
+/// How many characters there is room for in the name of an entry.
+const NAME_LEN: usize = 32;
+
+/// An entry with a name in ASCII and no class id, no state bits and no times, as that of a stream is: the lower bytes of
+/// the characters of its name, what stands from the name's length to the links, and where its stream lies. All else of it
+/// is zero.
 #[derive(Clone, Copy)]
 struct Short {
     name: [u8; 32],
@@ -28,20 +28,19 @@ struct Short {
     place: [u8; 7],
 }
 
-/// An entry, in 32 bytes and what it points at.
+/// An entry.
 #[derive(Drop)]
 enum Slot {
-    /// One with a short name and nothing below it.
-    Small(Small),
-    /// Another whose name was read.
-    Long(Box<Long>),
+    /// One of which most bytes are zero.
+    Packed(Short),
+    /// One whose name was read as well.
+    Named(Named),
     /// All bytes of another.
     Whole(Vec<u8>),
 }
 
-/// The entries of a directory. One with a name of up to 15 characters, nothing below it, and neither a class id nor state bits nor
-/// times, as most streams have, takes a quarter of the memory that it takes in a file; one with a longer name, or with something
-/// below it, less than all of it; and another more.
+/// The entries of a directory. One with a name in ASCII that has neither a class id nor times, as most have, takes less than
+/// half of the memory that it takes in a file.
 #[derive(Drop)]
 pub struct PackedEntries {
     slots: Vec<Slot>,
@@ -171,31 +170,25 @@ fn shorten(entry: &[u8; 128]) -> Short
     }
 }
 
-/// What is kept of an entry whose name was read.
-fn unnamed(named: &Named<'_>) -> Short
-    ensures { block 128 (spelled result) 0 ≡ named_bytes (value_of named.now) }
+/// What is kept of an entry whose name isn't read.
+fn unnamed(named: &Named) -> Short
+    ensures { block 128 (spelled result) 0 ≡ named_bytes named.now }
 {
     let (name, head, place) = named.parts();
     Short { name, head, place }
 }
 
-/// How an entry is held whose name lies so.
-///
-/// Refused for want of memory.
+/// How an entry is held of which all else is zero.
 #[inline(always)]
-fn named_slot(alloc: Global, units: &[u8; 32], short: &Short) -> Result<Slot, AllocError>
-    requires held { IsHeld units.now }
-    requires counted { u16_at short.now.head 0 ≡ 2 * length (name_held units.now) + 2 }
-    requires spelled { short.now.name ≡ characters_of (name_held units.now) }
-    ensures { IfOk result (λ slot. entry_of slot ≡ block 128 (spelled short.now) 0) }
+fn slot_of(entry: &[u8; 128]) -> Slot
+    requires { IsShort entry.now }
+    ensures { entry_of result ≡ entry.now }
 {
-    if let Some(small) = Small::of(units, &short.head, short.place) {
-        return Ok(Slot::Small(small));
-    }
-    let long = Long::new(Name::from_units(*units), short.head, short.place);
-    match Box::new(alloc, long) {
-        Ok(long) => Ok(Slot::Long(long)),
-        Err(_) => Err(AllocError),
+    let (characters, _) = parted(entry);
+    let short = shorten(entry);
+    match name_of(characters, read_u16(&short.head, 0)) {
+        Some(name) => Slot::Named(Named::new(name, short.head, short.place)),
+        None => Slot::Packed(short),
     }
 }
 
@@ -220,35 +213,39 @@ fn entry_in(bytes: &[u8], k: usize) -> &[u8; 128]
     }
 }
 
-/// How an entry is held.
-///
-/// Refused for want of memory.
-#[inline(always)]
-fn slot_of(alloc: Global, entry: &[u8; 128]) -> Result<Slot, AllocError>
-    ensures { IfOk result (λ slot. entry_of slot ≡ entry.now) }
+/// The number in four bytes that stand from the length of an entry's name to its links, of an entry of which most are zero.
+fn head_number(short: &Short, at: usize) -> u32
+    requires { (64 ≤ at) × (at + 4 ≤ 80) }
+    ensures { result ≡ u32_at (block 128 (spelled short.now) 0) at }
 {
-    if is_short(entry) {
-        let (characters, _) = parted(entry);
-        let short = shorten(entry);
-        if let Some(units) = units_in(characters, read_u16(&short.head, 0)) {
-            return named_slot(alloc, &units, &short);
-        }
-    }
-    let bytes = Vec::from_slice(alloc, entry)?;
-    Ok(Slot::Whole(bytes))
+    read_u32(&short.head, at - 64)
 }
 
 impl Slot {
+    ghost use Rattle.cfb_bytes.specs.Bytes.{u32_at};
     ghost use Rattle.packed_entries.specs.Packed.{entry_of};
-    ghost use Rattle.std.specs.Prelude.{◌≡◌};
+    ghost use Rattle.std.specs.Prelude.{◌+◌, ◌≡◌, ◌≤◌};
+
+    /// The number in four of its bytes. Those that links have are read where they are kept.
+    fn number(&self, at: usize) -> u32
+        requires { at + 4 ≤ 128 }
+        ensures { result ≡ u32_at (entry_of self.now) at }
+    {
+        if let Slot::Packed(short) = self {
+            if at >= 64 && at + 4 <= 80 {
+                return head_number(short, at);
+            }
+        }
+        read_u32(&self.bytes(), at)
+    }
 
     /// Its bytes.
     fn bytes(&self) -> [u8; 128]
         ensures { result ≡ entry_of self.now }
     {
         match self {
-            Slot::Small(small) => spell(&unnamed(&Named::Small(small))),
-            Slot::Long(long) => spell(&unnamed(&Named::Long(long))),
+            Slot::Packed(short) => spell(short),
+            Slot::Named(named) => spell(&unnamed(named)),
             Slot::Whole(bytes) => front(bytes),
         }
     }
@@ -266,7 +263,6 @@ impl Model for PackedEntries {
 
 impl PackedEntries {
     ghost use Rattle.cfb_bytes.specs.Bytes.{block, u32_at};
-    ghost use Rattle.packed_entries.specs.Lent.{value_of};
     ghost use Rattle.packed_entries.specs.Named.{named_bytes};
     ghost use Rattle.packed_entries.specs.Packed.{entry_of};
     ghost use Rattle.std.specs.Prelude.{[], ◌*◌, ◌+◌, ◌++◌, ◌<◌, ◌≡◌, ◌≤◌, IfSome, OnErr, OnOk, length, slice_index, ℕ};
@@ -305,13 +301,12 @@ impl PackedEntries {
 
     /// An entry whose name was read as it was added.
     #[inline(always)]
-    pub fn named(&self, id: usize) -> Option<Named<'_>>
+    pub fn named(&self, id: usize) -> Option<&Named>
         ensures there { IfSome result (λ _. 128 * id < length self.now) }
-        ensures bytes { IfSome result (λ n. named_bytes (value_of n) ≡ block 128 self.now (128 * id)) }
+        ensures bytes { IfSome result (λ n. named_bytes n.now ≡ block 128 self.now (128 * id)) }
     {
         match self.slots.get(id) {
-            Some(Slot::Small(small)) => Some(Named::Small(small)),
-            Some(Slot::Long(long)) => Some(Named::Long(long)),
+            Some(Slot::Named(named)) => Some(named),
             _ => None,
         }
     }
@@ -322,7 +317,7 @@ impl PackedEntries {
         requires within { at + 4 ≤ 128 }
         ensures { result ≡ u32_at (block 128 self.now (128 * id)) at }
     {
-        read_u32(&self.slots[id].bytes(), at)
+        self.slots[id].number(at)
     }
 
     /// One of all their bytes.
@@ -347,8 +342,11 @@ impl PackedEntries {
         ensures added { OnOk result (self.new ≡ self.old ++ entry.now) }
         ensures kept { OnErr result (self.new ≡ self.old) }
     {
-        let slot = slot_of(alloc, entry)?;
-        self.add(slot)
+        if is_short(entry) {
+            return self.add(slot_of(entry));
+        }
+        let bytes = Vec::from_slice(alloc, entry)?;
+        self.add(Slot::Whole(bytes))
     }
 
     /// Adds the entries that have these bytes.

@@ -35,7 +35,7 @@ module _ (id : ℕ) (s : StreamEntry) (old : Reader) (h : IsStreamEntry (directo
   long : s.size ≡ size_of (entry_at (directory_in old) id)
   long = h.size ∙ h.said.size
 
-  named : IsChildNamed (directory_in old) id (key s.name) s.name
+  named : IsChildNamed (directory_in old) id (key s.name.now) s.name.now
   named = subst (λ (x : List ℕ). IsChildNamed (directory_in old) id (key x) x) (sym h.name)
       (record { named = named_of id (entry_at (directory_in old) id) h.entry.name ne h.said.name; valid = h.valid; under_key = refl })
 
@@ -55,9 +55,9 @@ module _ (id : ℕ) (s : StreamEntry) (old : Reader) (h : IsStreamEntry (directo
 
     -- once its sectors are marked it is read, whatever is kept of it
     lent_outlined : {depth : ℕ} {v w : Wanted} (child : Option (List ℕ × Part)) (p : IsPartOutlined depth id v (Stream (place_of s)) old new)
-        → IsChildKeptOf w s.name p.whole child → IsChildOutlined depth id w child old new
+        → IsChildKeptOf w s.name.now p.whole child → IsChildOutlined depth id w child old new
     lent_outlined child p keeps = record {
-      name = s.name;
+      name = s.name.now;
       whole = p.whole;
       is_read = record { named = named; is_read = p.is_read };
       sized = p.sized;
@@ -65,11 +65,11 @@ module _ (id : ℕ) (s : StreamEntry) (old : Reader) (h : IsStreamEntry (directo
       is_kept = keeps;
     }
 
-    pub lent_left : (depth : ℕ) (w : Wanted) (parts : List (List ℕ × Part)) → below s.name w ≡ nothing → IsChildPushed depth id w parts parts old new
+    pub lent_left : (depth : ℕ) (w : Wanted) (parts : List (List ℕ × Part)) → below s.name.now w ≡ nothing → IsChildPushed depth id w parts parts old new
     lent_left depth w parts none = record { child = None; outlined = lent_outlined None (part depth w) none; pushed = refl }
 
-    pub lent_pushed : (depth : ℕ) (w : Wanted) (name : List ℕ) (parts now : List (List ℕ × Part)) → name ≡ s.name
+    pub lent_pushed : (depth : ℕ) (w : Wanted) (name : List ℕ) (parts now : List (List ℕ × Part)) → name ≡ s.name.now
         → now ≡ with_child parts (Some (name, Stream (place_of s))) → IsChildPushed depth id w parts now old new
     lent_pushed depth w name parts now copied is =
-        let p : IsPartOutlined depth id (below s.name w) (Stream (place_of s)) old new = part depth (below s.name w) in
+        let p : IsPartOutlined depth id (below s.name.now w) (Stream (place_of s)) old new = part depth (below s.name.now w) in
         record { child = Some (name, Stream (place_of s)); outlined = lent_outlined (Some (name, Stream (place_of s))) p (copied, p.is_kept); pushed = is }

@@ -76,13 +76,14 @@ impl<'a, 'd> Reader<'a, 'd> {
         Ok(())
     }
 
-    /// Puts the name of a stream and where it lies behind those so far, if it is kept, and marks its sectors.
+    /// Puts the name of a stream and where it lies behind those so far, if it is kept, and marks its sectors. Its name alone is
+    /// copied, where it is kept.
     ///
     /// Refused: as `mark_stream`, and `NoMemory`.
     fn push_stream(
         &mut self,
         id: u32,
-        stream: StreamEntry,
+        stream: StreamEntry<'_>,
         keep: Keep<'_>,
         parts: &mut Vec<(Name, Part)>,
     ) -> Result<(), ReadFault>
@@ -97,9 +98,9 @@ impl<'a, 'd> Reader<'a, 'd> {
             size: stream.size,
         };
         self.mark_stream(place)?;
-        match keep.below(&stream.name) {
+        match keep.below(stream.name) {
             Keep::Nothing => Ok(()),
-            _ => Ok(parts.push((stream.name, Part::Stream(place)))?),
+            _ => Ok(parts.push((stream.name.copy(), Part::Stream(place)))?),
         }
     }
 

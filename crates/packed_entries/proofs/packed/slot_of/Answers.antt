@@ -1,17 +1,19 @@
-use Rattle.std.proofs.Common.{◌∙◌, ap}
-use Rattle.std.proofs.lemmas.Result.{IfOk-weaker}
+use Rattle.std.proofs.Common.{◌≡◌, ◌∙◌, ap, sym}
 use Rattle.cfb_bytes.specs.Bytes.{block}
-use Rattle.packed_entries.proofs.Held.{block_whole, short_spelled}
+use Rattle.packed_entries.specs.Named.{characters_of, laid_out, named_bytes}
+use Rattle.packed_entries.specs.Packed.{spelled}
+use Rattle.packed_entries.proofs.Held.{short_spelled}
 use Rattle.packed_entries.proofs.packed.slot_of.Goals as goal
 
 pub returns-in-Some : goal.returns-in-Some
+unfolding named_bytes spelled
 returns-in-Some c =
-    IfOk-weaker c.named_slot.result _ _
-    (λ _ held.
-    held
-    ∙ short_spelled c.shorten-short.result c.args.entry.now c.told-entry c.shorten-short.ensures.name c.shorten-short.ensures.head c.shorten-short.ensures.place
-    (c.is_short.ensures c.if-is_short.true))
-    c.named_slot.ensures
+    let short = c.shorten-short.result in
+    let name : characters_of c.in-Some.name ≡ short.name = sym c.in-Some.ensures.1 ∙ c.parted.ensures.lower ∙ sym c.shorten-short.ensures.name in
+    ap named_bytes c.new.ensures
+    ∙ ap (λ xs. block 128 (laid_out xs short.head short.place) 0) name
+    ∙ short_spelled short c.args.entry.now c.told-entry c.shorten-short.ensures.name c.shorten-short.ensures.head c.shorten-short.ensures.place c.requires
 
-pub returns : goal.returns
-returns c = ap (λ xs. block 128 xs 0) c.in_ok-bytes.ensures.items ∙ block_whole 128 c.args.entry.now c.told-entry
+pub returns-in-None : goal.returns-in-None
+returns-in-None c =
+    short_spelled c.shorten-short.result c.args.entry.now c.told-entry c.shorten-short.ensures.name c.shorten-short.ensures.head c.shorten-short.ensures.place c.requires

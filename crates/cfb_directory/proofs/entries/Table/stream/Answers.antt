@@ -1,5 +1,4 @@
 use Rattle.std.proofs.Common.{◌∙◌, sym}
-use Rattle.packed_entries.specs.Lent.{value_of}
 use Rattle.packed_entries.specs.Named.{named_bytes}
 use Rattle.cfb_directory.proofs.Lent.{lent}
 use Rattle.cfb_directory.proofs.entries.Table.stream.Goals as goal
@@ -7,5 +6,5 @@ use Rattle.cfb_directory.proofs.entries.Table.stream.Goals as goal
 pub returns-else-kind-ne2 : goal.returns-else-kind-ne2
 returns-else-kind-ne2 c =
     let e = c.in-Some.ensures in
-    lent c.args.self.now.directory (named_bytes (value_of c.in-Some.named)) c.args.id _ e.below_root e.there e.bytes
+    lent c.args.self.now.directory (named_bytes c.in-Some.named.now) c.args.id _ e.below_root e.there e.bytes
     (sym c.kind.ensures ∙ c.if-kind-ne2.false) c.name.ensures.named c.name.ensures.valid c.first.ensures c.size.ensures

@@ -11,7 +11,7 @@ pub returns : goal.returns
 returns c =
     let there : c.args.id < length c.self.inside.slots.items =
     omega (arith, c.requires.there, length_entries c.self.inside.slots.items, ap length c.self.view_is) in
-    c.read_u32.ensures
+    c.number.ensures
+    ∙ ap (λ slot. u32_at (entry_of slot) c.args.at) c.index.ensures
     ∙ ap (λ xs. u32_at xs c.args.at)
-    (c.bytes.ensures ∙ ap entry_of c.index.ensures
-    ∙ sym (entry_there c.self.inside.slots.items c.args.id c.index.result.now there) ∙ ap (λ xs. block 128 xs (128 * c.args.id)) c.self.view_is)
+    (sym (entry_there c.self.inside.slots.items c.args.id c.index.result.now there) ∙ ap (λ xs. block 128 xs (128 * c.args.id)) c.self.view_is)

@@ -1,4 +1,4 @@
-use Rattle.std.proofs.Common.{◌≡◌, ◌∙◌, ap, refl, rules, sym}
+use Rattle.std.proofs.Common.{◌≡◌, ◌∙◌, ap, rules, sym}
 use Rattle.std.specs.Result.{IsErrAnd}
 use Rattle.cfb_chain.proofs.Results.{refused_with}
 use Rattle.file_outline.specs.Keeping.{wanted}
@@ -21,7 +21,7 @@ pub returns-in_ok-push-in_default : goal.returns-in_ok-push-in_default
 returns-in_ok-push-in_default c = record {
   outlined = λ depth.
       lent_pushed c.args.id c.args.stream c.args.self.now c.requires.said c.requires.below_root c.mark_stream.new.self c.in_ok-mark_stream.ensures.found
-      c.in_ok-mark_stream.ensures.long depth (wanted c.args.keep) c.args.stream.name c.args.parts.now.items c.push.new.self.items refl c.in_ok-push-in_default.ensures.items;
+      c.in_ok-mark_stream.ensures.long depth (wanted c.args.keep) c.copy.result c.args.parts.now.items c.push.new.self.items c.copy.ensures c.in_ok-push-in_default.ensures.items;
   there = λ depth k name s new h. tt;
   refused = λ b depth pending at. tt;
 }

@@ -2,7 +2,7 @@ use Rattle.std.proofs.Common.{◌∙◌, ap, arith}
 use Rattle.directory_model.specs.Entries.{left, right}
 use Rattle.packed_entries.specs.Named.{NamedValue, named_bytes}
 use Rattle.packed_entries.proofs.ReadNames.{number_read}
-use Rattle.packed_entries.proofs.named.Long.links.Goals as goal
+use Rattle.packed_entries.proofs.named.Named.links.Goals as goal
 
 pub returns-clause-left : goal.returns-clause-left
 returns-clause-left c =
