@@ -80,7 +80,7 @@ impl<'a> Links<'a> {
     }
 
     /// Entries that were read, and that somebody else keeps.
-    pub(crate) fn lent(numbers: &'a [u32]) -> Links<'a>
+    pub fn lent(numbers: &'a [u32]) -> Links<'a>
         ensures { result ≡ numbers.now }
     {
         Links {
@@ -120,7 +120,7 @@ impl<'a> Links<'a> {
     }
 
     /// How many there are.
-    pub(crate) fn len(&self) -> usize
+    pub fn len(&self) -> usize
         ensures { result ≡ length self.now }
     {
         match &self.entries {
@@ -131,7 +131,7 @@ impl<'a> Links<'a> {
     }
 
     /// The one of a sector.
-    pub(crate) fn entry(&self, n: usize) -> u32
+    pub fn entry(&self, n: usize) -> u32
         requires { n < length self.now }
         ensures { result ≡ slice_index self.now n }
     {

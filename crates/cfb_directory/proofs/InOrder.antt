@@ -126,7 +126,7 @@ pub walked_refused : (e s : EntriesValue) (top at : ℕ) (found ws : List ℕ) (
 walked_refused e s top at found ws fault ne taken w =
     taken_refused e s top w.met (rights e.directory ws) at fault w.met_marks w.begins (All-last (Reaches e.directory top) (rights e.directory ws) at w.reached) ne taken
 
-flips : (x y : ℕ) → eqb x y ≡ eqb y x
+pub flips : (x y : ℕ) → eqb x y ≡ eqb y x
 flips x y =
     elim (eqb_tells x y) [
       | inl p ↦ elim (eqb_tells y x) [ inl q ↦ p.0 ∙ sym q.0 | inr q ↦ absurd (q.1 (sym p.1)) ]

@@ -19,8 +19,9 @@ use cfb_names::fault::DirFault;
 use cfb_names::name::Name;
 pub use directory_model::entries::{Entry, EntryKind, NO_STREAM};
 use packed_entries::named::Named;
-use std::alloc::Global;
+use std::alloc::{AllocError, Global};
 use std::marker::Model;
+use std::mem;
 
 /// The characters of ASCII that a name can hold, each at its own place, and zeros at the places of the others.
 const ALLOWED: [u8; 128] = [
@@ -171,6 +172,21 @@ fn push_within(list: &mut Vec<u32>, id: u32)
         Ok(()) => {}
         Err(_) => unreachable!(),
     }
+}
+
+/// What was found, out of a list with room for all. A copy where it fills less than half of that; else the list itself, and another
+/// comes in its place. No entry is found twice, so that takes place no more than twice.
+fn taken(alloc: Global, found: &mut Vec<u32>) -> Result<Vec<u32>, AllocError>
+    ensures found { IfOk result (λ v. v.items ≡ found.old.items) }
+    ensures room { vec_capacity found.old ≤ vec_capacity found.new }
+    ensures kept { OnErr result (found.new ≡ found.old) }
+{
+    let room = found.capacity();
+    if found.len() < room / 2 {
+        return Ok(Vec::from_slice(alloc, found)?);
+    }
+    let other = Vec::with_capacity(alloc, room)?;
+    Ok(mem::replace(found, other))
 }
 
 impl<'a> Model for Table<'a> {
@@ -416,6 +432,7 @@ impl<'a> Table<'a> {
     }
 
     /// The left and right link of an entry.
+    #[inline(always)]
     fn links(&self, id: u32) -> (u32, u32)
         requires { 128 * id < length self.now.directory }
         ensures left { result.0 ≡ left (entry_at self.now.directory id) }
@@ -434,6 +451,7 @@ impl<'a> Table<'a> {
     }
 
     /// Refuses an entry that isn't there, or is marked.
+    #[inline(always)]
     fn check(&self, id: u32) -> Result<(), DirFault>
         ensures free { OnOk result (IsFree self.now id) }
         ensures refused { IfErr result (IsTaken self.now id) }
@@ -561,7 +579,7 @@ impl<'a> Entries<'a> {
                 return Err(refused);
             }
         }
-        match Vec::from_slice(alloc, &self.found) {
+        match taken(alloc, &mut self.found) {
             Ok(children) => Ok(children),
             Err(_) => {
                 self.table.unmark(&mut self.found);

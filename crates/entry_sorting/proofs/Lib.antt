@@ -1,2 +1,3 @@
 pub mod SortedNames
 pub mod Ordered
+pub mod Refused

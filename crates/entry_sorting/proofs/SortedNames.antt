@@ -1,6 +1,6 @@
 -- Entries that are sorted by the keys of their names, and what they are refused for.
-use Rattle.std.proofs.Common.{◌≡◌, ◌≢◌, ◌↔◌, ◌<◌, ◌≤◌, ◌+◌, ℕ, zero, suc, false, inl, inr, List, [], ◌∷◌, length, get_or, map, eqb, nat_cmp, refl, sym, ◌∙◌, ap, subst, arith}
-use Rattle.std.proofs.lemmas.Bool.Decides.{Decides-eqb, eqb_tells}
+use Rattle.std.proofs.Common.{◌≡◌, ◌≢◌, ◌↔◌, ◌<◌, ◌≤◌, ◌+◌, ℕ, zero, suc, false, List, [], ◌∷◌, length, get_or, map, eqb, nat_cmp, refl, sym, ◌∙◌, ap, subst, arith}
+use Rattle.std.proofs.lemmas.Bool.Decides.{Decides-eqb}
 use Rattle.std.proofs.lemmas.Cmp.{nat_list_cmp_total}
 use Rattle.std.proofs.lemmas.List.{get_or_default, get_or-map, length-map}
 use Rattle.std.proofs.lemmas.List.Sorted.{All-permutation, Contains-permutation, IsPermutation-map, IsPermutation-sym, length_permutation}
@@ -16,6 +16,7 @@ use Rattle.std.specs.declared.cmp.Ordering.TheVariants.{Less, Equal, Greater}
 use Rattle.cfb_chain.specs.Chain.{AreDistinct}
 use Rattle.cfb_names.specs.Names.{key, key_cmp}
 use Rattle.cfb_directory.specs.Entries.{IsNameOf, IsNamed, entry_at, name_of}
+use Rattle.cfb_directory.proofs.InOrder.{flips}
 use Rattle.file_faults.specs.Faults.{key_at}
 use Rattle.entry_sorting.specs.Sorting.{AllAdjacentApart, HasEqualNeighbours, MayRefuseNames, keyed, places}
 use Rattle.cfb_names.specs.declared.fault.DirFault.TheVariants.{DuplicateName}
@@ -87,13 +88,6 @@ keys_are dir (e ∷ list) each = λ t. each 0 e (omega arith) t ∷ keys_are dir
 ids_of : (dir ids : List ℕ) → places (keyed dir ids) ≡ ids
 ids_of dir [] = refl
 ids_of dir (n ∷ ids) = ap (λ ns. n ∷ ns) (ids_of dir ids)
-
-flips : (x y : ℕ) → eqb x y ≡ eqb y x
-flips x y =
-    elim (eqb_tells x y) [
-      | inl p ↦ elim (eqb_tells y x) [ inl q ↦ p.0 ∙ sym q.0 | inr q ↦ absurd (q.1 (sym p.1)) ]
-      | inr p ↦ elim (eqb_tells y x) [ inl q ↦ absurd (p.1 (sym q.1)) | inr q ↦ p.0 ∙ sym q.0 ]
-    ]
 
 module _ (dir ids : List ℕ) (list : List (List ℕ × ℕ)) (permuted : IsPermutation (keyed dir ids) list) where
   order_permuted : IsPermutation ids (places list)

@@ -6,7 +6,7 @@ use Rattle.std.proofs.lemmas.List.Sorted.{Contains-permutation, IsPermutation-sy
 use Rattle.std.specs.List.{All, Contains}
 use Rattle.std.specs.List.Sorted.{IsStrictlySortedBy}
 use Rattle.cfb_names.specs.Names.{key_cmp}
-use Rattle.cfb_directory.specs.Entries.{AreLinked, EntriesValue, IsFree, MayRefuseEntry, child, entry_at, marked}
+use Rattle.cfb_directory.specs.Entries.{AreLinked, EntriesValue, IsFree, MayRefuseEntry, child, entry_at}
 use Rattle.cfb_names.specs.declared.fault.DirFault.{DirFault}
 use Rattle.cfb_names.specs.declared.fault.DirFault.TheVariants.{NameEmpty, NameTooLong, NameNotAscii, NameForbidden, DuplicateName, BadEntry, TreeCycle, TooNested, NoMemory}
 use Rattle.cfb_directory.specs.Reached.{AreReached}
@@ -17,6 +17,7 @@ use Rattle.stream_io.specs.declared.read.Reader.{Reader}
 use Rattle.file_model.proofs.Lists.{sorted_unique}
 use Rattle.file_model.proofs.Unique.{linked_unique}
 use Rattle.file_faults.proofs.Lists.{all-from}
+use Rattle.entry_sorting.proofs.Refused.{names_moved}
 use Rattle.file_faults.proofs.Keys.{IsReadable, below_root, readable_not_refused, two_keys}
 
 -- one order of the children
@@ -57,18 +58,6 @@ names_not_refused e id found ids fault root l h r refused =
     by_names e id ids root h r fault (subst (λ (xs : List ℕ). MayRefuseNames e.directory xs fault) same refused)
 
 -- ---- as they are found
--- what names of some entries are refused for, those of more are
-pub names_moved : (dir ids more : List ℕ) (fault : DirFault) → ((n : ℕ) → Contains ids n → Contains more n) → MayRefuseNames dir ids fault → MayRefuseNames dir more fault
-names_moved dir ids more DuplicateName inside (m, n, at_m, at_n, apart, same) = (m, n, inside m at_m, inside n at_n, apart, same)
-names_moved dir ids more NameEmpty inside (n, at, h) = (n, inside n at, h)
-names_moved dir ids more NameTooLong inside (n, at, h) = (n, inside n at, h)
-names_moved dir ids more NameNotAscii inside (n, at, h) = (n, inside n at, h)
-names_moved dir ids more NameForbidden inside (n, at, h) = (n, inside n at, h)
-names_moved dir ids more BadEntry inside (n, at, h) = (n, inside n at, h)
-names_moved dir ids more TreeCycle inside (n, at, h) = (n, inside n at, h)
-names_moved dir ids more TooNested inside (n, at, h) = (n, inside n at, h)
-names_moved dir ids more NoMemory inside (n, at, h) = (n, inside n at, h)
-
 module _ {e after : EntriesValue} {top : ℕ} {ids : List ℕ} (r : AreReached e after top ids) where
   same_reached : (n : ℕ) → Contains r.reached n ↔ Contains ids n
   same_reached n = (Contains-permutation r.reached ids n r.same, Contains-permutation ids r.reached n (IsPermutation-sym r.reached ids r.same))

@@ -11,6 +11,7 @@ ghost use Rattle.stream_seeking.specs.Chains.{walked};
 ghost use Rattle.stream_seeking.specs.Tables.{read_by};
 
 use crate::window::{Window, hold};
+use cfb_chain::links::Links;
 use file_outline::outline::Place;
 use file_parts::pieces::{PIECE, make_room, push_padded, send_zeros};
 use file_parts::streams::{mini_zeros, sector_zeros};
@@ -231,7 +232,8 @@ pub fn send_long<S: Source, W: Write>(
         → Sends (W.contents writer.old) (W.contents writer.new) waiting.old.items waiting.new.items (padded 512 (read_by a tables.now place)))) }
     ensures kept { S.bytes source.new ≡ S.bytes source.old }
 {
-    let Ok(sectors) = follow(alloc, &tables.fat, place.first, count_sectors(place)) else {
+    let links = Links::lent(&tables.fat);
+    let Ok(sectors) = follow(alloc, &links, place.first, count_sectors(place)) else {
         return Err(CopyFault::NoMemory);
     };
     let size = place.size as usize;

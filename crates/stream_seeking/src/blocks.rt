@@ -14,6 +14,7 @@ ghost use Rattle.stream_seeking.specs.Chains.{begins_at, walked};
 use crate::chains::{follow, follow_minis, join, mini_places, number};
 use cfb_chain::difat::fat_sectors;
 use cfb_chain::image::Image;
+use cfb_chain::links::Links;
 use cfb_chain::table::entries;
 use cfb_header::header::Header;
 use cfb_places::places::Places;
@@ -65,7 +66,7 @@ pub(crate) fn mini_stream_sectors(
     alloc: Global,
     header: &Header,
     file: &Places,
-    table: &[u32],
+    table: &Links<'_>,
 ) -> Result<Vec<u32>, AllocError>
     requires read { header_read file.now ≡ Ok header.now }
     ensures found { IfOk result (λ v. (a : List ℕ) → Alike a file.now → (t : Tree) → (d : Denotes a t) → IsOver a d.layout (directory_of a d.layout) table.now
@@ -81,7 +82,7 @@ fn mini_fat_sectors(
     alloc: Global,
     header: &Header,
     file: &Places,
-    table: &[u32],
+    table: &Links<'_>,
 ) -> Result<Vec<u32>, AllocError>
     requires read { header_read file.now ≡ Ok header.now }
     ensures next { IfOk result (λ v. (a : List ℕ) → Alike a file.now → (t : Tree) → (d : Denotes a t) → IsOver a d.layout (directory_of a d.layout) table.now
@@ -97,7 +98,7 @@ pub(crate) fn mini_fat_bytes(
     alloc: Global,
     header: &Header,
     file: &Places,
-    table: &[u32],
+    table: &Links<'_>,
 ) -> Result<Vec<u8>, AllocError>
     requires read { header_read file.now ≡ Ok header.now }
     ensures next { IfOk result (λ v. (a : List ℕ) → Alike a file.now → (t : Tree) → (d : Denotes a t) → IsOver a d.layout (directory_of a d.layout) table.now
@@ -139,7 +140,7 @@ fn short_blocks(
     alloc: Global,
     header: &Header,
     file: &Places,
-    table: &[u32],
+    table: &Links<'_>,
     place: Place,
 ) -> Result<Vec<usize>, AllocError>
     requires read { header_read file.now ≡ Ok header.now }
@@ -153,8 +154,19 @@ fn short_blocks(
     Ok(places)
 }
 
-/// The FAT's entries of a file of which the blocks were read that its listing needs: those of each file that has the same
-/// bytes in those blocks.
+/// The FAT's entries of a file of which the blocks were read that its listing needs, where they stand: those of each file that has
+/// the same bytes in those blocks.
+fn fat_links<'a>(alloc: Global, header: &Header, file: &'a Places) -> Result<Links<'a>, AllocError>
+    requires read { header_read file.now ≡ Ok header.now }
+    ensures over { IfOk result (λ l. (a : List ℕ) → Alike a file.now → (t : Tree) → (d : Denotes a t) → IsOver a d.layout (directory_of a d.layout) l) }
+{
+    let image = Image::Placed(file);
+    let own = fat_sectors(alloc, header, &image)?;
+    let links = Links::read(alloc, &image, &own.fat)?;
+    Ok(links)
+}
+
+/// The same as numbers, which outlive the file.
 pub(crate) fn fat_entries(
     alloc: Global,
     header: &Header,
@@ -180,7 +192,7 @@ pub fn blocks_at(
     requires read { header_read file.now ≡ Ok header.now }
     ensures lies { IfOk result (λ lies. (a : List ℕ) → Alike a file.now → (t : Tree) → (d : Denotes a t) → held_in a lies ≡ held_at a d.layout place) }
 {
-    let table = fat_entries(alloc, header, file)?;
+    let table = fat_links(alloc, header, file)?;
     let size = place.size as usize;
     if is_short(place) {
         let places = short_blocks(alloc, header, file, &table, place)?;

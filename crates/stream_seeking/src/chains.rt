@@ -7,13 +7,14 @@ ghost use Rattle.std.specs.Prelude.{◌*◌, ◌++◌, ◌<◌, ◌≡◌, ◌�
 ghost use Rattle.stream_seeking.specs.Chains.{begins_at, walked};
 
 use cfb_bytes::numbers::read_u32;
+use cfb_chain::links::Links;
 use cfb_places::places::Places;
 use std::alloc::{AllocError, Global};
 
 /// The sectors from one on, each followed by the one that its entry names, as far as entries go, and no more than so many.
 pub fn follow(
     alloc: Global,
-    table: &[u32],
+    table: &Links<'_>,
     first: u32,
     count: usize,
 ) -> Result<Vec<u32>, AllocError>
@@ -23,7 +24,7 @@ pub fn follow(
     let mut at = first;
     while sectors.len() < count && (at as usize) < table.len() {
         sectors.push(at)?;
-        at = table[at as usize];
+        at = table.entry(at as usize);
     }
     Ok(sectors)
 }

@@ -1,13 +1,17 @@
 //! The tables by which the streams of a file are found, read once for all of them.
 
+ghost use Rattle.cfb_header.specs.Bytes.{u32_at};
 ghost use Rattle.cfb_header.specs.Header.{header_read};
 ghost use Rattle.file_model.specs.Alike.{Alike};
-ghost use Rattle.file_model.specs.Denotes.{Denotes};
+ghost use Rattle.file_model.specs.Denotes.{Denotes, directory_of, minis};
+ghost use Rattle.sector_maps.specs.Painting.{IsOver};
 ghost use Rattle.std.specs.Prelude.{◌*◌, ◌≡◌, IfOk, List, Ok, length, ℕ};
 ghost use Rattle.storage_tree.specs.Tree.{Tree};
+ghost use Rattle.stream_seeking.specs.Blocks.{stream_sectors};
 ghost use Rattle.stream_seeking.specs.Tables.{AreTablesOf};
 
 use crate::blocks::{fat_entries, mini_fat_bytes, mini_stream_sectors};
+use cfb_chain::links::Links;
 use cfb_header::header::Header;
 use cfb_places::places::Places;
 use std::alloc::{AllocError, Global};
@@ -25,6 +29,26 @@ pub struct Tables {
     pub len: usize,
 }
 
+/// The bytes of the mini FAT and the sectors of the mini stream, given the FAT's entries.
+fn minis_of(
+    alloc: Global,
+    header: &Header,
+    file: &Places,
+    fat: &[u32],
+) -> Result<(Vec<u8>, Vec<u32>), AllocError>
+    requires read { header_read file.now ≡ Ok header.now }
+    ensures next { IfOk result (λ r. (a : List ℕ) → Alike a file.now → (t : Tree) → (d : Denotes a t) → IsOver a d.layout (directory_of a d.layout) fat.now
+        → (λ (n : ℕ). u32_at r.0.items (4 * n)) ≡ (minis a d.layout).next) }
+    ensures whole { IfOk result (λ r. (m : ℕ) × (length r.0.items ≡ 4 * m)) }
+    ensures stream { IfOk result (λ r. (a : List ℕ) → Alike a file.now → (t : Tree) → (d : Denotes a t) → IsOver a d.layout (directory_of a d.layout) fat.now
+        → r.1.items ≡ stream_sectors a d.layout) }
+{
+    let links = Links::lent(fat);
+    let mini_fat = mini_fat_bytes(alloc, header, file, &links)?;
+    let mini_stream = mini_stream_sectors(alloc, header, file, &links)?;
+    Ok((mini_fat, mini_stream))
+}
+
 /// The tables of a file, given its header and of its bytes those that its listing needs: of each file that has the same
 /// bytes there, and denotes a tree.
 pub fn tables_of(alloc: Global, header: &Header, file: &Places) -> Result<Tables, AllocError>
@@ -34,8 +58,7 @@ pub fn tables_of(alloc: Global, header: &Header, file: &Places) -> Result<Tables
     ensures len { IfOk result (λ tables. tables.len ≡ length file.now) }
 {
     let fat = fat_entries(alloc, header, file)?;
-    let mini_fat = mini_fat_bytes(alloc, header, file, &fat)?;
-    let mini_stream = mini_stream_sectors(alloc, header, file, &fat)?;
+    let (mini_fat, mini_stream) = minis_of(alloc, header, file, &fat)?;
     Ok(Tables {
         fat,
         mini_fat,

@@ -24,7 +24,7 @@ returns-clause-sent g c =
     (λ a h len.
     subst (Sends before after old new)
     (long_padded a tables place ns c.sector_zeros.result c.requires.long
-    (c.deref-2.ensures.value ∙ c.in-Ok.ensures ∙ (λ i. followed (c.deref.ensures.value i) (c.count_sectors.ensures i) place.first))
+    (c.deref-2.ensures.value ∙ c.in-Ok.ensures ∙ (λ i. followed ((c.lent-links.ensures ∙ c.deref.ensures.value) i) (c.count_sectors.ensures i) place.first))
     (omega (arith, c.if-saturating_mul-size.false, c.saturating_mul.ensures, c.len.ensures, ap length c.deref-2.ensures.value)) c.sector_zeros.ensures.zeros)
     (sends_both before mid after old now new (take place.size (joined (sector a) ns)) (replicate c.sector_zeros.result 0) (h len) more)) c.in_ok-send_sectors.ensures.sent)
     c.pad.ensures

@@ -1,4 +1,4 @@
-use Rattle.std.proofs.Common.{◌≡◌, ◌<◌, ◌+◌, ◌-◌, ◌++◌, ◌∷◌, [], arith, get_or, length, length-append, refl, subst}
+use Rattle.std.proofs.Common.{◌≡◌, ◌<◌, ◌+◌, ◌-◌, ◌++◌, ◌∷◌, [], arith, length, length-append, subst}
 use Rattle.cfb_chain.specs.Fat.{followed}
 use Rattle.cfb_chain.proofs.Followed.{followed_more}
 use Rattle.stream_seeking.proofs.chains.follow.Goals as goal
@@ -15,7 +15,7 @@ loop-sectors-preserved c =
     let more : length (met ++ at ∷ []) ≡ length met + 1 = length-append met (at ∷ []) in
     let less : count - length met - 1 ≡ count - length (met ++ at ∷ []) = omega (arith, more) in
     rw c.in_ok-push.ensures.items (
-      subst (λ n. (met ++ at ∷ []) ++ followed table n (get_or table at 0) ≡ followed table count c.args.first) less
-          (followed_more table met (count - length met) at (get_or table at 0) (followed table count c.args.first) lt some refl i.0),
+      subst (λ n. (met ++ at ∷ []) ++ followed table n c.entry-at.result ≡ followed table count c.args.first) less
+          (followed_more table met (count - length met) at c.entry-at.result (followed table count c.args.first) lt some c.entry-at.ensures i.0),
       omega (arith, more, some),
     )

@@ -6,10 +6,10 @@ use Rattle.stream_seeking.proofs.tables.tables_of.Goals as goal
 pub returns-clause-tables : goal.returns-clause-tables
 returns-clause-tables c = λ a h t d.
     let over : IsOver a d.layout (directory_of a d.layout) c.in_ok-fat.fat.items = c.in_ok-fat.ensures.over a h t d in
-    let for_minis : IsOver a d.layout (directory_of a d.layout) c.deref.result.now = subst (IsOver a d.layout (directory_of a d.layout)) (sym c.deref.ensures.value) over in
-    let for_stream : IsOver a d.layout (directory_of a d.layout) c.deref-2.result.now = subst (IsOver a d.layout (directory_of a d.layout)) (sym c.deref-2.ensures.value) over in
+    let lent : IsOver a d.layout (directory_of a d.layout) c.deref.result.now =
+    subst (IsOver a d.layout (directory_of a d.layout)) (sym c.deref.ensures.value) over in
     record {
       over = over;
-      next = c.in_ok-mini_fat.ensures.next a h t d for_minis;
-      stream = c.in_ok-mini_stream.ensures.found a h t d for_stream;
+      next = c.in_ok-mini_fat.ensures.next a h t d lent;
+      stream = c.in_ok-mini_fat.ensures.stream a h t d lent;
     }

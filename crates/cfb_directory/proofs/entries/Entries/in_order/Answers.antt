@@ -1,6 +1,8 @@
-use Rattle.std.proofs.Common.{◌≡◌, ◌<◌, ◌*◌, ◌++◌, [], inr, refl, List, ℕ, length, ◌∙◌, ap, subst, arith, append-nil}
+use Rattle.std.proofs.Common.{◌≡◌, ◌<◌, ◌*◌, ◌++◌, [], inr, refl, List, ℕ, length, ◌∙◌, ap, subst, arith, append-nil, sym}
 use Rattle.cfb_directory.specs.Entries.{AreFree, AreLinked, EntriesValue, HasChildren, child, entry_at, marked}
 use Rattle.cfb_directory.specs.Reached.{AreReached}
+use Rattle.cfb_directory.specs.Walk.{unmarked}
+use Rattle.std.specs.List.{All}
 use Rattle.cfb_directory.proofs.InOrder.{all_inside, as_many, half_back, last_inside, taken_back}
 use Rattle.cfb_directory.proofs.Marks.{AreFree-front}
 use Rattle.cfb_directory.proofs.entries.Entries.in_order.Goals as goal
@@ -62,48 +64,52 @@ invariant_of-self c =
       omega (arith, c.self.invariant.1, same, c.clear-2.ensures.capacity, c.walk_in_order.ensures.found_kept, c.unmark-in-Err.ensures.kept),
     )
 
-pub invariant_of-self-in-Ok-from_slice : goal.invariant_of-self-in-Ok-from_slice
-invariant_of-self-in-Ok-from_slice c =
+pub invariant_of-self-in-Ok-taken : goal.invariant_of-self-in-Ok-taken
+invariant_of-self-in-Ok-taken c =
     let same : length c.walk_in_order.new.self.used ≡ length c.self.inside.table.used =
     as_many c.self.inside.table c.walk_in_order.new.self (c.walk_in_order.new.found.items ++ c.walk_in_order.new.waiting.items) c.walk_in_order.ensures.marks in (
       omega (arith, c.self.invariant.0, same, c.clear.ensures.capacity, c.walk_in_order.ensures.waiting_kept),
-      omega (arith, c.self.invariant.1, same, c.clear-2.ensures.capacity, c.walk_in_order.ensures.found_kept),
+      omega (arith, c.self.invariant.1, same, c.clear-2.ensures.capacity, c.walk_in_order.ensures.found_kept, c.taken.ensures.room),
     )
 
-pub unmark-requires-in-Err-from_slice : goal.unmark-requires-in-Err-from_slice
-unmark-requires-in-Err-from_slice c =
+pub unmark-requires-in-Err-taken : goal.unmark-requires-in-Err-taken
+unmark-requires-in-Err-taken c =
     let e : EntriesValue = c.self.inside.table in
+    let s : EntriesValue = c.walk_in_order.new.self in
     let found : List ℕ = c.walk_in_order.new.found.items in
     let ws : List ℕ = c.walk_in_order.new.waiting.items in
-    all_inside e c.walk_in_order.new.self found (found_free e c.walk_in_order.new.self found ws c.in-Ok.ensures.done c.walk_in_order.ensures.free)
-    (found_marked e c.walk_in_order.new.self found ws c.in-Ok.ensures.done c.walk_in_order.ensures.marks)
+    subst (All (λ n. n < length s.used)) (sym (ap (λ v. v.items) c.in-Err-taken.ensures.kept))
+    (all_inside e s found (found_free e s found ws c.in-Ok.ensures.done c.walk_in_order.ensures.free)
+    (found_marked e s found ws c.in-Ok.ensures.done c.walk_in_order.ensures.marks))
 
-pub returns-in-Err-from_slice-clause-refused : goal.returns-in-Err-from_slice-clause-refused
-returns-in-Err-from_slice-clause-refused c =
+pub returns-in-Err-taken-clause-refused : goal.returns-in-Err-taken-clause-refused
+returns-in-Err-taken-clause-refused c =
     let h : HasChildren c.args.self.now c.args.id =
     has_children c.self.inside.table c.walk_in_order.new.self c.args.self.now c.in_ok-top.top c.args.id c.walk_in_order.new.found.items
     c.in-Ok.ensures.reached c.in_ok-top.ensures.read.0 c.in_ok-top.ensures.read.1 c.self.view_is in
     inr (inr (h, refl))
 
-pub returns-in-Err-from_slice-clause-kept : goal.returns-in-Err-from_slice-clause-kept
-returns-in-Err-from_slice-clause-kept c =
+pub returns-in-Err-taken-clause-kept : goal.returns-in-Err-taken-clause-kept
+returns-in-Err-taken-clause-kept c =
     let e : EntriesValue = c.self.inside.table in
     let s : EntriesValue = c.walk_in_order.new.self in
     let found : List ℕ = c.walk_in_order.new.found.items in
     let ws : List ℕ = c.walk_in_order.new.waiting.items in
-    taken_back e s c.unmark-in-Err-from_slice.new.self found (found_free e s found ws c.in-Ok.ensures.done c.walk_in_order.ensures.free)
-    (found_marked e s found ws c.in-Ok.ensures.done c.walk_in_order.ensures.marks) c.unmark-in-Err-from_slice.ensures.unmarked ∙ c.self.view_is
+    taken_back e s c.unmark-in-Err-taken.new.self found (found_free e s found ws c.in-Ok.ensures.done c.walk_in_order.ensures.free)
+    (found_marked e s found ws c.in-Ok.ensures.done c.walk_in_order.ensures.marks)
+    (c.unmark-in-Err-taken.ensures.unmarked ∙ ap (λ v. unmarked s v.items) c.in-Err-taken.ensures.kept) ∙ c.self.view_is
 
-pub invariant_of-self-in-Err-from_slice : goal.invariant_of-self-in-Err-from_slice
-invariant_of-self-in-Err-from_slice c =
+pub invariant_of-self-in-Err-taken : goal.invariant_of-self-in-Err-taken
+invariant_of-self-in-Err-taken c =
     let e : EntriesValue = c.self.inside.table in
     let s : EntriesValue = c.walk_in_order.new.self in
     let found : List ℕ = c.walk_in_order.new.found.items in
     let ws : List ℕ = c.walk_in_order.new.waiting.items in
-    let back : c.unmark-in-Err-from_slice.new.self ≡ e =
-    taken_back e s c.unmark-in-Err-from_slice.new.self found (found_free e s found ws c.in-Ok.ensures.done c.walk_in_order.ensures.free)
-    (found_marked e s found ws c.in-Ok.ensures.done c.walk_in_order.ensures.marks) c.unmark-in-Err-from_slice.ensures.unmarked in
-    let same : length c.unmark-in-Err-from_slice.new.self.used ≡ length e.used = ap (λ (v : EntriesValue). length v.used) back in (
+    let back : c.unmark-in-Err-taken.new.self ≡ e =
+    taken_back e s c.unmark-in-Err-taken.new.self found (found_free e s found ws c.in-Ok.ensures.done c.walk_in_order.ensures.free)
+    (found_marked e s found ws c.in-Ok.ensures.done c.walk_in_order.ensures.marks)
+    (c.unmark-in-Err-taken.ensures.unmarked ∙ ap (λ v. unmarked s v.items) c.in-Err-taken.ensures.kept) in
+    let same : length c.unmark-in-Err-taken.new.self.used ≡ length e.used = ap (λ (v : EntriesValue). length v.used) back in (
       omega (arith, c.self.invariant.0, same, c.clear.ensures.capacity, c.walk_in_order.ensures.waiting_kept),
-      omega (arith, c.self.invariant.1, same, c.clear-2.ensures.capacity, c.walk_in_order.ensures.found_kept, c.unmark-in-Err-from_slice.ensures.kept),
+      omega (arith, c.self.invariant.1, same, c.clear-2.ensures.capacity, c.walk_in_order.ensures.found_kept, c.taken.ensures.room, c.unmark-in-Err-taken.ensures.kept),
     )
