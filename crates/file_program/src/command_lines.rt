@@ -62,7 +62,8 @@ of its folder; no stream has such a name. FOLDER is made if it isn't there.
 What stands in FOLDER already is left as it was, and stops the command, unless --force is
 given: then a file or a link of such a name is replaced, and a folder is taken as it is. How
 many folders and files were made is printed, FOLDER among them, also where it was stopped:
-then these are the first in the order in which list prints them.
+then these are the first in the order in which list prints them. On a terminal each thousandth
+is told as it is made.
 
 Example: olecon extract mail.msg mail";
 

@@ -60,8 +60,9 @@ impl<'a> Task<'a> {
         }
     }
 
-    /// Does what is asked for, and gives the status to end with.
-    pub fn run<R: Runtime + AllocGlobal>(self, rt: &R) -> ExitCode {
+    /// Does what is asked for, and gives the status to end with. Where standard error is watched, as a terminal is, it tells there
+    /// how far an extraction has come.
+    pub fn run<R: Runtime + AllocGlobal>(self, rt: &R, is_watched: bool) -> ExitCode {
         keep_blocks(rt.alloc());
         match self {
             Task::Make(path) => make_described(rt, path),
@@ -70,7 +71,9 @@ impl<'a> Task<'a> {
             Task::Clean(path, out) => clean(rt, path, out),
             Task::Check(path, form) => check(rt, path, form),
             Task::Map(path) => map(rt, path),
-            Task::Extract(path, folder, is_forced) => extract(rt, path, folder, is_forced),
+            Task::Extract(path, folder, is_forced) => {
+                extract(rt, path, folder, is_forced, is_watched)
+            }
             Task::Pack(folder, path) => pack(rt, folder, path),
         }
     }

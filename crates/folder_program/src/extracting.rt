@@ -1,6 +1,7 @@
 //! Making folders of files.
 
 use crate::disk_folder::{DiskFolder, path_in};
+use crate::progress::Watched;
 use folder_commands::extracting::extract_file;
 use folder_commands::fault::{ExtractFault, Stop};
 use program_ends::ends::refuse;
@@ -10,19 +11,23 @@ use std::process::ExitCode;
 use std::rt::Runtime;
 use texts::report::{Report, STANDARD};
 
-/// Makes a folder of a file.
+/// Makes a folder of a file. Where standard error is watched, as a terminal is, how many entries there are so far is told there, if
+/// there are many.
 pub fn extract<R: Runtime + AllocGlobal>(
     rt: &R,
     path: &str,
     folder: &str,
     is_forced: bool,
+    is_watched: bool,
 ) -> ExitCode {
     let Ok(mut source) = fs::open(rt, path) else {
         return refuse(rt, &Report::File(path, "Unreadable"));
     };
     tell_unfinished(rt, path);
-    let mut made = DiskFolder::new(rt, folder, is_forced);
-    match extract_file(rt.alloc(), &mut source, &mut made) {
+    let mut made = Watched::new(rt, DiskFolder::new(rt, folder, is_forced), is_watched);
+    let done = extract_file(rt.alloc(), &mut source, &mut made);
+    made.end();
+    match done {
         Ok(count) => tell(rt, count, ExitCode::SUCCESS),
         Err(stop) => stopped(rt, path, folder, &stop),
     }

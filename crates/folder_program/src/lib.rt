@@ -6,3 +6,4 @@ mod disk_folder;
 pub mod extracting;
 mod finding;
 pub mod packing;
+mod progress;

@@ -7,33 +7,38 @@ use file_program::command_lines::command_line;
 use file_program::ends::{answer_usage, refuse_command, refuse_start};
 use file_program::tasks::Task;
 use std::alloc::AllocError;
+use std::io::IsTerminal;
 use std::process::ExitCode;
 use std::rt::Runtime;
 use std::{env, io};
 
 /// Does what a command line asks for.
-fn run<R: Runtime + AllocGlobal>(rt: &R, matches: &ArgMatches<'_>) -> ExitCode {
+fn run<R: Runtime + AllocGlobal>(rt: &R, matches: &ArgMatches<'_>, is_watched: bool) -> ExitCode {
     match Task::of(matches) {
-        Some(task) => task.run(rt),
+        Some(task) => task.run(rt, is_watched),
         None => refuse_command(rt),
     }
 }
 
 /// Does what the words of a command line ask for, or tells what is wrong with them.
-fn answer<R: Runtime + AllocGlobal>(rt: &R, words: &[String]) -> Result<ExitCode, AllocError> {
+fn answer<R: Runtime + AllocGlobal>(
+    rt: &R,
+    words: &[String],
+    is_watched: bool,
+) -> Result<ExitCode, AllocError> {
     match command_line(rt.alloc())?.try_get_matches_from(words) {
-        Ok(matches) => Ok(run(rt, &matches)),
+        Ok(matches) => Ok(run(rt, &matches, is_watched)),
         Err(error) => Ok(answer_usage(rt, &error)),
     }
 }
 
-fn start<R: Runtime + AllocGlobal>(rt: &R) -> io::Result<ExitCode> {
+fn start<R: Runtime + AllocGlobal>(rt: &R, is_watched: bool) -> io::Result<ExitCode> {
     let words: Vec<String> = env::args(rt)?.collect(rt.alloc())?;
-    Ok(answer(rt, words.as_slice())?)
+    Ok(answer(rt, words.as_slice(), is_watched)?)
 }
 
 fn main(rt: HostRuntime) -> ExitCode {
-    match start(&rt) {
+    match start(&rt, rt.stderr().is_terminal()) {
         Ok(code) => code,
         Err(error) => refuse_start(&rt, &error),
     }
