@@ -1,12 +1,14 @@
 //! How a program that only makes files starts.
 
 use crate::command_lines::{FILE, making_line};
-use crate::ends::{answer_usage, refuse_command, refuse_start};
+use crate::ends::{refuse_command, refuse_start};
 use crate::making::make;
 use crate::memory::keep_blocks;
 use crate::new_file::NewFile;
+use crate::usage::answer_usage;
 use clap::ArgMatches;
 use std::alloc::AllocError;
+use std::fs::File;
 use std::process::ExitCode;
 use std::rt::Runtime;
 use std::{env, io};
@@ -20,7 +22,7 @@ fn file_asked_for<'a>(matches: &ArgMatches<'a>) -> Option<&'a str> {
 /// Makes what the words of a command line ask for, or tells what is wrong with them.
 fn answer<R, E, F, T>(rt: &R, words: &[String], write: F, tell: T) -> Result<ExitCode, AllocError>
 where
-    R: Runtime + AllocGlobal,
+    R: Runtime<File = File> + AllocGlobal,
     E: Drop,
     F: FnOnce(&mut NewFile<'_, R>) -> Result<usize, E>,
     T: FnOnce(&str, &E) -> ExitCode,
@@ -32,13 +34,13 @@ where
             Some(path) => Ok(make(rt, path, write, tell)),
             None => Ok(refuse_command(rt)),
         },
-        Err(error) => Ok(answer_usage(rt, &error)),
+        Err(error) => answer_usage(rt, making_line(rt.alloc())?, words, &error),
     }
 }
 
 fn start<R, E, F, T>(rt: &R, write: F, tell: T) -> io::Result<ExitCode>
 where
-    R: Runtime + AllocGlobal,
+    R: Runtime<File = File> + AllocGlobal,
     E: Drop,
     F: FnOnce(&mut NewFile<'_, R>) -> Result<usize, E>,
     T: FnOnce(&str, &E) -> ExitCode,
@@ -53,7 +55,7 @@ where
 /// or prints the help or the version that it asks for.
 pub fn start_making<R, E, F, T>(rt: &R, write: F, tell: T) -> ExitCode
 where
-    R: Runtime + AllocGlobal,
+    R: Runtime<File = File> + AllocGlobal,
     E: Drop,
     F: FnOnce(&mut NewFile<'_, R>) -> Result<usize, E>,
     T: FnOnce(&str, &E) -> ExitCode,
