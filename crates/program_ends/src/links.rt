@@ -1,10 +1,9 @@
 //! Links, which are followed by their texts, so that the folder of what they lead to may have any name.
 
-use std::fs;
-use std::io;
 use std::io::ErrorKind;
 use std::path::PathBuf;
 use std::rt::Files;
+use std::{fs, io};
 
 /// How many links are followed.
 pub(crate) const MOST_LINKS: u32 = 40;

@@ -199,7 +199,7 @@ fn open_followed<R: Files<File = File> + Clock + AllocGlobal>(
     path: &str,
 ) -> io::Result<Place> {
     match open_to_write(rt, path) {
-        Ok(old) => open_over(rt, path, &old),
+        Ok(old) => open_over(rt, path, old),
         Err(error) if error.kind() == ErrorKind::NotFound => {
             Ok(Place::Beside(open_beside(rt, end_of(rt, path)?, NEW_MODE)?))
         }
@@ -211,12 +211,13 @@ fn open_followed<R: Files<File = File> + Clock + AllocGlobal>(
 fn open_over<R: Files<File = File> + Clock + AllocGlobal>(
     rt: &R,
     path: &str,
-    old: &File,
+    old: File,
 ) -> io::Result<Place> {
-    if old.metadata()?.is_file() {
-        Ok(Place::Beside(open_for(rt, end_of(rt, path)?, old)?))
+    let about = old.metadata()?;
+    if about.is_file() {
+        Ok(Place::Beside(open_for(rt, end_of(rt, path)?, &about)?))
     } else {
-        Ok(Place::Itself(open_to_write(rt, path)?))
+        Ok(Place::Itself(old))
     }
 }
 
@@ -227,8 +228,8 @@ fn open_in_place<R: Files<File = File> + Clock + AllocGlobal>(
 ) -> io::Result<Place> {
     let target = PathBuf::from_str(rt.alloc(), path)?;
     if fs::symlink_metadata(rt, path)?.is_file() {
-        let old = open_to_write(rt, path)?;
-        Ok(Place::Beside(open_for(rt, target, &old)?))
+        let about = open_to_write(rt, path)?.metadata()?;
+        Ok(Place::Beside(open_for(rt, target, &about)?))
     } else {
         Ok(Place::Beside(open_beside(rt, target, NEW_MODE)?))
     }
@@ -238,18 +239,17 @@ fn open_to_write<R: Files<File = File>>(rt: &R, path: &str) -> io::Result<File> 
     OpenOptions::new().write(true).open(rt, path)
 }
 
-/// A new file of the owner and the rights of a regular file beside it, which is open, and which stands at the name.
+/// A new file of the owner and the rights of a regular file beside it, which stands at the name, and of which this is known.
 fn open_for<R: Files<File = File> + Clock + AllocGlobal>(
     rt: &R,
     target: PathBuf,
-    old: &File,
+    old: &Metadata,
 ) -> io::Result<Beside> {
-    let about = old.metadata()?;
-    if !stands_at(rt, &target, &about) {
+    if !stands_at(rt, &target, old) {
         return Err(io::Error::from(ErrorKind::NotFound));
     }
     let new = open_beside(rt, target, OWNER_MODE)?;
-    remove_unless(rt, &new, take_over(&new.file, &about))?;
+    remove_unless(rt, &new, take_over(&new.file, old))?;
     Ok(new)
 }
 

@@ -19,7 +19,8 @@ fn mode_for(old: u32, has_group: bool) -> u32 {
     if has_group {
         return old & (OWNER | GROUP | OTHERS);
     }
-    old & OWNER | old & (old & GROUP) >> 3
+    let shared = (old & GROUP) >> 3;
+    old & (OWNER | shared)
 }
 
 /// Gives an open file the owner and the group of another; where it may not have the owner, the group alone, which a member may
