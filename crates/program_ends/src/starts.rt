@@ -5,8 +5,8 @@ use crate::ends::{refuse_command, refuse_start};
 use crate::making::make;
 use crate::memory::keep_blocks;
 use crate::new_file::NewFile;
-use crate::usage::answer_usage;
-use clap::ArgMatches;
+use crate::usage::{answer_usage, have_hidden, refuse_words, told_words};
+use clap::{ArgMatches, Error};
 use std::alloc::AllocError;
 use std::fs::File;
 use std::process::ExitCode;
@@ -17,6 +17,22 @@ use std::{env, io};
 fn file_asked_for<'a>(matches: &ArgMatches<'a>) -> Option<&'a str> {
     let (_, made) = matches.subcommand()?;
     made.get_str(FILE)
+}
+
+/// Tells what is wrong with the words of a command line, as they are told, or prints the help or the version that they ask for.
+fn answer_error<R: Runtime + AllocGlobal>(
+    rt: &R,
+    words: &[String],
+    error: &Error,
+) -> Result<ExitCode, AllocError> {
+    if !have_hidden(words) {
+        return Ok(answer_usage(rt, error));
+    }
+    let told = told_words(rt.alloc(), words)?;
+    match making_line(rt.alloc())?.try_get_matches_from(told.as_slice()) {
+        Ok(_) => Ok(refuse_words(rt)),
+        Err(error) => Ok(answer_usage(rt, &error)),
+    }
 }
 
 /// Makes what the words of a command line ask for, or tells what is wrong with them.
@@ -34,7 +50,7 @@ where
             Some(path) => Ok(make(rt, path, write, tell)),
             None => Ok(refuse_command(rt)),
         },
-        Err(error) => answer_usage(rt, making_line(rt.alloc())?, words, &error),
+        Err(error) => answer_error(rt, words, &error),
     }
 }
 
