@@ -79,5 +79,10 @@ int main(int count, char **words) {
         return 2;
     }
     out = answer(read_file(words[1]), count == 3 ? words[2] : NULL);
-    return fwrite(out.at, 1, out.len, stdout) == out.len ? 0 : 3;
+    /* What is still in the buffer is written as the stream is closed. */
+    if (fwrite(out.at, 1, out.len, stdout) != out.len || fclose(stdout) != 0) {
+        fputs("Unwritable\n", stderr);
+        return 3;
+    }
+    return 0;
 }

@@ -2,7 +2,8 @@
  *
  * Each call reads bytes of the caller's, puts its answer at the front of a place of the caller's (OUT, of OUT_LEN bytes),
  * and tells in NEEDED how many bytes the answer has. It keeps none of the caller's memory, holds nothing between calls,
- * and writes no byte of the place behind the answer.
+ * and writes no byte of the place behind the answer. So several threads may call at once, where malloc, realloc and free may be
+ * called so.
  *
  * It answers 0 where all was done; 1 where the place is too short: then nothing is put, and NEEDED says how long it has to
  * be, so that a first call may have no place at all; else the number of a fault, whose name olecon_fault_name tells, with

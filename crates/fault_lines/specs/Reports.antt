@@ -1,6 +1,7 @@
 -- The lines in which faults are printed.
 use Rattle.std.specs.Prelude.{◌++◌, ℕ, List, codes}
 use Rattle.std.specs.Fmt.{decimal}
+use Rattle.fault_lines.specs.Told.{told}
 use Rattle.fault_lines.specs.declared.report.Report.{Report}
 use Rattle.fault_lines.specs.declared.report.Report.TheVariants as report
 
@@ -10,7 +11,7 @@ standard = codes "-"
 
 -- a fault of the file of a name, and one of the line of a number
 abbrev pub of_file : List ℕ → List ℕ → List ℕ
-of_file name fault = codes "file " ++ name ++ codes ": " ++ fault
+of_file name fault = codes "file " ++ told name ++ codes ": " ++ fault
 
 abbrev pub of_line : ℕ → List ℕ → List ℕ
 of_line n fault = codes "line " ++ decimal n ++ codes ": " ++ fault

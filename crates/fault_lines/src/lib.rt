@@ -1,4 +1,5 @@
-//! The lines in which faults are printed. It needs nothing of other texts, so what programs end with is proved early.
+//! The lines in which faults are printed. It needs no code of other texts, so what programs end with is proved early.
 #![tactic(auto)]
 
 pub mod report;
+pub mod told;

@@ -1,5 +1,6 @@
 //! The lines in which faults are printed.
 
+use crate::told::Told;
 use std::fmt;
 
 /// The name that is printed for a standard stream.
@@ -8,7 +9,7 @@ pub const STANDARD: &str = "-";
 /// A fault as it is printed, with the file or the line that it was found in.
 #[derive(Clone, Copy)]
 pub enum Report<'a> {
-    /// The file's name, and the fault's.
+    /// The file's name, which is told as `Told` does, and the fault's.
     File(&'a str, &'static str),
     /// The line's number, and the fault's name.
     Line(usize, &'static str),
@@ -22,7 +23,10 @@ impl<'a> fmt::Display for Report<'a> {
 
     fn fmt<W: fmt::Write>(&self, f: &mut fmt::Formatter<W>) -> fmt::Result {
         match self {
-            Report::File(file, fault) => write!(f, "file {file}: {fault}"),
+            Report::File(name, fault) => {
+                let file = Told(name);
+                write!(f, "file {file}: {fault}")
+            }
             Report::Line(number, fault) => write!(f, "line {number}: {fault}"),
         }
     }

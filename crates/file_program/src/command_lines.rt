@@ -60,10 +60,11 @@ out of FOLDER. A storage whose class id or state bits aren't zero has them in a 
 of its folder; no stream has such a name. FOLDER is made if it isn't there.
 
 What stands in FOLDER already is left as it was, and stops the command, unless --force is
-given: then a file or a link of such a name is replaced, and a folder is taken as it is. How
-many folders and files were made is printed, FOLDER among them, also where it was stopped:
-then these are the first in the order in which list prints them. On a terminal each thousandth
-is told as it is made.
+given: then a file or a link of such a name is replaced, and a folder is taken as it is. A file that
+is replaced keeps its owner, group and permissions where they can be kept, and one that may not be
+written stops the command. How many folders and files were made is printed, FOLDER among them, also
+where it was stopped: then these are the first in the order in which list prints them. On a terminal
+each thousandth is told as it is made.
 
 Example: olecon extract mail.msg mail";
 
@@ -74,7 +75,9 @@ A file !storage of a folder has the class id and the state bits of its storage, 
 without it. Links, and what is neither a folder nor a file, are refused.
 
 FILE is replaced only once all of it is written; until then the old one stays as it was. It isn't
-replaced where a save of it was cut off, so that FILE.journal is open: JournalOpen.
+replaced where a save of it was cut off, so that FILE.journal is open: JournalOpen. Its owner, group
+and permissions are kept where they can be, or it gets fewer rights; access control lists,
+attributes and its other hard names aren't.
 
 Example: olecon pack mail mail.msg";
 

@@ -6,3 +6,4 @@ pub mod running;
 pub mod tasks;
 
 pub use program_ends::ends;
+pub use program_ends::usage;

@@ -20,7 +20,7 @@ use program_ends::ends::{keep, refuse, refuse_path};
 use program_ends::journals::{refuse_unfinished, tell_unfinished};
 use program_ends::making::count_made;
 use program_ends::new_file::NewFile;
-use std::fs::OpenFile;
+use std::fs::{File, OpenFile};
 use std::process::ExitCode;
 use std::rt::Runtime;
 use std::{fs, io};
@@ -32,7 +32,7 @@ use texts::report::Report;
 fn open<R: Runtime + AllocGlobal>(rt: &R, path: &str) -> Result<R::File, ExitCode> {
     match fs::open(rt, path) {
         Ok(source) => {
-            tell_unfinished(rt, path);
+            tell_unfinished(rt, path)?;
             Ok(source)
         }
         Err(_) => Err(refuse(rt, &Report::File(path, "Unreadable"))),
@@ -199,7 +199,7 @@ fn get_open<R: Runtime + AllocGlobal>(
 }
 
 /// Writes the tree of a file to another, or to the same, unless a save of the one that is replaced was cut off.
-pub fn clean<R: Runtime + AllocGlobal>(rt: &R, path: &str, out: &str) -> ExitCode {
+pub fn clean<R: Runtime<File = File> + AllocGlobal>(rt: &R, path: &str, out: &str) -> ExitCode {
     if let Err(code) = refuse_unfinished(rt, out) {
         return code;
     }
@@ -210,7 +210,7 @@ pub fn clean<R: Runtime + AllocGlobal>(rt: &R, path: &str, out: &str) -> ExitCod
 }
 
 /// Writes the tree of an open file to another, which is kept if all of it is written.
-fn clean_into<R: Runtime + AllocGlobal>(
+fn clean_into<R: Runtime<File = File> + AllocGlobal>(
     rt: &R,
     path: &str,
     source: R::File,
@@ -227,7 +227,7 @@ fn clean_into<R: Runtime + AllocGlobal>(
 }
 
 /// Writes the tree of an open file to another. One that tells how long it is isn't held whole.
-fn clean_open<R: Runtime + AllocGlobal>(
+fn clean_open<R: Runtime<File = File> + AllocGlobal>(
     rt: &R,
     mut source: R::File,
     new: &mut NewFile<'_, R>,

@@ -11,6 +11,7 @@ use program_ends::command_lines::{CLEAN, FILE, GET, JSON, LIST, LONG, MAKE, OUT,
 use program_ends::ends::refuse;
 use program_ends::making::{count_made, make};
 use program_ends::memory::keep_blocks;
+use std::fs::File;
 use std::process::ExitCode;
 use std::rt::Runtime;
 
@@ -62,7 +63,7 @@ impl<'a> Task<'a> {
 
     /// Does what is asked for, and gives the status to end with. Where standard error is watched, as a terminal is, it tells there
     /// how far an extraction has come.
-    pub fn run<R: Runtime + AllocGlobal>(self, rt: &R, is_watched: bool) -> ExitCode {
+    pub fn run<R: Runtime<File = File> + AllocGlobal>(self, rt: &R, is_watched: bool) -> ExitCode {
         keep_blocks(rt.alloc());
         match self {
             Task::Make(path) => make_described(rt, path),
@@ -80,7 +81,7 @@ impl<'a> Task<'a> {
 }
 
 /// Makes the file that standard input describes.
-fn make_described<R: Runtime + AllocGlobal>(rt: &R, path: &str) -> ExitCode {
+fn make_described<R: Runtime<File = File> + AllocGlobal>(rt: &R, path: &str) -> ExitCode {
     make(
         rt,
         path,

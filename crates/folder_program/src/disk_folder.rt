@@ -3,25 +3,25 @@
 use file_folders::folder::{Folder, FolderFault};
 use file_folders::notes::{NOTES, is_plain, notes};
 use file_folders::plan::{Content, Entry};
-use program_ends::new_file::{MOST_NAMES, name_beside};
+use program_ends::new_file::NewFile;
 use std::alloc::{AllocError, Global};
-use std::fs::{self, OpenOptions};
+use std::fs::{self, File, OpenOptions};
 use std::io::{self, ErrorKind, Write};
-use std::path::PathBuf;
-use std::rt::Files;
+use std::rt::{Clock, Files};
 use stored_values::class_id::ClassId;
 
 /// A folder of a system in which entries are made. Each folder below it is made new, and each file too, so no link that
 /// stands in it is followed, unless what stands there is to be replaced: then a folder that is none by a link is taken as it
-/// is, and a file or a link stays until all of the new file is written beside it.
+/// is, and a file or a link stays until all of the new file is written beside it, which has the owner and the rights of a file
+/// that it replaces.
 #[derive(Drop)]
-pub struct DiskFolder<'a, R: Files + AllocGlobal> {
+pub struct DiskFolder<'a, R: Files<File = File> + Clock + AllocGlobal> {
     rt: &'a R,
     path: &'a str,
     is_forced: bool,
 }
 
-impl<'a, R: Files + AllocGlobal> DiskFolder<'a, R> {
+impl<'a, R: Files<File = File> + Clock + AllocGlobal> DiskFolder<'a, R> {
     /// The folder of this path, and whether what stands there is to be replaced.
     pub fn new(rt: &'a R, path: &'a str, is_forced: bool) -> DiskFolder<'a, R> {
         DiskFolder {
@@ -63,8 +63,7 @@ impl<'a, R: Files + AllocGlobal> DiskFolder<'a, R> {
             return Err(FolderFault::NoMemory);
         };
         if is_plain(class, state) {
-            self.clear(file.as_str());
-            return Ok(());
+            return self.clear(file.as_str());
         }
         match notes(alloc, class, state) {
             Ok(text) => self.make_file(file.as_str(), &text),
@@ -101,52 +100,63 @@ impl<'a, R: Files + AllocGlobal> DiskFolder<'a, R> {
 
     /// Writes a new file beside a path, and puts it in the place of what stands there.
     fn replace_file(&self, path: &str, bytes: &[u8]) -> Result<(), FolderFault> {
-        let Ok(target) = PathBuf::from_str(self.rt.alloc(), path) else {
-            return Err(FolderFault::NoMemory);
-        };
-        for number in 0..MOST_NAMES {
-            let Ok(beside) = name_beside(self.rt.alloc(), &target, number) else {
-                return Err(FolderFault::NoMemory);
-            };
-            match self.write_new(beside.as_str(), bytes) {
-                Ok(()) => return self.put_in_place(beside.as_str(), path),
-                // That name is taken.
-                Err(FolderFault::Exists) => {}
-                Err(fault) => return Err(fault),
+        let mut new = NewFile::in_place(self.rt, path);
+        let done = match write(&mut new, bytes) {
+            Ok(()) => new.put(),
+            Err(error) => {
+                new.discard();
+                Err(error)
             }
+        };
+        match done {
+            Ok(()) => Ok(()),
+            Err(error) => Err(write_fault(&error)),
         }
-        Err(FolderFault::Exists)
-    }
-
-    /// Puts a new file in the place of what stands at a path, or removes it.
-    fn put_in_place(&self, beside: &str, path: &str) -> Result<(), FolderFault> {
-        let done = fs::rename(self.rt, beside, path);
-        self.remove_unless(beside, &done)
     }
 
     /// Removes a new file unless all of it was written.
     fn remove_unless(&self, path: &str, done: &io::Result<()>) -> Result<(), FolderFault> {
-        if done.is_ok() {
-            return Ok(());
+        match done {
+            Ok(()) => Ok(()),
+            Err(error) => {
+                let _ = fs::remove_file(self.rt, path);
+                Err(write_fault(error))
+            }
         }
-        let _ = fs::remove_file(self.rt, path);
-        Err(FolderFault::Unwritable)
     }
 
-    /// Removes the file or the link at a path, where what stands there is to be replaced.
-    fn clear(&self, path: &str) {
-        if self.is_forced {
-            let _ = fs::remove_file(self.rt, path);
+    /// Sees to it that nothing stands at a path: a file or a link there is removed where it is to be replaced.
+    fn clear(&self, path: &str) -> Result<(), FolderFault> {
+        match fs::symlink_metadata(self.rt, path) {
+            Ok(about) if self.is_forced && !about.is_dir() => self.remove(path),
+            Ok(_) => Err(FolderFault::Exists),
+            Err(error) if error.kind() == ErrorKind::NotFound => Ok(()),
+            Err(error) => Err(fault_of(&error)),
+        }
+    }
+
+    fn remove(&self, path: &str) -> Result<(), FolderFault> {
+        match fs::remove_file(self.rt, path) {
+            Ok(()) => Ok(()),
+            Err(error) => Err(fault_of(&error)),
         }
     }
 }
 
 /// Why nothing new is made at a path.
 fn fault_of(error: &io::Error) -> FolderFault {
-    if error.kind() == ErrorKind::AlreadyExists {
-        FolderFault::Exists
-    } else {
-        FolderFault::Unwritable
+    match error.kind() {
+        ErrorKind::AlreadyExists => FolderFault::Exists,
+        ErrorKind::OutOfMemory => FolderFault::NoMemory,
+        _ => FolderFault::Unwritable,
+    }
+}
+
+/// Why a file that is made at a path isn't written.
+fn write_fault(error: &io::Error) -> FolderFault {
+    match error.kind() {
+        ErrorKind::OutOfMemory => FolderFault::NoMemory,
+        _ => FolderFault::Unwritable,
     }
 }
 
@@ -170,7 +180,7 @@ pub(crate) fn path_in(alloc: Global, folder: &str, path: &[u8]) -> Result<String
     }
 }
 
-impl<'a, R: Files + AllocGlobal> Folder for DiskFolder<'a, R> {
+impl<'a, R: Files<File = File> + Clock + AllocGlobal> Folder for DiskFolder<'a, R> {
     fn make(&mut self, entry: &Entry) -> Result<(), FolderFault> {
         let spelled = entry.path.as_bytes();
         let Ok(path) = path_in(self.rt.alloc(), self.path, spelled) else {

@@ -6,14 +6,14 @@ use folder_commands::extracting::extract_file;
 use folder_commands::fault::{ExtractFault, Stop};
 use program_ends::ends::refuse;
 use program_ends::journals::tell_unfinished;
-use std::fs;
+use std::fs::{self, File};
 use std::process::ExitCode;
 use std::rt::Runtime;
 use texts::report::{Report, STANDARD};
 
 /// Makes a folder of a file. Where standard error is watched, as a terminal is, how many entries there are so far is told there, if
 /// there are many.
-pub fn extract<R: Runtime + AllocGlobal>(
+pub fn extract<R: Runtime<File = File> + AllocGlobal>(
     rt: &R,
     path: &str,
     folder: &str,
@@ -23,7 +23,9 @@ pub fn extract<R: Runtime + AllocGlobal>(
     let Ok(mut source) = fs::open(rt, path) else {
         return refuse(rt, &Report::File(path, "Unreadable"));
     };
-    tell_unfinished(rt, path);
+    if let Err(code) = tell_unfinished(rt, path) {
+        return code;
+    }
     let mut made = Watched::new(rt, DiskFolder::new(rt, folder, is_forced), is_watched);
     let done = extract_file(rt.alloc(), &mut source, &mut made);
     made.end();

@@ -7,8 +7,9 @@ use folder_packing::names::read_component;
 use folder_packing::notes::read_notes;
 use folder_packing::packing::Found;
 use std::alloc::{AllocError, Global};
-use std::fs::{self, DirEntry};
+use std::fs::{self, DirEntry, Metadata, OpenFile};
 use std::io::{self, ErrorKind};
+use std::os::unix::fs::MetadataExt;
 use std::rt::Runtime;
 use stored_values::bytes::Bytes;
 use stored_values::class_id::ClassId;
@@ -54,16 +55,16 @@ const NO_MEMORY: &str = "NoMemory";
 
 const UNREADABLE: &str = "Unreadable";
 
+const NOT_A_FILE: &str = "NotAFile";
+
 /// All that stands in a folder, each storage before what it holds.
 pub(crate) fn find_all<R: Runtime + AllocGlobal>(rt: &R, folder: &str) -> Result<Whole, Refusal> {
-    match told_of(rt, folder) {
-        Ok((class, state)) => Ok(Whole {
-            class,
-            state,
-            found: find_below(rt, folder)?,
-        }),
-        Err(fault) => Err(refused_at(rt.alloc(), folder, fault)),
-    }
+    let (class, state) = told_of(rt, folder)?;
+    Ok(Whole {
+        class,
+        state,
+        found: find_below(rt, folder)?,
+    })
 }
 
 /// All that stands in a folder, but for what it tells of itself.
@@ -108,6 +109,19 @@ fn refused_at(alloc: Global, path: &str, fault: &'static str) -> Refusal {
     }
 }
 
+/// The refusal where a system's call on what stands at a path failed.
+fn unread_at(alloc: Global, path: &str, error: &io::Error) -> Refusal {
+    refused_at(alloc, path, read_fault(error))
+}
+
+/// The name of the fault where a system's call on what is read failed.
+fn read_fault(error: &io::Error) -> &'static str {
+    match error.kind() {
+        ErrorKind::OutOfMemory => NO_MEMORY,
+        _ => UNREADABLE,
+    }
+}
+
 fn begin(alloc: Global, search: &mut Search, folder: &str) -> Result<(), AllocError> {
     search.pending.push(Pending {
         path: String::from_str(alloc, folder)?,
@@ -122,41 +136,43 @@ fn look_into<R: Runtime + AllocGlobal>(
     search: &mut Search,
     folder: &Pending,
 ) -> Result<(), Refusal> {
-    let alloc = rt.alloc();
-    let Ok(entries) = fs::read_dir(rt, folder.path.as_str()) else {
-        return Err(refused_at(alloc, folder.path.as_str(), UNREADABLE));
+    let place = folder.path.as_str();
+    let entries = match fs::read_dir(rt, place) {
+        Ok(entries) => entries,
+        Err(error) => return Err(unread_at(rt.alloc(), place, &error)),
     };
     for entry in entries {
-        let Ok(entry) = entry else {
-            return Err(refused_at(alloc, folder.path.as_str(), UNREADABLE));
-        };
-        if let Err(fault) = take(rt, search, &folder.names, &entry) {
-            return Err(refused_at(alloc, entry.path().as_str(), fault));
+        match entry {
+            Ok(entry) => take(rt, search, &folder.names, &entry)?,
+            Err(error) => return Err(unread_at(rt.alloc(), place, &error)),
         }
     }
     Ok(())
 }
 
-/// Takes what stands under a name of a folder.
+/// Takes what stands under a name of a folder, but for the file that tells of the folder's storage.
 fn take<R: Runtime + AllocGlobal>(
     rt: &R,
     search: &mut Search,
     within: &[Name],
     entry: &DirEntry<R, Global>,
-) -> Result<(), &'static str> {
+) -> Result<(), Refusal> {
     if entry.file_name() == NOTES {
         return Ok(());
     }
-    let Ok(kind) = entry.file_type() else {
-        return Err(UNREADABLE);
+    let alloc = rt.alloc();
+    let place = entry.path();
+    let path = match path_of(alloc, within, entry.file_name()) {
+        Ok(path) => path,
+        Err(fault) => return Err(refused_at(alloc, place.as_str(), fault)),
     };
-    let path = path_of(rt.alloc(), within, entry.file_name())?;
-    if kind.is_dir() {
-        take_folder(rt, search, path, entry.path().as_str())
-    } else if kind.is_file() {
-        take_file(rt, search, path, entry.path().as_str())
-    } else {
-        Err("NotAFile")
+    match fs::symlink_metadata(rt, place) {
+        Ok(about) if about.is_dir() => take_folder(rt, search, path, place.as_str()),
+        Ok(about) => match take_file(rt, search, path, place.as_str(), &about) {
+            Ok(()) => Ok(()),
+            Err(fault) => Err(refused_at(alloc, place.as_str(), fault)),
+        },
+        Err(error) => Err(unread_at(alloc, place.as_str(), &error)),
     }
 }
 
@@ -196,12 +212,15 @@ fn take_folder<R: Runtime + AllocGlobal>(
     search: &mut Search,
     path: Vec<Name>,
     place: &str,
-) -> Result<(), &'static str> {
+) -> Result<(), Refusal> {
     let (class, state) = told_of(rt, place)?;
-    if add_pending(rt.alloc(), search, &path, place).is_err() {
-        return Err(NO_MEMORY);
+    let is_added = add_pending(rt.alloc(), search, &path, place).is_ok()
+        && add_found(search, path, Content::Folder(class, state)).is_ok();
+    if is_added {
+        Ok(())
+    } else {
+        Err(refused_at(rt.alloc(), place, NO_MEMORY))
     }
-    add_found(search, path, Content::Folder(class, state))
 }
 
 /// Adds a folder that is still to be looked into.
@@ -229,14 +248,15 @@ fn add_found(search: &mut Search, path: Vec<Name>, content: Content) -> Result<(
     }
 }
 
-/// Takes a file.
+/// Takes a file of which this is known.
 fn take_file<R: Runtime + AllocGlobal>(
     rt: &R,
     search: &mut Search,
     path: Vec<Name>,
     place: &str,
+    about: &Metadata,
 ) -> Result<(), &'static str> {
-    let content = content_of(rt, &mut search.bytes, place)?;
+    let content = content_of(rt, &mut search.bytes, place, about)?;
     add_found(search, path, content)
 }
 
@@ -245,8 +265,9 @@ fn content_of<R: Runtime + AllocGlobal>(
     rt: &R,
     count: &mut u64,
     place: &str,
+    about: &Metadata,
 ) -> Result<Content, &'static str> {
-    let bytes = bytes_of(rt, place)?;
+    let bytes = bytes_of(rt, place, about)?;
     *count = count.saturating_add(bytes.len() as u64);
     if *count > MOST_BYTES {
         return Err("TooBig");
@@ -257,49 +278,70 @@ fn content_of<R: Runtime + AllocGlobal>(
     }
 }
 
-/// The bytes of a file.
-fn bytes_of<R: Runtime + AllocGlobal>(rt: &R, place: &str) -> Result<Vec<u8>, &'static str> {
-    let Ok(mut file) = fs::open(rt, place) else {
-        return Err(UNREADABLE);
+/// The bytes of the regular file at a path, of which this is known. What took its place meanwhile, as a link to another may, isn't
+/// read.
+fn bytes_of<R: Runtime + AllocGlobal>(
+    rt: &R,
+    place: &str,
+    about: &Metadata,
+) -> Result<Vec<u8>, &'static str> {
+    if !about.is_file() {
+        return Err(NOT_A_FILE);
+    }
+    let mut file = match fs::open(rt, place) {
+        Ok(file) => file,
+        Err(error) => return Err(read_fault(&error)),
     };
+    if !is_same(&file, about) {
+        return Err(NOT_A_FILE);
+    }
     match read_all(rt.alloc(), &mut file) {
         Ok(bytes) => Ok(bytes),
         Err(fault) => Err(fault.name()),
     }
 }
 
-/// The class id and state bits that a folder tells of its storage: zeros where it has no file that does.
-fn told_of<R: Runtime + AllocGlobal>(rt: &R, folder: &str) -> Result<(ClassId, u32), &'static str> {
-    let alloc = rt.alloc();
-    match format!(in alloc; "{folder}/{NOTES}") {
-        Ok(place) => told_at(rt, place.as_str()),
-        Err(_) => Err(NO_MEMORY),
+/// Whether an open file is the one of which this is known.
+fn is_same<F: OpenFile>(file: &F, about: &Metadata) -> bool {
+    match file.metadata() {
+        Ok(open) => open.dev() == about.dev() && open.ino() == about.ino(),
+        Err(_) => false,
     }
 }
 
-/// What a file tells of a storage: zeros where there is none.
+/// The class id and state bits that a folder tells of its storage: zeros where it has no file that does.
+fn told_of<R: Runtime + AllocGlobal>(rt: &R, folder: &str) -> Result<(ClassId, u32), Refusal> {
+    let alloc = rt.alloc();
+    let Ok(place) = format!(in alloc; "{folder}/{NOTES}") else {
+        return Err(refused_at(alloc, folder, NO_MEMORY));
+    };
+    match told_at(rt, place.as_str()) {
+        Ok(told) => Ok(told),
+        Err(fault) => Err(refused_at(alloc, place.as_str(), fault)),
+    }
+}
+
+/// What a file tells of a storage: zeros where nothing stands at its path.
 fn told_at<R: Runtime + AllocGlobal>(rt: &R, place: &str) -> Result<(ClassId, u32), &'static str> {
     match fs::symlink_metadata(rt, place) {
-        Ok(_) => read_told(rt, place),
-        Err(error) => told_without(&error),
+        Ok(about) => read_told(rt, place, &about),
+        Err(error) if is_absent(&error) => Ok((ClassId::from_bytes([0; 16]), 0)),
+        Err(error) => Err(read_fault(&error)),
     }
 }
 
 fn read_told<R: Runtime + AllocGlobal>(
     rt: &R,
     place: &str,
+    about: &Metadata,
 ) -> Result<(ClassId, u32), &'static str> {
-    match read_notes(&bytes_of(rt, place)?) {
+    match read_notes(&bytes_of(rt, place, about)?) {
         Some(told) => Ok(told),
         None => Err("Bad"),
     }
 }
 
-/// What a folder tells of its storage where its file isn't found for this reason.
-fn told_without(error: &io::Error) -> Result<(ClassId, u32), &'static str> {
-    if error.kind() == ErrorKind::NotFound {
-        Ok((ClassId::from_bytes([0; 16]), 0))
-    } else {
-        Err(UNREADABLE)
-    }
+/// Whether nothing is found since nothing stands there, or the folder itself is none, which is told when it is looked into.
+fn is_absent(error: &io::Error) -> bool {
+    matches!(error.kind(), ErrorKind::NotFound | ErrorKind::NotADirectory)
 }

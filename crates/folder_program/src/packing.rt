@@ -9,12 +9,13 @@ use program_ends::ends::{keep, refuse};
 use program_ends::journals::refuse_unfinished;
 use program_ends::new_file::NewFile;
 use std::alloc::{AllocError, Global};
+use std::fs::File;
 use std::process::ExitCode;
 use std::rt::Runtime;
 use texts::report::Report;
 
 /// Makes a file of a folder, unless a save of the file in whose place it is to be was cut off.
-pub fn pack<R: Runtime + AllocGlobal>(rt: &R, folder: &str, path: &str) -> ExitCode {
+pub fn pack<R: Runtime<File = File> + AllocGlobal>(rt: &R, folder: &str, path: &str) -> ExitCode {
     if let Err(code) = refuse_unfinished(rt, path) {
         return code;
     }
@@ -25,7 +26,7 @@ pub fn pack<R: Runtime + AllocGlobal>(rt: &R, folder: &str, path: &str) -> ExitC
 }
 
 /// Makes a file of all that stands in a folder.
-fn pack_whole<R: Runtime + AllocGlobal>(
+fn pack_whole<R: Runtime<File = File> + AllocGlobal>(
     rt: &R,
     folder: &str,
     path: &str,

@@ -46,7 +46,9 @@ The names of a PATH are joined by /. A byte up to 32, or 127, is written \\ and 
 lower-case hexadecimal digits.
 
 FILE is replaced only once all of it is written; until then the old one stays as it was. It isn't
-replaced where a save of it was cut off, so that FILE.journal is open: JournalOpen.
+replaced where a save of it was cut off, so that FILE.journal is open: JournalOpen. Its owner, group
+and permissions are kept where they can be, or it gets fewer rights; access control lists,
+attributes and its other hard names aren't.
 
 Example: echo 'stream Greeting 68656c6c6f' | olecon make greeting.ole";
 
@@ -68,7 +70,9 @@ const LEFT_BEHIND: &str =
     "What stands in free sectors or behind a stream's end, times, and entries that nothing
 links to are left behind: deleted text often is still there. OUT may be FILE itself. It is
 replaced only once all of it is written; until then the old one stays as it was. It isn't
-replaced where a save of it was cut off, so that OUT.journal is open: JournalOpen.
+replaced where a save of it was cut off, so that OUT.journal is open: JournalOpen. Its owner,
+group and permissions are kept where they can be, or it gets fewer rights; access control lists,
+attributes and its other hard names aren't.
 
 Example: olecon clean letter.doc letter.doc";
 

@@ -1,15 +1,17 @@
 //! How a run of the program ends.
 
+use crate::journals::refuse_unfinished;
 use crate::new_file::NewFile;
-use clap::Error;
 use fault_lines::report::{Report, STANDARD};
+use fault_lines::told::Told;
+use std::fs::File;
 use std::io;
 use std::io::ErrorKind;
 use std::process::ExitCode;
 use std::rt::Runtime;
 
 /// The status where the command line is refused.
-const USAGE: u8 = 2;
+pub(crate) const USAGE: u8 = 2;
 
 /// The status where a file or a line is refused, or a run stops.
 pub const REFUSED: u8 = 3;
@@ -20,17 +22,63 @@ pub fn refuse<R: Runtime>(rt: &R, report: &Report<'_>) -> ExitCode {
     ExitCode::from(REFUSED)
 }
 
-/// Keeps a new file of so many bytes, and tells their number.
-pub fn keep<R: Runtime + AllocGlobal>(
+/// The name of the fault where a system's call on a file that is written failed.
+pub fn write_fault(error: &io::Error) -> &'static str {
+    match error.kind() {
+        ErrorKind::OutOfMemory => "NoMemory",
+        _ => "Unwritable",
+    }
+}
+
+/// Tells that a file isn't written for this reason.
+fn refuse_write<R: Runtime>(rt: &R, path: &str, error: &io::Error) -> ExitCode {
+    refuse(rt, &Report::File(path, write_fault(error)))
+}
+
+/// Keeps a new file of so many bytes, and tells their number. A save of the file in whose place it is to be may have been cut off
+/// since the command began; then that file stays.
+pub fn keep<R: Runtime<File = File> + AllocGlobal>(
     rt: &R,
     new: NewFile<'_, R>,
     path: &str,
     count: usize,
 ) -> ExitCode {
-    if new.keep().is_err() {
-        return refuse(rt, &Report::File(path, "Unwritable"));
+    match settle(rt, &new, path) {
+        Ok(()) => put(rt, new, path, count),
+        Err(code) => {
+            new.discard();
+            code
+        }
     }
-    tell_bytes(rt, count)
+}
+
+/// Waits until the device has a new file, and looks again whether the one in whose place it is to be may be replaced.
+fn settle<R: Runtime<File = File> + AllocGlobal>(
+    rt: &R,
+    new: &NewFile<'_, R>,
+    path: &str,
+) -> Result<(), ExitCode> {
+    if let Err(error) = new.sync() {
+        return Err(refuse_write(rt, path, &error));
+    }
+    refuse_unfinished(rt, path)?;
+    match new.target() {
+        Some(target) => refuse_unfinished(rt, target),
+        None => Ok(()),
+    }
+}
+
+/// Puts a new file in its place, and tells how many bytes it has.
+fn put<R: Runtime<File = File> + AllocGlobal>(
+    rt: &R,
+    new: NewFile<'_, R>,
+    path: &str,
+    count: usize,
+) -> ExitCode {
+    match new.keep() {
+        Ok(()) => tell_bytes(rt, count),
+        Err(error) => refuse_write(rt, path, &error),
+    }
 }
 
 /// Tells how many bytes a new file has.
@@ -43,7 +91,8 @@ fn tell_bytes<R: Runtime>(rt: &R, count: usize) -> ExitCode {
 
 /// Tells on standard error why a word is no path.
 pub fn refuse_path<R: Runtime>(rt: &R, word: &str, why: &str) -> ExitCode {
-    let _ = eprintln!(rt; "error: invalid value '{word}' for '<PATH>': {why}");
+    let told = Told(word);
+    let _ = eprintln!(rt; "error: invalid value '{told}' for '<PATH>': {why}");
     ExitCode::from(USAGE)
 }
 
@@ -61,12 +110,4 @@ pub fn refuse_start<R: Runtime>(rt: &R, error: &io::Error) -> ExitCode {
     }
     let _ = eprintln!(rt; "error: {error}");
     ExitCode::from(REFUSED)
-}
-
-/// Tells what is wrong with a command line, or prints the help or the version that it asks for.
-pub fn answer_usage<R: Runtime>(rt: &R, error: &Error) -> ExitCode {
-    match error.print(rt) {
-        Ok(()) => ExitCode::from(error.exit_code() as u8),
-        Err(_) => refuse(rt, &Report::File(STANDARD, "Unwritable")),
-    }
 }

@@ -5,7 +5,10 @@
 pub mod command_lines;
 pub mod ends;
 pub mod journals;
+mod links;
 pub mod making;
 pub mod memory;
 pub mod new_file;
+mod rights;
 pub mod starts;
+pub mod usage;

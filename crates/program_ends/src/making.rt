@@ -3,6 +3,7 @@
 use crate::ends::keep;
 use crate::journals::refuse_unfinished;
 use crate::new_file::NewFile;
+use std::fs::File;
 use std::mem::ManuallyDrop;
 use std::process::ExitCode;
 use std::rt::Runtime;
@@ -11,7 +12,7 @@ use std::rt::Runtime;
 /// cut off. Where it isn't written, the path's file stays as it was, and what tells the fault gives the status to end with.
 pub fn make<R, E, F, T>(rt: &R, path: &str, write: F, tell: T) -> ExitCode
 where
-    R: Runtime + AllocGlobal,
+    R: Runtime<File = File> + AllocGlobal,
     E: Drop,
     F: FnOnce(&mut NewFile<'_, R>) -> Result<usize, E>,
     T: FnOnce(&str, &E) -> ExitCode,

@@ -1,12 +1,14 @@
 //! How a program that only makes files starts.
 
 use crate::command_lines::{FILE, making_line};
-use crate::ends::{answer_usage, refuse_command, refuse_start};
+use crate::ends::{refuse_command, refuse_start};
 use crate::making::make;
 use crate::memory::keep_blocks;
 use crate::new_file::NewFile;
-use clap::ArgMatches;
+use crate::usage::{answer_usage, have_hidden, refuse_words, told_words};
+use clap::{ArgMatches, Error};
 use std::alloc::AllocError;
+use std::fs::File;
 use std::process::ExitCode;
 use std::rt::Runtime;
 use std::{env, io};
@@ -17,10 +19,26 @@ fn file_asked_for<'a>(matches: &ArgMatches<'a>) -> Option<&'a str> {
     made.get_str(FILE)
 }
 
+/// Tells what is wrong with the words of a command line, as they are told, or prints the help or the version that they ask for.
+fn answer_error<R: Runtime + AllocGlobal>(
+    rt: &R,
+    words: &[String],
+    error: &Error,
+) -> Result<ExitCode, AllocError> {
+    if !have_hidden(words) {
+        return Ok(answer_usage(rt, error));
+    }
+    let told = told_words(rt.alloc(), words)?;
+    match making_line(rt.alloc())?.try_get_matches_from(told.as_slice()) {
+        Ok(_) => Ok(refuse_words(rt)),
+        Err(error) => Ok(answer_usage(rt, &error)),
+    }
+}
+
 /// Makes what the words of a command line ask for, or tells what is wrong with them.
 fn answer<R, E, F, T>(rt: &R, words: &[String], write: F, tell: T) -> Result<ExitCode, AllocError>
 where
-    R: Runtime + AllocGlobal,
+    R: Runtime<File = File> + AllocGlobal,
     E: Drop,
     F: FnOnce(&mut NewFile<'_, R>) -> Result<usize, E>,
     T: FnOnce(&str, &E) -> ExitCode,
@@ -32,13 +50,13 @@ where
             Some(path) => Ok(make(rt, path, write, tell)),
             None => Ok(refuse_command(rt)),
         },
-        Err(error) => Ok(answer_usage(rt, &error)),
+        Err(error) => answer_error(rt, words, &error),
     }
 }
 
 fn start<R, E, F, T>(rt: &R, write: F, tell: T) -> io::Result<ExitCode>
 where
-    R: Runtime + AllocGlobal,
+    R: Runtime<File = File> + AllocGlobal,
     E: Drop,
     F: FnOnce(&mut NewFile<'_, R>) -> Result<usize, E>,
     T: FnOnce(&str, &E) -> ExitCode,
@@ -53,7 +71,7 @@ where
 /// or prints the help or the version that it asks for.
 pub fn start_making<R, E, F, T>(rt: &R, write: F, tell: T) -> ExitCode
 where
-    R: Runtime + AllocGlobal,
+    R: Runtime<File = File> + AllocGlobal,
     E: Drop,
     F: FnOnce(&mut NewFile<'_, R>) -> Result<usize, E>,
     T: FnOnce(&str, &E) -> ExitCode,
