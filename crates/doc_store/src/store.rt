@@ -3,6 +3,7 @@
 ghost use Rattle.store_model.specs.Store.{Rests};
 ghost use Rattle.std.specs.Prelude.{◌≡◌, false};
 
+use crate::calls::length_of;
 use crate::held::holds_document;
 use crate::refused::Refused;
 use crate::runs::{recover, replace};
@@ -120,6 +121,32 @@ impl<D: Disk> Store<D> {
             self.needs_reopen = true;
         }
         read
+    }
+
+    /// How many bytes the document has.
+    ///
+    /// `Device` where a call of the disk failed: from then on the store has to be opened again, which gives the same
+    /// document, and answers `NeedsReopen`.
+    pub fn length(&mut self) -> Result<u64, StoreFault>
+        ensures length { D.follows_model → IfOk result (λ n. n ≡ length (D.reads (disk_of self.old)).document) }
+        ensures same { D.follows_model → OnOk result (D.reads (disk_of self.new) ≡ D.reads (disk_of self.old)) }
+        ensures any_moment { D.follows_model → needs_reopen_of self.old ≡ false
+            → StaysIn D.may_leave D.moment D.left_since (disk_of self.old) (disk_of self.new) (StandsFor (D.reads (disk_of self.old)).document) }
+        ensures ready { OnOk result ((needs_reopen_of self.old ≡ false) × (needs_reopen_of self.new ≡ false)) }
+        ensures count { OnOk result (D.failed (disk_of self.new) ≡ D.failed (disk_of self.old)) }
+        ensures refuses { IfErr result (HoldsRefuses (needs_reopen_of self.old) (needs_reopen_of self.new) (D.failed (disk_of self.old)) (D.failed (disk_of self.new))) }
+        ensures untouched { needs_reopen_of self.old ≡ true → self.new ≡ self.old }
+    {
+        if self.needs_reopen {
+            return Err(StoreFault::NeedsReopen);
+        }
+        match length_of(&mut self.disk, Area::Document) {
+            Ok(size) => Ok(size),
+            Err(_) => {
+                self.needs_reopen = true;
+                Err(StoreFault::Device)
+            }
+        }
     }
 
     /// Whether the document is these bytes. They are compared a piece at a time, and no memory is taken.

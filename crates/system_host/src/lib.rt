@@ -3,5 +3,7 @@
 
 pub mod host;
 pub mod listening;
+mod owners;
 mod port;
 mod running;
+pub mod sockets;
