@@ -14,7 +14,7 @@ use std::path::PathBuf;
 use std::rt::Files;
 use store_model::area::Area;
 use store_model::fault::StoreFault;
-use store_model::journal::{HEADER, OPEN};
+use store_model::journal::{CLOSED, HEADER, OPEN};
 
 /// How often a call that a signal interrupted is made again.
 const MOST_TRIES: usize = 1_000;
@@ -164,7 +164,25 @@ fn hold<R: Files<File = File>>(rt: &R, name: &str) -> io::Result<(File, bool)> {
     if !is_same(&fs::symlink_metadata(rt, name)?, &journal.metadata()?) {
         return Err(ErrorKind::WouldBlock.into());
     }
+    if is_made {
+        shut(rt, name, &journal)?;
+    }
     Ok((journal, is_made))
+}
+
+/// Closes the gate of a journal that was made. Where there is no room for it, the journal is removed.
+fn shut<R: Files<File = File>>(rt: &R, name: &str, journal: &File) -> io::Result<()> {
+    match write_file(journal, 0, &[CLOSED]) {
+        Ok(1) => Ok(()),
+        Ok(_) => {
+            let _ = fs::remove_file(rt, name);
+            Err(ErrorKind::WriteZero.into())
+        }
+        Err(error) => {
+            let _ = fs::remove_file(rt, name);
+            Err(error)
+        }
+    }
 }
 
 /// The document beside a journal that is held, which is as private from then on: the one that was found, or one that is made.

@@ -6,12 +6,10 @@ ghost use Rattle.script_model.specs.Bounds.{pace};
 ghost use Rattle.script_model.specs.Events.{running};
 ghost use Rattle.script_model.specs.Orders.{orders};
 ghost use Rattle.script_model.specs.Origins.{passed};
-ghost use Rattle.script_model.specs.Saved.{IsReadFrom, IsReadOf, IsSince};
-ghost use Rattle.doc_store.specs.Opened.{disk_of, needs_reopen_of};
-ghost use Rattle.store_model.specs.Store.{StandsFor};
+ghost use Rattle.script_model.specs.Saved.{IsReadFrom, IsReadOf};
 ghost use Rattle.script_links.specs.Told.{IsTold};
 ghost use Rattle.script_container.specs.declared.fault.ScriptFault.TheVariants.{NoMemory};
-ghost use Rattle.std.specs.Prelude.{◌≡◌, ℕ, IfErr, IfOk, IfSome, OnOk, Some, false};
+ghost use Rattle.std.specs.Prelude.{◌≡◌, ℕ, IfErr, IfOk, IfSome, Some};
 
 use container_core::container::ContainerCore;
 use container_documents::reading::document_in;
@@ -31,27 +29,13 @@ use stored_values::bytes::Bytes;
 /// The most bytes of a document that is opened.
 const MOST: u64 = 134_217_728;
 
-/// The document of a store. `TooBig` where it has more bytes than are opened, which is asked before memory is.
-fn current<D: Disk + Drop>(store: &mut Store<D>) -> Result<Vec<u8>, StoreFault>
-    requires { needs_reopen_of store.old ≡ false }
-    ensures document { D.follows_model → IfOk result (λ file. file.items ≡ (D.reads (disk_of store.old)).document) }
-    ensures same { D.follows_model → OnOk result (D.reads (disk_of store.new) ≡ D.reads (disk_of store.old)) }
-    ensures any_moment { D.follows_model → OnOk result (IsSince ⟦<D as Disk>⟧ (disk_of store.old) (disk_of store.new) (StandsFor (D.reads (disk_of store.old)).document)) }
-    ensures ready { OnOk result (needs_reopen_of store.new ≡ false) }
-{
-    if store.length()? > MOST {
-        return Err(StoreFault::TooBig);
-    }
-    store.current()
-}
-
 /// The document of a disk, once its open journal is carried out, and the disk. `TooBig` where it has more bytes than are opened.
 fn document_on<D: Disk + Drop>(alloc: Global, disk: D) -> (Result<Vec<u8>, StoreFault>, D)
     ensures { D.follows_model → IfOk result.0 (λ file. IsReadOf ⟦<D as Disk>⟧ disk file.items result.1) }
 {
     match Store::open(alloc, disk) {
         Ok(mut store) => {
-            let file = current(&mut store);
+            let file = store.current_within(MOST);
             (file, store.into_disk())
         }
         Err(refused) => (Err(refused.fault), refused.disk),

@@ -217,7 +217,7 @@ fn is_missing<R: Files<File = File>>(rt: &R, path: &str) -> bool {
     }
 }
 
-/// The disk of a file of the system that is there, or whose journal is. A file that is empty, and has no journal, is none.
+/// The disk of a file of the system that is there, or that an open journal holds. A file that is empty, and has no journal, is none.
 fn find_disk<R: Files<File = File> + AllocGlobal>(
     rt: &R,
     name: &[u8],

@@ -6,4 +6,3 @@ pub mod listening;
 mod owners;
 mod port;
 mod running;
-pub mod sockets;

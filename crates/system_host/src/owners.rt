@@ -1,6 +1,6 @@
 //! Whose the other end of a connection is, where the system tells.
 
-use crate::sockets::{is_own_client, is_own_server};
+use socket_owners::sockets::{is_own_client, is_own_server};
 use std::fs::{self, File};
 use std::io::{self, ErrorKind};
 use std::rt::Files;
