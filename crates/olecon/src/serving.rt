@@ -21,10 +21,7 @@ const MOST_NUMBERS: u32 = 1_000_000;
 /// Listens on a port of 127.0.0.1, prints it, and serves.
 fn listen_and_serve<
     R: Runtime<File = File> + Net<Listener = TcpListener, Stream = TcpStream> + AllocGlobal,
->(
-    rt: &R,
-    inc: u32,
-) -> io::Result<ExitCode> {
+>(rt: &R, inc: u32) -> io::Result<ExitCode> {
     let (mut listening, port) = listen(rt, Duration::from_secs(WAIT))?;
     println!(rt; "{port}")?;
     let tally = Tally::new(rt.alloc())?;
@@ -37,10 +34,7 @@ fn listen_and_serve<
 /// Is the server of an incarnation.
 pub(crate) fn serve<
     R: Runtime<File = File> + Net<Listener = TcpListener, Stream = TcpStream> + AllocGlobal,
->(
-    rt: &R,
-    inc: u32,
-) -> ExitCode {
+>(rt: &R, inc: u32) -> ExitCode {
     match listen_and_serve(rt, inc) {
         Ok(code) => code,
         Err(error) => refuse_start(rt, &error),

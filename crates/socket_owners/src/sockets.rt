@@ -2,6 +2,7 @@
 
 /// How a line writes 127.0.0.1, and any address, of either family.
 const OWN: [&str; 2] = ["0100007F", "0000000000000000FFFF00000100007F"];
+
 const ANY: [&str; 3] = [
     "00000000",
     "00000000000000000000000000000000",
@@ -10,7 +11,9 @@ const ANY: [&str; 3] = [
 
 /// The states of a socket that is connected, of one that is being connected, and of one that listens.
 const CONNECTED: &str = "01";
+
 const CONNECTING: &str = "03";
+
 const LISTENING: &str = "0A";
 
 /// An address of a line, and its port.
