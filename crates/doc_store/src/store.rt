@@ -3,6 +3,7 @@
 ghost use Rattle.store_model.specs.Store.{Rests};
 ghost use Rattle.std.specs.Prelude.{◌≡◌, false};
 
+use crate::calls::length_of;
 use crate::held::holds_document;
 use crate::refused::Refused;
 use crate::runs::{recover, replace};
@@ -33,7 +34,8 @@ impl<D: Disk> Store<D> {
     ghost use Rattle.doc_store.specs.Opened.{disk_of, needs_reopen_of};
     ghost use Rattle.doc_store.specs.Resolved.{IsEither, LeavesEither};
     ghost use Rattle.store_model.specs.Store.{CommitRefuses, CurrentRefuses, HoldsRefuses, IsBeforeOrAfter, OpenRefuses, StandsAsOneOf, StandsFor, UnlessDevice};
-    ghost use Rattle.std.specs.Prelude.{◌↔◌, ◌≤◌, true, IfErr, IfOk, IsTrue, OnErr, OnOk, length, List, ℕ};
+    ghost use Rattle.store_model.specs.declared.fault.StoreFault.TheVariants.{TooBig};
+    ghost use Rattle.std.specs.Prelude.{◌↔◌, ◌≤◌, ◌<◌, true, Err, IfErr, IfOk, IsTrue, OnErr, OnOk, length, List, ℕ};
 
     /// Opens the store on a disk that a crash may have left, with writes pending too. Its document is that of an open
     /// journal, which is then written and the journal closed, else the document area's.
@@ -120,6 +122,47 @@ impl<D: Disk> Store<D> {
             self.needs_reopen = true;
         }
         read
+    }
+
+    /// How many bytes the document has.
+    fn length(&mut self) -> Result<u64, StoreFault>
+        ensures length { D.follows_model → IfOk result (λ n. n ≡ length (D.reads (disk_of self.old)).document) }
+        ensures same { D.follows_model → OnOk result (D.reads (disk_of self.new) ≡ D.reads (disk_of self.old)) }
+        ensures any_moment { D.follows_model → needs_reopen_of self.old ≡ false
+            → StaysIn D.may_leave D.moment D.left_since (disk_of self.old) (disk_of self.new) (StandsFor (D.reads (disk_of self.old)).document) }
+        ensures ready { OnOk result ((needs_reopen_of self.old ≡ false) × (needs_reopen_of self.new ≡ false)) }
+        ensures refuses { IfErr result (HoldsRefuses (needs_reopen_of self.old) (needs_reopen_of self.new) (D.failed (disk_of self.old)) (D.failed (disk_of self.new))) }
+        ensures untouched { needs_reopen_of self.old ≡ true → self.new ≡ self.old }
+    {
+        if self.needs_reopen {
+            return Err(StoreFault::NeedsReopen);
+        }
+        match length_of(&mut self.disk, Area::Document) {
+            Ok(size) => Ok(size),
+            Err(_) => {
+                self.needs_reopen = true;
+                Err(StoreFault::Device)
+            }
+        }
+    }
+
+    /// The document, as `current` gives it, where it has no more than so many bytes. That is asked before memory is.
+    ///
+    /// `TooBig` where it has more, which changes nothing. Refused else as `current` is.
+    pub fn current_within(&mut self, most: u64) -> Result<Vec<u8>, StoreFault>
+        ensures document { D.follows_model → IfOk result (λ bytes. bytes.items ≡ (D.reads (disk_of self.old)).document) }
+        ensures within { D.follows_model → OnOk result (length (D.reads (disk_of self.old)).document ≤ most) }
+        ensures same { D.follows_model → OnOk result (D.reads (disk_of self.new) ≡ D.reads (disk_of self.old)) }
+        ensures any_moment { D.follows_model → needs_reopen_of self.old ≡ false
+            → StaysIn D.may_leave D.moment D.left_since (disk_of self.old) (disk_of self.new) (StandsFor (D.reads (disk_of self.old)).document) }
+        ensures ready { OnOk result ((needs_reopen_of self.old ≡ false) × (needs_reopen_of self.new ≡ false)) }
+        ensures too_big { D.follows_model → result ≡ Err TooBig → most < length (D.reads (disk_of self.old)).document }
+        ensures untouched { needs_reopen_of self.old ≡ true → self.new ≡ self.old }
+    {
+        if self.length()? > most {
+            return Err(StoreFault::TooBig);
+        }
+        self.current()
     }
 
     /// Whether the document is these bytes. They are compared a piece at a time, and no memory is taken.

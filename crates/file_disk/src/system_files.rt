@@ -7,13 +7,14 @@ ghost use Rattle.std.specs.Prelude.{◌≡◌, ◌≤◌, [], false, true, lengt
 
 use crate::disk_files::DiskFiles;
 use crate::file_disk::FileDisk;
-use std::fs::{self, File, OpenOptions, TryLockError};
+use std::fs::{self, File, Metadata, OpenOptions, Permissions, TryLockError};
 use std::io::{self, ErrorKind};
-use std::os::unix::fs::{FileExt, OpenOptionsExt};
+use std::os::unix::fs::{FileExt, MetadataExt, OpenOptionsExt, PermissionsExt, fchown};
 use std::path::PathBuf;
 use std::rt::Files;
 use store_model::area::Area;
 use store_model::fault::StoreFault;
+use store_model::journal::{CLOSED, HEADER, OPEN};
 
 /// How often a call that a signal interrupted is made again.
 const MOST_TRIES: usize = 1_000;
@@ -23,6 +24,15 @@ const NEW_MODE: u32 = 0o666;
 
 /// The owner alone may read and write a journal until it has the document's permissions.
 const OWNER_MODE: u32 = 0o600;
+
+/// Who may read, write and run a file.
+const PERMISSIONS: u32 = 0o777;
+
+/// What the group of a file may.
+const GROUP_MODE: u32 = 0o070;
+
+/// All that a file's mode says of what may be done with it.
+const ALL_MODES: u32 = 0o7777;
 
 /// The files NAME, the document, and NAME.journal, with the folder that they stand in. The journal is locked against
 /// other programs that open it so, as long as it is open.
@@ -46,11 +56,13 @@ impl SystemFiles {
 impl FileDisk<SystemFiles> {
     ghost use Rattle.file_disk.specs.Files.{failures_of, sync_may_lie_of};
 
-    /// Opens the files NAME and NAME.journal, and makes those that are missing: a journal with the document's permissions,
-    /// since it holds the document's bytes.
+    /// Opens the files NAME and NAME.journal, and makes those that are missing: the journal first, and the document once that is
+    /// held. A journal that is made gets the document's owner. A journal holds the document's bytes: each time it is opened, who
+    /// may not read or write the document may not read or write it either, before a byte is written.
     ///
-    /// `Device` where the system refuses to make, open or lock one of them: a link or a folder of either name isn't opened,
-    /// nor is a journal that is open elsewhere, in this program or another. `NoMemory` where there is none for their names.
+    /// `Device` where the system refuses to make, open or lock one of them: a link or a folder of either name isn't opened, nor is a
+    /// journal that is open elsewhere, in this program or another, or that is neither the user's nor the document's owner's. What
+    /// was made is removed then. `NoMemory` where there is none for their names.
     pub fn open<R: Files<File = File> + AllocGlobal>(
         rt: &R,
         name: &str,
@@ -65,7 +77,8 @@ impl FileDisk<SystemFiles> {
         }
     }
 
-    /// Opens them where one of them is there: `None` where neither is, and then nothing is made. Refused as `open` is.
+    /// Opens them where the document is there, or an open journal, which holds one: else `None`, and then nothing is made. Refused as
+    /// `open` is.
     pub fn find<R: Files<File = File> + AllocGlobal>(
         rt: &R,
         name: &str,
@@ -93,33 +106,170 @@ fn fault_of(error: &io::Error) -> StoreFault
     }
 }
 
-/// The files of a document, of which those that are missing are made.
+/// The files of a document, of which those that are missing are made. Where that fails, none that was made is left.
 fn open_files<R: Files<File = File> + AllocGlobal>(rt: &R, name: &str) -> io::Result<SystemFiles> {
     let journal_name = format!(in rt.alloc(); "{name}.journal")?;
-    let (document, _) = open_or_make(rt, name, NEW_MODE)?;
-    let (journal, journal_made) = open_or_make(rt, journal_name.as_str(), OWNER_MODE)?;
-    lock(&journal)?;
-    if journal_made {
-        journal.set_permissions(document.metadata()?.permissions())?;
-    }
     let folder = open_folder(rt, name)?;
-    Ok(SystemFiles {
-        document,
-        journal,
-        folder,
-    })
+    let found = open_found(rt, name)?;
+    let (journal, is_made) = hold(rt, journal_name.as_str())?;
+    match document_beside(rt, name, found, &journal, is_made) {
+        Ok(document) => Ok(SystemFiles {
+            document,
+            journal,
+            folder,
+        }),
+        Err(error) => {
+            if is_made {
+                let _ = fs::remove_file(rt, journal_name.as_str());
+            }
+            Err(error)
+        }
+    }
 }
 
-/// The files of a document, unless both are missing.
+/// The files of a document that is there, or that an open journal holds.
 fn find_files<R: Files<File = File> + AllocGlobal>(
     rt: &R,
     name: &str,
 ) -> io::Result<Option<SystemFiles>> {
-    let journal_name = format!(in rt.alloc(); "{name}.journal")?;
-    if is_there(rt, name)? || is_there(rt, journal_name.as_str())? {
-        return Ok(Some(open_files(rt, name)?));
+    if !is_there(rt, name)? && !is_journal_open(rt, name)? {
+        return Ok(None);
     }
-    Ok(None)
+    Ok(Some(open_files(rt, name)?))
+}
+
+/// Whether the gate of a document's journal is open, as where a commit was cut off.
+fn is_journal_open<R: Files<File = File> + AllocGlobal>(rt: &R, name: &str) -> io::Result<bool> {
+    let journal_name = format!(in rt.alloc(); "{name}.journal")?;
+    let Some(journal) = open_found(rt, journal_name.as_str())? else {
+        return Ok(false);
+    };
+    let mut gate = [0u8];
+    let n = read_file(&journal, 0, &mut gate)?;
+    Ok(n == 1 && gate[0] == OPEN && journal.metadata()?.len() >= HEADER)
+}
+
+/// A journal that is locked, and whether this call made it: one that its owner alone may read and write then.
+fn hold<R: Files<File = File>>(rt: &R, name: &str) -> io::Result<(File, bool)> {
+    let (journal, is_made) = match make(rt, name, OWNER_MODE) {
+        Ok(made) => (made, true),
+        Err(error) if error.kind() == ErrorKind::AlreadyExists => match open_found(rt, name)? {
+            Some(found) => (found, false),
+            None => return Err(ErrorKind::WouldBlock.into()),
+        },
+        Err(error) => return Err(error),
+    };
+    lock(&journal)?;
+    // Whoever held it before may have removed it.
+    if !is_same(&fs::symlink_metadata(rt, name)?, &journal.metadata()?) {
+        return Err(ErrorKind::WouldBlock.into());
+    }
+    if is_made {
+        shut(rt, name, &journal)?;
+    }
+    Ok((journal, is_made))
+}
+
+/// Closes the gate of a journal that was made. Where there is no room for it, the journal is removed.
+fn shut<R: Files<File = File>>(rt: &R, name: &str, journal: &File) -> io::Result<()> {
+    match write_file(journal, 0, &[CLOSED]) {
+        Ok(1) => Ok(()),
+        Ok(_) => {
+            let _ = fs::remove_file(rt, name);
+            Err(ErrorKind::WriteZero.into())
+        }
+        Err(error) => {
+            let _ = fs::remove_file(rt, name);
+            Err(error)
+        }
+    }
+}
+
+/// The document beside a journal that is held, which is as private from then on: the one that was found, or one that is made.
+fn document_beside<R: Files<File = File>>(
+    rt: &R,
+    name: &str,
+    found: Option<File>,
+    journal: &File,
+    is_made: bool,
+) -> io::Result<File> {
+    if let Some(document) = found {
+        keep_private(rt, &document, journal, is_made)?;
+        return Ok(document);
+    }
+    if !is_made && !is_users(rt, &journal.metadata()?) {
+        return Err(ErrorKind::PermissionDenied.into());
+    }
+    let document = make(rt, name, NEW_MODE)?;
+    match keep_private(rt, &document, journal, is_made) {
+        Ok(()) => Ok(document),
+        Err(error) => {
+            let _ = fs::remove_file(rt, name);
+            Err(error)
+        }
+    }
+}
+
+/// Makes a journal as private as its document. Where it was made, it gets the document's owner, and its group where that may be.
+///
+/// Refused: where the system refuses that, and where its owner is neither the user nor the document's owner.
+fn keep_private<R: Files<File = File>>(
+    rt: &R,
+    document: &File,
+    journal: &File,
+    is_made: bool,
+) -> io::Result<()> {
+    let shown = document.metadata()?;
+    if is_made {
+        give(journal, &shown)?;
+    }
+    let held = journal.metadata()?;
+    if held.uid() != shown.uid() && !is_users(rt, &held) {
+        return Err(ErrorKind::PermissionDenied.into());
+    }
+    let mode = private_mode(&held, &shown, is_made);
+    if held.mode() & ALL_MODES == mode {
+        return Ok(());
+    }
+    journal.set_permissions(Permissions::from_mode(mode))
+}
+
+/// Gives a journal that was made the document's owner, and its group where the system lets.
+fn give(journal: &File, shown: &Metadata) -> io::Result<()> {
+    let held = journal.metadata()?;
+    if held.uid() != shown.uid() {
+        fchown(journal, Some(shown.uid()), None)?;
+    }
+    if held.gid() != shown.gid() {
+        let _ = fchown(journal, None, Some(shown.gid()));
+    }
+    Ok(())
+}
+
+/// Who may read and write a journal: of those who may read and write the document, who might before, where it wasn't made just now.
+/// A group that isn't the document's may neither.
+fn private_mode(held: &Metadata, shown: &Metadata, is_made: bool) -> u32 {
+    let mut mode = shown.mode() & PERMISSIONS;
+    if held.gid() != shown.gid() {
+        mode &= !GROUP_MODE;
+    }
+    if !is_made {
+        mode &= held.mode();
+    }
+    mode
+}
+
+/// Whether a file is the user's whose program this is. Where the system doesn't tell the user, each is.
+fn is_users<R: Files<File = File>>(rt: &R, file: &Metadata) -> bool {
+    match fs::metadata(rt, "/proc/self") {
+        Ok(program) => program.uid() == file.uid(),
+        Err(_) => true,
+    }
+}
+
+/// Whether both are of one file.
+fn is_same(one: &Metadata, other: &Metadata) -> bool {
+    one.dev() == other.dev() && one.ino() == other.ino()
 }
 
 /// Whether something of this name is there.
@@ -141,25 +291,31 @@ fn lock(file: &File) -> io::Result<()> {
     }
 }
 
-/// The file of this name, and whether this call made it, with this mode then.
-fn open_or_make<R: Files<File = File>>(rt: &R, name: &str, mode: u32) -> io::Result<(File, bool)> {
-    match OpenOptions::new()
+/// Makes a file of this name, with this mode.
+fn make<R: Files<File = File>>(rt: &R, name: &str, mode: u32) -> io::Result<File> {
+    OpenOptions::new()
         .read(true)
         .write(true)
         .create_new(true)
         .mode(mode)
         .open(rt, name)
-    {
-        Ok(file) => Ok((file, true)),
-        Err(error) if error.kind() == ErrorKind::AlreadyExists => {
-            if !fs::symlink_metadata(rt, name)?.is_file() {
-                return Err(ErrorKind::Unsupported.into());
-            }
-            let file = OpenOptions::new().read(true).write(true).open(rt, name)?;
-            Ok((file, false))
-        }
-        Err(error) => Err(error),
+}
+
+/// The file of this name, if one is there, and no link or folder: the one that was looked at.
+fn open_found<R: Files<File = File>>(rt: &R, name: &str) -> io::Result<Option<File>> {
+    let looked = match fs::symlink_metadata(rt, name) {
+        Ok(looked) => looked,
+        Err(error) if error.kind() == ErrorKind::NotFound => return Ok(None),
+        Err(error) => return Err(error),
+    };
+    if !looked.is_file() {
+        return Err(ErrorKind::Unsupported.into());
     }
+    let file = OpenOptions::new().read(true).write(true).open(rt, name)?;
+    if !is_same(&looked, &file.metadata()?) {
+        return Err(ErrorKind::Unsupported.into());
+    }
+    Ok(Some(file))
 }
 
 /// The folder that a file of this name stands in.

@@ -14,4 +14,6 @@ mod server;
 #[cfg(test)]
 mod servers;
 #[cfg(test)]
+mod sockets;
+#[cfg(test)]
 mod wire;

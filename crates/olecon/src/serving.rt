@@ -3,6 +3,7 @@
 use embed_core::tally::Tally;
 use file_program::ends::{refuse, refuse_start};
 use server_links::serving::serve_links;
+use std::fs::File;
 use std::io;
 use std::net::{Net, TcpListener, TcpStream};
 use std::process::ExitCode;
@@ -11,17 +12,16 @@ use std::time::Duration;
 use system_host::listening::listen;
 use texts::report::{Report, STANDARD};
 
-/// How long a server waits for a link. One whose container was killed ends after that.
+/// How long a server waits for a link. One whose container was killed sees its link closed, and ends after that.
 const WAIT: u64 = 30;
 
 /// The most activations of a server, and writes of an activation.
 const MOST_NUMBERS: u32 = 1_000_000;
 
 /// Listens on a port of 127.0.0.1, prints it, and serves.
-fn listen_and_serve<R: Runtime + Net<Listener = TcpListener, Stream = TcpStream> + AllocGlobal>(
-    rt: &R,
-    inc: u32,
-) -> io::Result<ExitCode> {
+fn listen_and_serve<
+    R: Runtime<File = File> + Net<Listener = TcpListener, Stream = TcpStream> + AllocGlobal,
+>(rt: &R, inc: u32) -> io::Result<ExitCode> {
     let (mut listening, port) = listen(rt, Duration::from_secs(WAIT))?;
     println!(rt; "{port}")?;
     let tally = Tally::new(rt.alloc())?;
@@ -32,10 +32,9 @@ fn listen_and_serve<R: Runtime + Net<Listener = TcpListener, Stream = TcpStream>
 }
 
 /// Is the server of an incarnation.
-pub(crate) fn serve<R: Runtime + Net<Listener = TcpListener, Stream = TcpStream> + AllocGlobal>(
-    rt: &R,
-    inc: u32,
-) -> ExitCode {
+pub(crate) fn serve<
+    R: Runtime<File = File> + Net<Listener = TcpListener, Stream = TcpStream> + AllocGlobal,
+>(rt: &R, inc: u32) -> ExitCode {
     match listen_and_serve(rt, inc) {
         Ok(code) => code,
         Err(error) => refuse_start(rt, &error),

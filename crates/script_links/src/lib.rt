@@ -3,5 +3,6 @@
 
 pub mod links;
 pub mod turns;
+pub mod waiting;
 
 pub use script_container::{container, fault, saves};

@@ -15,6 +15,7 @@ ghost use Rattle.script_links.specs.Links.{IsServed};
 ghost use Rattle.script_links.specs.Ready.{GoesOn, HadTurn, HasLeft, IsReady, MayLink, pace_beside};
 ghost use Rattle.std.specs.Prelude.{◌≡◌, ◌++◌, ◌∷◌, [], IfErr, IfOk, OnOk, false, ℕ};
 
+use crate::waiting::Waiting;
 use container_core::container::ContainerCore;
 use container_model::fault::ContainerFault;
 use message_bytes::decoder::Decoder;
@@ -28,7 +29,6 @@ use script_model::answer::Told;
 use script_model::host::Host;
 use std::alloc::{AllocError, Global};
 use store_model::disk::Disk;
-use wire_msgs::items::Items;
 use wire_msgs::message::Message;
 use wire_msgs::refusal::Refusal;
 
@@ -45,7 +45,7 @@ pub struct Link {
     pub decoder: Decoder,
     /// Whether what comes waits.
     pub held: bool,
-    pub waiting: Items<Message>,
+    pub waiting: Waiting,
 }
 
 impl Link {
@@ -59,7 +59,7 @@ impl Link {
             inc,
             decoder: Decoder::new(alloc),
             held: false,
-            waiting: Items::new(alloc),
+            waiting: Waiting::new(alloc),
         }
     }
 }
@@ -205,7 +205,7 @@ fn meet<H: Host>(
     hand_over(alloc, host, core, link.inc, taken, noticed)
 }
 
-/// Carries out the frames that came on a link, up to a Turn.
+/// Carries out the frames that came on a link, up to a Turn. A link of which more waits than may has failed.
 fn take_frames<H: Host>(
     alloc: Global,
     host: &mut H,
@@ -232,6 +232,9 @@ fn take_frames<H: Host>(
             Ok(Some(Frame::Message(taken))) => {
                 if !meet(alloc, host, core, link, taken, noticed)? {
                     return Ok(Heard::Faulty);
+                }
+                if link.waiting.is_over() {
+                    return Ok(Heard::Failed);
                 }
             }
             Err(_) => return Ok(Heard::Faulty),

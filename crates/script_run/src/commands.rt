@@ -28,15 +28,15 @@ use script_links::fault::ScriptFault;
 use script_links::links::{Link, hand_over, reconnect, send_turn};
 use script_links::saves::save_all;
 use script_links::turns::{end_at, turns};
+use script_links::waiting::Waiting;
 use script_model::answer::Told;
 use script_model::command::ScriptCommand;
-use script_model::host::Host;
+use script_model::host::{Host, HostFault};
 use script_texts::answers::{further, made_by, push_told};
 use std::alloc::Global;
 use std::io::Write;
 use store_model::disk::Disk;
 use texts::output::write_all;
-use wire_msgs::items::Items;
 use wire_msgs::message::Message;
 
 /// Where the link of a server stands.
@@ -93,7 +93,8 @@ fn start<H: Host>(
             add(links, Link::new(alloc, inc));
             Ok(())
         }
-        Err(_) => Err(ScriptFault::Link(inc)),
+        Err(HostFault::NoMemory) => Err(ScriptFault::NoMemory),
+        Err(HostFault::Failed) => Err(ScriptFault::Link(inc)),
     }
 }
 
@@ -250,7 +251,7 @@ fn hand_all<H: Host>(
     host: &mut H,
     core: &mut ContainerCore,
     inc: u32,
-    waiting: Items<Message>,
+    waiting: Waiting,
     noticed: &mut Option<Told>,
 ) -> Result<bool, ScriptFault>
     requires told { IsTold ⟦<H::Disk as Disk>⟧ (H.told host.old) core.old }
@@ -272,7 +273,7 @@ fn hand_all<H: Host>(
 }
 
 /// What waits of the link at a place, which holds nothing any more.
-fn let_go(alloc: Global, links: &mut Vec<Link>, place: usize) -> Items<Message>
+fn let_go(alloc: Global, links: &mut Vec<Link>, place: usize) -> Waiting
     requires { place < length links.old.items }
     ensures same { (s : ℕ) → links_of s links.new.items ≡ links_of s links.old.items }
     ensures changed { (d : Link) → links.new.items ≡ slice_set links.old.items place (record (slice_index_or links.old.items place d) { held = false; waiting = [] }) }
@@ -281,7 +282,7 @@ fn let_go(alloc: Global, links: &mut Vec<Link>, place: usize) -> Items<Message>
 {
     let link = &mut links[place];
     link.held = false;
-    std::mem::replace(&mut link.waiting, Items::new(alloc))
+    std::mem::replace(&mut link.waiting, Waiting::new(alloc))
 }
 
 /// Connects the link at a place again. Gives whether it was made.

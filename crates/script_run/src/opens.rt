@@ -26,13 +26,16 @@ use store_model::disk::Disk;
 use store_model::fault::StoreFault;
 use stored_values::bytes::Bytes;
 
-/// The document of a disk, once its open journal is carried out, and the disk.
+/// The most bytes of a document that is opened.
+const MOST: u64 = 134_217_728;
+
+/// The document of a disk, once its open journal is carried out, and the disk. `TooBig` where it has more bytes than are opened.
 fn document_on<D: Disk + Drop>(alloc: Global, disk: D) -> (Result<Vec<u8>, StoreFault>, D)
     ensures { D.follows_model → IfOk result.0 (λ file. IsReadOf ⟦<D as Disk>⟧ disk file.items result.1) }
 {
     match Store::open(alloc, disk) {
         Ok(mut store) => {
-            let file = store.current();
+            let file = store.current_within(MOST);
             (file, store.into_disk())
         }
         Err(refused) => (Err(refused.fault), refused.disk),
@@ -118,7 +121,8 @@ fn open_found<H: Host>(
 
 /// Opens the file of a name as a frame, so many columns wide and so many lines high. Gives what is told of it: the frame and its
 /// objects, or why it isn't opened, and then the container stays as it is. A name or a size that can't be is told before any disk
-/// is touched; then `NoSuch`, where there is no such file, or nothing in it; the store's fault; `BadFile`, where it is no document.
+/// is touched; then `NoSuch`, where there is no such file, or nothing in it; the store's fault; `BadFile`, where it is no document, or
+/// has more than 134,217,728 bytes.
 ///
 /// Refused for want of memory alone.
 pub(crate) fn open<H: Host>(
@@ -150,6 +154,7 @@ pub(crate) fn open<H: Host>(
             open_found(alloc, host, core, name, width, height, &file)
         }
         Err(StoreFault::NoMemory) => Err(ScriptFault::NoMemory),
+        Err(StoreFault::TooBig) => Ok(Told::Fault(ContainerFault::BadFile)),
         Err(fault) => Ok(Told::Unread(fault)),
     }
 }

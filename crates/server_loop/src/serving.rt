@@ -14,7 +14,7 @@ ghost use Rattle.std.specs.Io.KnownBytes.{Consumes};
 ghost use Rattle.std.specs.Prelude.{◌≡◌, ◌<◌, ◌+◌, ◌++◌, ◌∷◌, ℕ, List, [], Bool, IfOk, OnErr, OnOk, Option, Some, None, length, nat_eq, option_map, vec_capacity, vec_len};
 ghost use Rattle.wire_msgs.specs.declared.message.Message.{Message};
 
-use crate::fronts::write_front;
+use crate::fronts::{read_again, write_front};
 use embed_core::embedded::Embedded;
 use message_bytes::decoder::Decoder;
 use message_bytes::encode::encode_into;
@@ -399,7 +399,7 @@ impl Serving {
             return Ok(Advance::Over(End::LastRead));
         }
         self.reads += 1;
-        let n = match reader.read(&mut self.piece) {
+        let n = match read_again(reader, &mut self.piece) {
             Ok(n) => n,
             Err(_) => return Ok(Advance::Over(End::Unread)),
         };

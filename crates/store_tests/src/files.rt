@@ -38,8 +38,15 @@ fn is_committed(store: &mut Store<FileDisk<SystemFiles>>, new: Option<&[u8]>) ->
 }
 
 fn is_current(store: &mut Store<FileDisk<SystemFiles>>, want: &[u8]) -> bool {
-    match store.current() {
-        Ok(found) => found.as_slice() == want,
+    let is_longer = match want.len() {
+        0 => true,
+        long => matches!(
+            store.current_within(long as u64 - 1),
+            Err(StoreFault::TooBig)
+        ),
+    };
+    match store.current_within(want.len() as u64) {
+        Ok(found) => is_longer && found.as_slice() == want,
         Err(_) => false,
     }
 }

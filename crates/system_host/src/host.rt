@@ -3,6 +3,7 @@
 ghost use Rattle.script_model.specs.Histories.{told_in};
 ghost use Rattle.std.specs.Prelude.{◌≡◌, ◌≤◌, [], IfOk, length};
 
+use crate::owners::{Other, is_users};
 use crate::port::read_port;
 use crate::running::Running;
 use file_disk::file_disk::FileDisk;
@@ -11,20 +12,21 @@ use script_model::history::History;
 use script_model::host::{Host, HostFault};
 use script_model::step::Step;
 use std::fs::{self, File};
-use std::io::{ErrorKind, Read, Write};
-use std::net::{Ipv4Addr, Net, OpenStream, TcpStream};
+use std::io::{self, ErrorKind, Read, Write};
+use std::net::{Ipv4Addr, Net, OpenStream, SocketAddr, SocketAddrV4, TcpStream};
 use std::os::fd::OwnedFd;
 use std::os::unix::net::UnixStream;
 use std::process::{Command, OpenProcess, Processes, Stdio};
 use std::rt::Files;
-use std::time::Duration;
+use std::time::{Clock, Duration};
 use store_model::fault::StoreFault;
 
 /// How often a read that a signal interrupted is made again.
 const MOST_TRIES: usize = 1_000;
 
 /// Starts `PATH serve I` as a child for each server, and talks to it on the port that it prints. It waits no longer than its
-/// limit for what a server prints and sends. A file and its journal are those of its name.
+/// limit for what a server prints and sends. A file and its journal are those of its name. Nothing is sent to a server that another
+/// user runs, where the system tells.
 #[derive(Drop)]
 pub struct SystemHost<'a, R: Net + Processes> {
     rt: &'a R,
@@ -34,7 +36,7 @@ pub struct SystemHost<'a, R: Net + Processes> {
     history: History<FileDisk<SystemFiles>>,
 }
 
-impl<'a, R: Net + Processes + Files<File = File> + AllocGlobal> SystemHost<'a, R> {
+impl<'a, R: Net + Processes + Files<File = File> + Clock + AllocGlobal> SystemHost<'a, R> {
     /// A host that has started nothing.
     pub fn new(rt: &'a R, path: &'a str, limit: Duration) -> SystemHost<'a, R>
         ensures { ⟦<SystemHost<'a, R> as Host>⟧.told result ≡ [] }
@@ -50,7 +52,7 @@ impl<'a, R: Net + Processes + Files<File = File> + AllocGlobal> SystemHost<'a, R
 }
 
 /// Starts `PATH serve I`, reads its port and connects to it. Where that fails, no child is left.
-fn launch<R: Net + Processes + AllocGlobal>(
+fn launch<R: Net + Processes + Files<File = File> + Clock + AllocGlobal>(
     rt: &R,
     path: &str,
     inc: u32,
@@ -59,12 +61,8 @@ fn launch<R: Net + Processes + AllocGlobal>(
     let Ok((ours, theirs)) = UnixStream::pair(rt) else {
         return Err(HostFault::Failed);
     };
-    if ours.set_read_timeout(Some(limit)).is_err() {
-        return Err(HostFault::Failed);
-    }
     let mut running = spawn(rt, path, inc, OwnedFd::from(theirs))?;
-    let mut first = &ours;
-    let Some(port) = read_port(&mut first) else {
+    let Some(port) = read_port(rt, &ours, limit) else {
         return Err(HostFault::Failed);
     };
     running.port = port;
@@ -95,15 +93,34 @@ fn spawn<R: Net + Processes + AllocGlobal>(
             stream: None,
             child,
         }),
-        Err(_) => Err(HostFault::Failed),
+        Err(error) => Err(fault_of(&error)),
     }
 }
 
-/// A connection to a port of 127.0.0.1, whose reads and writes wait no longer than the limit.
-fn connect<R: Net>(rt: &R, port: u16, limit: Duration) -> Result<R::Stream, HostFault> {
-    let Ok(stream) = TcpStream::connect(rt, (Ipv4Addr::LOCALHOST, port)) else {
+/// What an error of the system is to a host.
+fn fault_of(error: &io::Error) -> HostFault {
+    if error.kind() == ErrorKind::OutOfMemory {
+        HostFault::NoMemory
+    } else {
+        HostFault::Failed
+    }
+}
+
+/// A connection to a port of 127.0.0.1, made no longer than the limit, whose reads and writes wait no longer either.
+///
+/// Refused: where a server of another user listens there, as where the one that was started is gone.
+fn connect<R: Net + Files<File = File> + AllocGlobal>(
+    rt: &R,
+    port: u16,
+    limit: Duration,
+) -> Result<R::Stream, HostFault> {
+    let to = SocketAddr::V4(SocketAddrV4::new(Ipv4Addr::LOCALHOST, port));
+    let Ok(stream) = TcpStream::connect_timeout(rt, &to, limit) else {
         return Err(HostFault::Failed);
     };
+    if !is_own(rt, &stream, port)? {
+        return Err(HostFault::Failed);
+    }
     let set = stream.set_nodelay(true).is_ok()
         && stream.set_read_timeout(Some(limit)).is_ok()
         && stream.set_write_timeout(Some(limit)).is_ok();
@@ -111,6 +128,21 @@ fn connect<R: Net>(rt: &R, port: u16, limit: Duration) -> Result<R::Stream, Host
         Ok(stream)
     } else {
         Err(HostFault::Failed)
+    }
+}
+
+/// Whether a connection to that port goes to a server of the same user, where the system tells.
+fn is_own<R: Net + Files<File = File> + AllocGlobal>(
+    rt: &R,
+    stream: &R::Stream,
+    port: u16,
+) -> Result<bool, HostFault> {
+    let Ok(from) = stream.local_addr() else {
+        return Err(HostFault::Failed);
+    };
+    match is_users(rt, Other::Server, from.port(), port) {
+        Ok(is) => Ok(is),
+        Err(error) => Err(fault_of(&error)),
     }
 }
 
@@ -148,7 +180,7 @@ fn read<R: Net + Processes>(running: &mut Running<R>, into: &mut [u8]) -> Result
     Err(HostFault::Failed)
 }
 
-fn connect_again<R: Net + Processes>(
+fn connect_again<R: Net + Processes + Files<File = File> + AllocGlobal>(
     rt: &R,
     running: &mut Running<R>,
     limit: Duration,
@@ -185,7 +217,7 @@ fn is_missing<R: Files<File = File>>(rt: &R, path: &str) -> bool {
     }
 }
 
-/// The disk of a file of the system that is there, or whose journal is. A file that is empty, and has no journal, is none.
+/// The disk of a file of the system that is there, or that an open journal holds. A file that is empty, and has no journal, is none.
 fn find_disk<R: Files<File = File> + AllocGlobal>(
     rt: &R,
     name: &[u8],
@@ -202,7 +234,7 @@ fn find_disk<R: Files<File = File> + AllocGlobal>(
     FileDisk::find(rt, path)
 }
 
-impl<'a, R: Net + Processes + Files<File = File> + AllocGlobal> Host for SystemHost<'a, R> {
+impl<'a, R: Net + Processes + Files<File = File> + Clock + AllocGlobal> Host for SystemHost<'a, R> {
     type Disk = FileDisk<SystemFiles>;
 
     ghost use Rattle.script_model.specs.Histories.{told_in};

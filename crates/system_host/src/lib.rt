@@ -3,5 +3,6 @@
 
 pub mod host;
 pub mod listening;
+mod owners;
 mod port;
 mod running;
