@@ -43,7 +43,7 @@ abbrev pub is_size : ℕ → ℕ → Bool
 is_size w h = nat_le 1 w && nat_le w 200 && nat_le 1 h && nat_le h 100
 
 abbrev pub new_frame : List ℕ → ℕ → ℕ → Frame
-new_frame name w h = record { name = name; asked = None; k = 0; ui = fresh w h; stored = false; phase = Idle }
+new_frame name w h = record { name = name; asked = None; k = 0; ui = fresh w h; stored = false; session = 0; phase = Idle }
 
 abbrev pub new_made : Record → List ℕ → ℕ → ℕ → Took
 new_made r name w h = record {
