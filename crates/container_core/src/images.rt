@@ -38,7 +38,11 @@ pub(crate) fn check_image(state: &State, f: u32) -> Result<u32, ContainerFault>
 }
 
 /// The document of a frame whose commit is asked for or in doubt.
-pub(crate) fn document(alloc: Global, state: &State, f: u32) -> Result<FrameDocument, ContainerFault>
+pub(crate) fn document(
+    alloc: Global,
+    state: &State,
+    f: u32,
+) -> Result<FrameDocument, ContainerFault>
     ensures document { IfOk result (λ d. image state.now f ≡ Ok d) }
     ensures refused { IfErr result (Refuses (image state.now f)) }
 {
