@@ -11,7 +11,7 @@ use Rattle.container_model.specs.declared.record.Object.{Object}
 use Rattle.container_model.specs.Numbered.{IsNth}
 use Rattle.container_model.specs.Record.{Record}
 use Rattle.container_model.specs.Saves.{document, document_tree, fitting, fitting_in, has_image, image, image_at, is_document, parts_in}
-use Rattle.container_steps.proofs.VerbsPlaced.{frame_here}
+use Rattle.container_commands.proofs.VerbsPlaced.{frame_here}
 
 -- whether a document fits, as a test
 tree_fits : (ps : List Part) (told : Result (Unit {0}) WriteFault) → is_ok (fitting_in ps told) ≡ true → fitting_in ps told ≡ Ok ps
