@@ -9,7 +9,7 @@ use Rattle.container_model.specs.declared.record.Phase.{Phase}
 use Rattle.container_model.specs.declared.record.Phase.TheVariants.{Idle, Saving, HandingOff, Committing, InDoubt}
 use Rattle.container_model.specs.declared.fault.ContainerFault.{ContainerFault}
 use Rattle.container_model.specs.declared.fault.ContainerFault.TheVariants.{WrongState}
-use Rattle.container_steady.specs.Steady.{IsUnsettled}
+use Rattle.container_queues.specs.Steady.{IsUnsettled}
 
 fitting_commit : (r : Record) (f : ℕ) (frame : Frame) (told : Result FrameDocument ContainerFault) (t : Took) → commit_fitting r f frame told ≡ Ok t → commit_made r f frame ≡ t
 fitting_commit r f frame (Err fault) t e = cc

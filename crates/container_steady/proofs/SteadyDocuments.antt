@@ -19,7 +19,7 @@ use Rattle.container_model.specs.declared.fault.ContainerFault.{ContainerFault}
 use Rattle.container_model.specs.declared.fault.ContainerFault.TheVariants.{WrongState, Full}
 use Rattle.container_model.specs.Record.{Record, MOST_OBJECTS, count_objects}
 use Rattle.container_model.specs.Saves.{are_objects, document_tree, fitting, fitting_in, frame_document, has_image, held_parts, image_at, is_document, kept, part_of, parts_in}
-use Rattle.container_steady.specs.Steady.{DocumentsHold, FullByTheFileAlone, SteadyObject}
+use Rattle.container_queues.specs.Steady.{DocumentsHold, FullByTheFileAlone, SteadyObject}
 use Rattle.container_steady.proofs.SteadyRecords.{if_told, some_and, Held, kept_object_within}
 
 both_hold : (a b : Bool) → a ≡ true → b ≡ true → (a && b) ≡ true

@@ -11,7 +11,7 @@ use Rattle.container_model.specs.declared.record.Object.{Object}
 use Rattle.container_model.specs.Numbered.{IsNth}
 use Rattle.container_model.specs.Record.{Record}
 use Rattle.container_model.specs.Saves.{document_tree, fitting, fitting_in, frame_document, has_image, held_parts, image, image_at, is_document, parts_in}
-use Rattle.container_steps.proofs.VerbsPlaced.{frame_here}
+use Rattle.container_commands.proofs.VerbsPlaced.{frame_here}
 
 -- whether a document fits, as a test
 tree_fits : (d : FrameDocument) (told : Result (Unit {0}) WriteFault) → is_ok (fitting_in d told) ≡ true → fitting_in d told ≡ Ok d

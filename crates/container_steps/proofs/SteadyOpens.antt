@@ -17,7 +17,7 @@ use Rattle.container_steady.proofs.Opening.{each_opened, framed, is_opened, nth_
 use Rattle.container_steady.proofs.SteadyCounts.{count_append}
 use Rattle.container_steady.proofs.SteadyRecords.{some_and, Held}
 use Rattle.container_steady.proofs.SteadyTells.{and_both}
-use Rattle.container_steps.proofs.SteadyCommands.{frame_steady, object_steady}
+use Rattle.container_commands.proofs.SteadyCommands.{frame_steady, object_steady}
 
 -- no object is in a frame that isn't there
 pub elsewhere : (r : Record) (o : Object) → SteadyObject r o → o.frame ≡ length r.frames + 1 → ⊥

@@ -19,7 +19,7 @@ use Rattle.container_model.specs.declared.fault.ContainerFault.{ContainerFault}
 use Rattle.container_steady.specs.Made.{run_by}
 use Rattle.container_steady.specs.Steady.{IsUnsettled, Steady}
 use Rattle.container_steady.proofs.Settling.{IsCommitOf, done_commits, kept_commits, not_idle}
-use Rattle.container_steps.proofs.SteadyCommands.{on_command_keeps}
+use Rattle.container_commands.proofs.SteadyCommands.{on_command_keeps}
 use Rattle.container_steps.proofs.SteadyMessages.{on_message_keeps}
 use Rattle.container_steps.proofs.SteadyReaps.{on_reap_keeps}
 use Rattle.container_steps.proofs.SteadyRuns.{on_input_keeps}

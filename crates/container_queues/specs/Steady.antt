@@ -29,8 +29,8 @@ use Rattle.container_model.specs.declared.fault.ContainerFault.TheVariants.{Full
 use Rattle.container_model.specs.Record.{Record, MOST_OBJECTS, count_objects, empty, is_object, is_unreaped}
 use Rattle.container_model.specs.Saves.{document_tree, frame_document, held_parts, image, is_document, kept, parts_in}
 use Rattle.container_model.specs.Messages.{awaits_save}
-pub use Rattle.container_steady.specs.Roles.{queue, queue_of}
-use Rattle.container_steady.specs.Roles.{Role, Waiting, IsShown, Plays, SteadyGrant, role_in}
+pub use Rattle.container_queues.specs.Roles.{queue, queue_of}
+use Rattle.container_queues.specs.Roles.{Role, Waiting, IsShown, Plays, SteadyGrant, role_in}
 
 -- the states at the end of a queue, by both tables
 abbrev pub stepped : Result States StateFault → Operation → Result States StateFault
