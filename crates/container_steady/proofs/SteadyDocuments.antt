@@ -72,10 +72,13 @@ full_image : (r : Record) (f : ℕ) (found : Option Frame) → nth r.frames f �
     → (frame : Frame) × (nth r.frames f ≡ Some frame) × (writable (document_tree (frame_document frame (parts_in f r.objects))) ≡ Err TooBig)
 full_image r f None at is e = cc
 full_image r f (Some frame) at is e =
-    let d : FrameDocument = frame_document frame (parts_in f r.objects) in
-    (frame, at, if_told (λ (z : Result FrameDocument ContainerFault). z ≡ Err Full → writable (document_tree d) ≡ Err TooBig) (has_image frame.phase) (fitting d) (Err WrongState)
-    (λ t g. full_fitting d (is_document (held_parts (parts_in f r.objects))) is g)
-    (λ t g. cc) e)
+    let d : FrameDocument = frame_document frame (parts_in f r.objects) in (
+      frame,
+      at,
+      if_told (λ (z : Result FrameDocument ContainerFault). z ≡ Err Full → writable (document_tree d) ≡ Err TooBig) (has_image frame.phase) (fitting d) (Err WrongState)
+          (λ t g. full_fitting d (is_document (held_parts (parts_in f r.objects))) is g)
+          (λ t g. cc) e,
+    )
 
 pub full-by_the_file_alone : FullByTheFileAlone
 full-by_the_file_alone r f s e = full_image r f (nth r.frames f) refl (documents-hold r f s) e
