@@ -114,7 +114,7 @@ module _ (f : List ℕ → ℕ) (z : ℕ) where
       a ∙ ap (λ x. x + sum_of f z (with_objects (m + 1) os none)) b ∙ ap (λ x. object_sum f z o + x) c
 
   sum-session : (session : ℕ) (cs : Children) → find (key SESSION) cs ≡ None → sum_of f z (with_session session cs) ≡ session_sum f session + sum_of f z cs
-  sum-session zero cs h = refl
+  sum-session zero cs h = omega arith
   sum-session (suc n) cs h = sum-place (key SESSION) (SESSION, bytes (to_le_bytes w32 (suc n))) cs h
 
   pub sum-document : (d : Doc) → is_document d.objects ≡ true → AreTyped d.objects → sum f z (doc_tree d) ≡ document_sum f z d
