@@ -12,7 +12,7 @@ use Rattle.container_model.specs.declared.record.Link.{Link}
 use Rattle.container_model.specs.declared.record.Object.{Object}
 use Rattle.container_model.specs.Record.{Record, count_objects}
 use Rattle.container_model.specs.Replies.{pending_at, pending_call, pending_calls}
-use Rattle.container_steady.proofs.SteadyLookups.{each_weaker}
+use Rattle.container_queues.proofs.SteadyLookups.{each_weaker}
 use Rattle.container_steady.proofs.SteadyTells.{some_and}
 use Rattle.container_steady.specs.Steady.{Steady, SteadyObject}
 use Rattle.container_numbers.specs.FewFrames.{FewFrames}

@@ -3,6 +3,7 @@ use Rattle.std.proofs.Common.{◌≡◌, ◌≤◌, ◌<◌, ◌+◌, ◌||◌, 
 use Rattle.std.proofs.lemmas.Bool.{leb-false, leb-true, ltb-false}
 use Rattle.std.specs.Prelude.{nat_le, nat_lt}
 use Rattle.std.specs.List.{range_with_len}
+use Rattle.document_model.specs.Documents.{Doc}
 use Rattle.document_model.specs.declared.object.DocObject.{DocObject}
 use Rattle.container_model.specs.declared.answer.Answer.{Answer}
 use Rattle.container_model.specs.declared.fault.ContainerFault.{ContainerFault}
@@ -39,8 +40,8 @@ pub barred : (r : Record) (shown name : List ℕ) (w h : ℕ) (file : Option (Li
 barred r shown name w h file fault s e = unread (subst (λ (n : List ℕ). looked_at r n w h ≡ Err fault) s (sym e))
 
 -- a file that is there, as it is read
-pub read_is : (file : Option (List ℕ)) (bytes : List ℕ) (read d : Option (List DocObject)) → file ≡ Some bytes → read ≡ d → IsReadAs (Some bytes) (given_of read) → IsReadAs file (given_of d)
-read_is file bytes read d e f h = subst (λ (x : Option (List ℕ)). IsReadAs x (given_of d)) (sym e) (subst (λ (x : Option (List DocObject)). IsReadAs (Some bytes) (given_of x)) f h)
+pub read_is : (file : Option (List ℕ)) (bytes : List ℕ) (read d : Option Doc) → file ≡ Some bytes → read ≡ d → IsReadAs (Some bytes) (given_of read) → IsReadAs file (given_of d)
+read_is file bytes read d e f h = subst (λ (x : Option (List ℕ)). IsReadAs x (given_of d)) (sym e) (subst (λ (x : Option Doc). IsReadAs (Some bytes) (given_of x)) f h)
 
 -- ---- what the file gives, under a name and in a size that may be
 module _ (r : Record) (name : List ℕ) (w h : ℕ) (file : Option (List ℕ)) (named : looked_at r name w h ≡ Ok tt) where
@@ -50,14 +51,14 @@ module _ (r : Record) (name : List ℕ) (w h : ℕ) (file : Option (List ℕ)) (
   pub bad_file : IsReadAs file Given.Broken → MayRefuse r name w h file BadFile
   bad_file is = as_given Given.Broken is (opening_passes r name w h Given.Broken named)
 
-  pub document_taken : (ds : List DocObject) (s : Record) (result : Result Answer ContainerFault) → IsReadAs file (Given.Holding ds) → IfOk result (λ a. opened_document r name w h ds ≡ Ok (counts_none s a))
+  pub document_taken : (d : Doc) (s : Record) (result : Result Answer ContainerFault) → IsReadAs file (Given.Holding d) → IfOk result (λ a. opened_document r name w h d ≡ Ok (counts_none s a))
       → IfOk result (λ a. (given : Given) × IsReadAs file given × (opened r name w h given ≡ Ok (counts_none s a)))
-  document_taken ds s (Ok a) is taken = (Given.Holding ds, is, opening_passes r name w h (Given.Holding ds) named ∙ taken)
-  document_taken ds s (Err fault) is taken = tt
+  document_taken d s (Ok a) is taken = (Given.Holding d, is, opening_passes r name w h (Given.Holding d) named ∙ taken)
+  document_taken d s (Err fault) is taken = tt
 
-  pub document_refused : (ds : List DocObject) (result : Result Answer ContainerFault) → IsReadAs file (Given.Holding ds) → IfErr result (Refuses (opened_document r name w h ds)) → IfErr result (MayRefuse r name w h file)
-  document_refused ds (Ok a) is told = tt
-  document_refused ds (Err fault) is told = as_given (Given.Holding ds) is (subst (λ (t : Result Took ContainerFault). Refuses t fault) (sym (opening_passes r name w h (Given.Holding ds) named)) told)
+  pub document_refused : (d : Doc) (result : Result Answer ContainerFault) → IsReadAs file (Given.Holding d) → IfErr result (Refuses (opened_document r name w h d)) → IfErr result (MayRefuse r name w h file)
+  document_refused d (Ok a) is told = tt
+  document_refused d (Err fault) is told = as_given (Given.Holding d) is (subst (λ (t : Result Took ContainerFault). Refuses t fault) (sym (opening_passes r name w h (Given.Holding d) named)) told)
 
 -- ---- room
 room_at : (b c d : Bool) (made : Took) → unless b Full (unless (c || d) NumbersSpent fine) ≡ fine → unless b Full (unless (c || d) NumbersSpent (Ok made)) ≡ Ok made
@@ -71,19 +72,19 @@ no_room_at true c made fault e = (let same : Full ≡ fault = cc in subst (λ (f
 no_room_at false true made fault e = (let same : NumbersSpent ≡ fault = cc in subst (λ (f : ContainerFault). Refuses {A = Took} (Err NumbersSpent) f) same refl)
 no_room_at false false made fault e = cc
 
-within_first : (r : Record) (name : List ℕ) (w h : ℕ) (ds : List DocObject) → is_document ds ≡ true
-    → opened_document r name w h ds ≡ unless (nat_le MOST_FRAMES (length r.frames)) Full (unless (nat_le r.numbers (length r.frames) || nat_lt r.numbers (r.last_object + length ds)) NumbersSpent (Ok (opened_made r name w h ds)))
-within_first r name w h ds within = rw within refl
+within_first : (r : Record) (name : List ℕ) (w h : ℕ) (d : Doc) → is_document d.objects ≡ true
+    → opened_document r name w h d ≡ unless (nat_le MOST_FRAMES (length r.frames)) Full (unless (nat_le r.numbers (length r.frames) || nat_lt r.numbers (r.last_object + length d.objects)) NumbersSpent (Ok (opened_made r name w h d)))
+within_first r name w h d within = rw within refl
 
 -- a document for which there is room is opened, and it isn't where there is none
-pub room_opens : (r : Record) (name : List ℕ) (w h : ℕ) (ds : List DocObject) → is_document ds ≡ true → room r (length ds) ≡ Ok tt → opened_document r name w h ds ≡ Ok (opened_made r name w h ds)
-room_opens r name w h ds within e =
-    within_first r name w h ds within ∙ room_at (nat_le MOST_FRAMES (length r.frames)) (nat_le r.numbers (length r.frames)) (nat_lt r.numbers (r.last_object + length ds)) (opened_made r name w h ds) e
+pub room_opens : (r : Record) (name : List ℕ) (w h : ℕ) (d : Doc) → is_document d.objects ≡ true → room r (length d.objects) ≡ Ok tt → opened_document r name w h d ≡ Ok (opened_made r name w h d)
+room_opens r name w h d within e =
+    within_first r name w h d within ∙ room_at (nat_le MOST_FRAMES (length r.frames)) (nat_le r.numbers (length r.frames)) (nat_lt r.numbers (r.last_object + length d.objects)) (opened_made r name w h d) e
 
-pub no_room : (r : Record) (name : List ℕ) (w h : ℕ) (ds : List DocObject) (fault : ContainerFault) → is_document ds ≡ true → room r (length ds) ≡ Err fault → Refuses (opened_document r name w h ds) fault
-no_room r name w h ds fault within e =
-    subst (λ (t : Result Took ContainerFault). Refuses t fault) (sym (within_first r name w h ds within))
-    (no_room_at (nat_le MOST_FRAMES (length r.frames)) (nat_le r.numbers (length r.frames) || nat_lt r.numbers (r.last_object + length ds)) (opened_made r name w h ds) fault e)
+pub no_room : (r : Record) (name : List ℕ) (w h : ℕ) (d : Doc) (fault : ContainerFault) → is_document d.objects ≡ true → room r (length d.objects) ≡ Err fault → Refuses (opened_document r name w h d) fault
+no_room r name w h d fault within e =
+    subst (λ (t : Result Took ContainerFault). Refuses t fault) (sym (within_first r name w h d within))
+    (no_room_at (nat_le MOST_FRAMES (length r.frames)) (nat_le r.numbers (length r.frames) || nat_lt r.numbers (r.last_object + length d.objects)) (opened_made r name w h d) fault e)
 
 pub few_frames : (r : Record) (n : ℕ) → room r n ≡ Ok tt → length r.frames < 8
 few_frames r n e = leb-false MOST_FRAMES (length r.frames) (unless_ok (nat_le MOST_FRAMES (length r.frames)) Full _ tt e).0
@@ -111,21 +112,22 @@ told f ns = record quiet_answer { frame = Some f; objects = ns }
 abbrev left : Record → List Frame → List Object → ℕ → Answer → Took
 left s fs os count a = counts_none (record s { frames = fs; objects = os; last_object = s.last_object + count }) a
 
-pub made_is : (s r : Record) (name : List ℕ) (w h : ℕ) (ds : List DocObject) (n count : ℕ) (frame : Frame) (fs : List Frame) (more os shown : List Object) (a : Answer)
-    → s ≡ r → n ≡ length s.frames → count ≡ length ds → frame ≡ opened_frame name w h → fs ≡ s.frames ++ frame ∷ []
-    → more ≡ opened_objects s.last_object (n + 1) ds → os ≡ s.objects ++ more → shown ≡ more → a ≡ told (n + 1) (map (λ o. o.number) shown)
-    → opened_made r name w h ds ≡ left s fs os count a
-made_is s r name w h ds n count frame fs more os shown a e en ec ef efs em eos esh ea =
+pub made_is : (s r : Record) (name : List ℕ) (w h : ℕ) (d : Doc) (n count : ℕ) (frame : Frame) (fs : List Frame) (more os shown : List Object) (a : Answer)
+    → s ≡ r → n ≡ length s.frames → count ≡ length d.objects → frame ≡ opened_frame name w h d.session → fs ≡ s.frames ++ frame ∷ []
+    → more ≡ opened_objects s.last_object (n + 1) d.objects → os ≡ s.objects ++ more → shown ≡ more → a ≡ told (n + 1) (map (λ o. o.number) shown)
+    → opened_made r name w h d ≡ left s fs os count a
+made_is s r name w h d n count frame fs more os shown a e en ec ef efs em eos esh ea =
     let f : ℕ = length s.frames + 1 in
+    let ds : List DocObject = d.objects in
     let made : List Object = opened_objects s.last_object f ds in
-    let frames : List Frame = s.frames ++ opened_frame name w h ∷ [] in
+    let frames : List Frame = s.frames ++ opened_frame name w h d.session ∷ [] in
     let ns : List ℕ = range_with_len (s.last_object + 1) (length ds) in
     let more_is : more ≡ made = em ∙ ap (λ k. opened_objects s.last_object (k + 1) ds) en in
     let fs_is : frames ≡ fs = sym (efs ∙ ap (λ x. s.frames ++ x ∷ []) ef) in
     let os_is : s.objects ++ made ≡ os = sym (eos ∙ ap (λ xs. s.objects ++ xs) more_is) in
     let ns_is : map (λ o. o.number) shown ≡ ns = ap (map (λ o. o.number)) (esh ∙ more_is) ∙ numbers_next s.last_object f ds in
     let a_is : told f ns ≡ a = sym (ea ∙ (ap (λ k. told (k + 1) (map (λ o. o.number) shown)) en ∙ ap (told f) ns_is)) in
-    ap (λ z. opened_made z name w h ds) (sym e)
+    ap (λ z. opened_made z name w h d) (sym e)
     ∙ (ap (λ x. left s x (s.objects ++ made) (length ds) (told f ns)) fs_is
     ∙ (ap (λ x. left s fs x (length ds) (told f ns)) os_is
     ∙ (ap (λ x. left s fs os x (told f ns)) (sym ec)

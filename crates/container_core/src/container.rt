@@ -4,7 +4,7 @@ use crate::{commits, images, opens, reaps};
 use container_checks::lookups::{frame_numbers, object_numbers};
 use container_laws::apart_laws::messages_stay_apart;
 use container_links::resending::pending_calls;
-use container_model::answer::{Answer, Part};
+use container_model::answer::{Answer, FrameDocument};
 use container_model::command::Command;
 use container_model::fault::ContainerFault;
 use container_model::record::{Frame, Object};
@@ -15,7 +15,6 @@ use container_steps::steady_laws::steady_after;
 use std::alloc::{AllocError, Global};
 use std::marker::Model;
 use stored_values::bytes::Bytes;
-use wire_msgs::items::Items;
 use wire_msgs::message::Message;
 
 /// The limits of a container.
@@ -59,7 +58,7 @@ impl ContainerCore {
     ghost use Rattle.container_model.specs.Room.{IsSound};
     ghost use Rattle.container_model.specs.Saves as saves;
     ghost use Rattle.container_model.specs.Saves.{commit_done, commit_failed, counted_of, document_tree, image, resolve};
-    ghost use Rattle.container_model.specs.declared.answer.Part.{Part};
+    ghost use Rattle.container_model.specs.declared.answer.FrameDocument.{FrameDocument};
     ghost use Rattle.container_screen.specs.Screen.{shown};
     ghost use Rattle.document_model.specs.DocOf.{DocOf};
     ghost use Rattle.file_model.specs.Denotes.{Denotes};
@@ -350,13 +349,13 @@ impl ContainerCore {
         pending_calls(alloc, self.state.objects())
     }
 
-    /// The document of a frame whose commit is asked for or in doubt: its objects in order, each with the content that
-    /// the save counts.
+    /// The document of a frame whose commit is asked for or in doubt: the session that its file says, and its objects in
+    /// order, each with the content that the save counts.
     ///
     /// Refused: `NoSuch` where there is no such frame; `WrongState` where its commit is neither asked for nor in doubt;
     /// `Full` where no file holds the document; then `NoMemory`.
-    pub fn document(&self, alloc: Global, f: u32) -> Result<Items<Part>, ContainerFault>
-        ensures document { IfOk result (λ parts. image self.now f ≡ Ok parts) }
+    pub fn document(&self, alloc: Global, f: u32) -> Result<FrameDocument, ContainerFault>
+        ensures document { IfOk result (λ d. image self.now f ≡ Ok d) }
         ensures refused { IfErr result (Refuses (image self.now f)) }
     {
         images::document(alloc, &self.state, f)
@@ -371,7 +370,7 @@ impl ContainerCore {
         &self,
         alloc: Global,
         f: u32,
-    ) -> Result<(Items<Part>, Vec<u8>), ContainerFault>
+    ) -> Result<(FrameDocument, Vec<u8>), ContainerFault>
         ensures document { IfOk result (λ w. image self.now f ≡ Ok w.0) }
         ensures denotes { IfOk result (λ w. ∥ Denotes w.1.items (document_tree w.0) ∥₁) }
         ensures laid_out { IfOk result (λ w. IsLaidOut (document_tree w.0) w.1.items) }
@@ -387,7 +386,7 @@ impl ContainerCore {
     ///
     /// Refused: as `document`.
     pub fn image(&self, alloc: Global, f: u32) -> Result<Vec<u8>, ContainerFault>
-        ensures denotes { IfOk result (λ v. (parts : List Part) × (image self.now f ≡ Ok parts) × ∥ Denotes v.items (document_tree parts) ∥₁ × DocOf (document_tree parts) (saves.document parts)) }
+        ensures denotes { IfOk result (λ v. (d : FrameDocument) × (image self.now f ≡ Ok d) × ∥ Denotes v.items (document_tree d) ∥₁ × DocOf (document_tree d) (saves.document d)) }
         ensures few { IfOk result (λ v. length v.items ≤ MOST_BYTES) }
         ensures refused { IfErr result (Refuses (image self.now f)) }
     {

@@ -1,10 +1,9 @@
 //! The documents of frames whose commits are asked for or in doubt, and their files.
 
-ghost use Rattle.std.specs.Prelude.{◌≡◌, ◌≤◌, IfErr, IfOk, Ok, OnOk, length};
+ghost use Rattle.std.specs.Prelude.{◌≡◌, ◌≤◌, IfErr, IfOk, Ok, length};
 ghost use Rattle.container_model.specs.Record.{Refuses};
 ghost use Rattle.container_model.specs.Saves as saves;
 ghost use Rattle.container_model.specs.Saves.{document_tree, image, parts_in};
-ghost use Rattle.container_model.specs.declared.answer.Part.{Part};
 ghost use Rattle.document_model.specs.DocOf.{DocOf};
 ghost use Rattle.file_model.specs.Denotes.{Denotes};
 ghost use Rattle.file_model.specs.Limits.{MOST_BYTES};
@@ -12,17 +11,17 @@ ghost use Rattle.file_writer.specs.Laid.{IsLaidOut};
 
 use container_checks::checks::has_image;
 use container_documents::documents::{file_of, fits, parts_in};
-use container_model::answer::Part;
+use container_model::answer::FrameDocument;
 use container_model::fault::ContainerFault;
 use container_state::state::State;
 use std::alloc::Global;
 use wire_msgs::items::Items;
 
-/// Whether a frame has a document whose file is to be committed. It takes no memory.
+/// The session of a frame that has a document whose file is to be committed. It takes no memory.
 ///
 /// Refused: as `document`, but for `NoMemory`.
-pub(crate) fn check_image(state: &State, f: u32) -> Result<(), ContainerFault>
-    ensures fine { OnOk result (image state.now f ≡ Ok (parts_in f state.now.objects)) }
+pub(crate) fn check_image(state: &State, f: u32) -> Result<u32, ContainerFault>
+    ensures fine { IfOk result (λ session. image state.now f ≡ Ok (record { session = session; parts = parts_in f state.now.objects })) }
     ensures refused { IfErr result (Refuses (image state.now f)) }
 {
     let Some(place) = state.frames.place(f) else {
@@ -31,20 +30,28 @@ pub(crate) fn check_image(state: &State, f: u32) -> Result<(), ContainerFault>
     if !has_image(state.frames[place].phase) {
         return Err(ContainerFault::WrongState);
     }
-    if !fits(f, state.objects.list.as_slice()) {
+    let session = state.frames[place].session;
+    if !fits(session, f, state.objects.list.as_slice()) {
         return Err(ContainerFault::Full);
     }
-    Ok(())
+    Ok(session)
 }
 
 /// The document of a frame whose commit is asked for or in doubt.
-pub(crate) fn document(alloc: Global, state: &State, f: u32) -> Result<Items<Part>, ContainerFault>
-    ensures document { IfOk result (λ parts. image state.now f ≡ Ok parts) }
+pub(crate) fn document(
+    alloc: Global,
+    state: &State,
+    f: u32,
+) -> Result<FrameDocument, ContainerFault>
+    ensures document { IfOk result (λ d. image state.now f ≡ Ok d) }
     ensures refused { IfErr result (Refuses (image state.now f)) }
 {
-    check_image(state, f)?;
+    let session = check_image(state, f)?;
     match parts_in(alloc, f, state.objects.list.as_slice()) {
-        Ok(parts) => Ok(Items::from_vec(parts)),
+        Ok(parts) => Ok(FrameDocument {
+            session,
+            parts: Items::from_vec(parts),
+        }),
         Err(_) => Err(ContainerFault::NoMemory),
     }
 }
@@ -54,7 +61,7 @@ pub(crate) fn commit_image(
     alloc: Global,
     state: &State,
     f: u32,
-) -> Result<(Items<Part>, Vec<u8>), ContainerFault>
+) -> Result<(FrameDocument, Vec<u8>), ContainerFault>
     ensures document { IfOk result (λ w. image state.now f ≡ Ok w.0) }
     ensures denotes { IfOk result (λ w. ∥ Denotes w.1.items (document_tree w.0) ∥₁) }
     ensures laid_out { IfOk result (λ w. IsLaidOut (document_tree w.0) w.1.items) }
@@ -62,9 +69,9 @@ pub(crate) fn commit_image(
     ensures holds { IfOk result (λ w. DocOf (document_tree w.0) (saves.document w.0)) }
     ensures refused { IfErr result (Refuses (image state.now f)) }
 {
-    let parts = document(alloc, state, f)?;
-    match file_of(alloc, parts.as_slice()) {
-        Ok(file) => Ok((parts, file)),
+    let saved = document(alloc, state, f)?;
+    match file_of(alloc, &saved) {
+        Ok(file) => Ok((saved, file)),
         Err(_) => Err(ContainerFault::NoMemory),
     }
 }

@@ -16,7 +16,6 @@ use container_model::fault::ContainerFault;
 use container_model::record::Object;
 use container_objects::opens::{opened_frame, opened_objects};
 use container_state::state::State;
-use document_model::object::DocObject;
 use ole_streams::doc::Doc;
 use std::alloc::{AllocError, Global};
 use stored_values::bytes::Bytes;
@@ -74,21 +73,23 @@ fn make_opened(
     name: Bytes,
     w: u16,
     h: u16,
-    objects: Vec<DocObject>,
+    document: Doc,
 ) -> Result<Answer, AllocError>
     requires steady { Steady state.old }
     requires few_frames { length state.old.frames < 8 }
-    requires numbers { state.old.last_object + length objects.items ≤ 1000000 }
-    ensures made { IfOk result (λ a. opened_made state.old name w h objects.items ≡ counts_none state.new a) }
+    requires numbers { state.old.last_object + length document.objects ≤ 1000000 }
+    ensures made { IfOk result (λ a. opened_made state.old name w h document ≡ counts_none state.new a) }
     ensures few { IfOk result (λ a. length a.actions ≤ 1) }
     ensures kept { OnErr result (state.new ≡ state.old) }
 {
     let frame = state.frames.len() as u32 + 1;
+    let session = document.session();
+    let objects = document.into_vec();
     let count = objects.len() as u32;
     let more = opened_objects(alloc, state.last_object, frame, objects)?;
     let answer = made(alloc, frame, more.as_slice())?;
     state.objects.reserve(more.len())?;
-    state.frames.push(opened_frame(name, w, h))?;
+    state.frames.push(opened_frame(name, w, h, session))?;
     state.objects.append_reserved(more);
     state.last_object += count;
     Ok(answer)
@@ -105,18 +106,17 @@ fn open_document(
 ) -> Result<Answer, ContainerFault>
     requires steady { Steady state.old }
     requires sound { IsSound state.old }
-    requires within { is_document document ≡ true }
+    requires within { is_document document.objects ≡ true }
     ensures taken { IfOk result (λ a. opened_document state.old name w h document ≡ Ok (counts_none state.new a)) }
     ensures few { IfOk result (λ a. length a.actions ≤ 1) }
     ensures refused { IfErr result (Refuses (opened_document state.old name w h document)) }
     ensures kept { OnErr result (state.new ≡ state.old) }
 {
-    let objects = document.into_vec();
-    match room_for(state, objects.len()) {
+    match room_for(state, document.len()) {
         Ok(()) => {}
         Err(fault) => return Err(fault),
     }
-    match make_opened(alloc, state, name, w, h, objects) {
+    match make_opened(alloc, state, name, w, h, document) {
         Ok(answer) => Ok(answer),
         Err(_) => Err(ContainerFault::NoMemory),
     }

@@ -1,5 +1,6 @@
 -- A document's tree needs what is reckoned of it, object by object.
-use Rattle.std.proofs.Common.{◌≡◌, ◌≤◌, ◌+◌, ◌∙◌, ℕ, true, false, List, [], ◌∷◌, None, map, length, nat_le, refl, ap, arith, rules}
+use Rattle.std.proofs.Common.{◌≡◌, ◌≤◌, ◌+◌, ◌∙◌, ℕ, zero, suc, true, false, List, [], ◌∷◌, None, map, length, nat_le, refl, ap, arith, rules}
+use Rattle.std.specs.Int.{w32, to_le_bytes}
 use Rattle.std.specs.Ordering.{is_eq, match_ordering}
 use Rattle.std.specs.declared.cmp.Ordering.TheVariants.{Less, Equal, Greater}
 use Rattle.std.proofs.lemmas.Bool.{leb-true}
@@ -14,13 +15,14 @@ use Rattle.ole_parts.specs.CompObjs.{comp_obj_bytes}
 use Rattle.ole_parts.specs.OleStreams.{ole_bytes}
 use Rattle.ole_parts.proofs.Again.{and_left, and_right}
 use Rattle.document_model.specs.DocOf.{is_object}
-use Rattle.document_model.specs.DocTree.{LAYOUT, object_name, object_tree, placed, with_objects, with_picture, with_streams, doc_tree}
+use Rattle.document_model.specs.Documents.{Doc}
+use Rattle.document_model.specs.DocTree.{LAYOUT, SESSION, object_name, object_tree, placed, with_objects, with_picture, with_session, with_streams, doc_tree}
 use Rattle.document_model.specs.Layouts.{MOST_OBJECTS, layout_bytes}
 use Rattle.document_model.specs.declared.object.DocObject.{DocObject}
-use Rattle.ole_streams.proofs.AgainDoc.{not_found, own-names, no_ole, no_comp_obj, no_picture, names-apart, layout-apart, not_among, listed, listed-is}
+use Rattle.ole_streams.proofs.AgainDoc.{not_found, own-names, no_ole, no_comp_obj, no_picture, no_layout, no_session, names-apart, not_among, listed, listed-is}
 use Rattle.file_model.specs.Need.{entries, entries_of, over_streams, over_streams_of}
 use Rattle.container_model.specs.Saves.{are_objects, is_document}
-use Rattle.container_documents.specs.Sums.{streams_sum, picture_sum, object_sum, objects_sum, document_sum, one, AreTyped}
+use Rattle.container_documents.specs.Sums.{streams_sum, picture_sum, object_sum, objects_sum, session_sum, document_sum, one, AreTyped}
 
 -- a sum over all streams and storages below
 abbrev mutual
@@ -111,10 +113,15 @@ module _ (f : List ℕ → ℕ) (z : ℕ) where
       let c = sum-objects (m + 1) os (omega (arith, few)) (and_right (is_object o) (are_objects os) held) typed.1 in
       a ∙ ap (λ x. x + sum_of f z (with_objects (m + 1) os none)) b ∙ ap (λ x. object_sum f z o + x) c
 
-  pub sum-document : (os : List DocObject) → is_document os ≡ true → AreTyped os → sum f z (doc_tree os) ≡ document_sum f z os
-  sum-document os is typed =
+  sum-session : (session : ℕ) (cs : Children) → find (key SESSION) cs ≡ None → sum_of f z (with_session session cs) ≡ session_sum f session + sum_of f z cs
+  sum-session zero cs h = omega arith
+  sum-session (suc n) cs h = sum-place (key SESSION) (SESSION, bytes (to_le_bytes w32 (suc n))) cs h
+
+  pub sum-document : (d : Doc) → is_document d.objects ≡ true → AreTyped d.objects → sum f z (doc_tree d) ≡ document_sum f z d
+  sum-document d is typed =
+      let os = d.objects in
       let few = leb-true (length os) MOST_OBJECTS (and_left (nat_le (length os) MOST_OBJECTS) (are_objects os) is) in
       let held = and_right (nat_le (length os) MOST_OBJECTS) (are_objects os) is in
-      let free = not_among (key LAYOUT) 1 os (λ k l h. layout-apart k) in
-      sum-place (key LAYOUT) (LAYOUT, bytes (layout_bytes (map (λ (o : DocObject). o.area) os))) (with_objects 1 os none) free
-      ∙ ap (λ x. f (layout_bytes (map (λ (o : DocObject). o.area) os)) + x) (sum-objects 1 os (omega (arith, few)) held typed)
+      let layout = layout_bytes (map (λ (o : DocObject). o.area) os) in
+      sum-place (key LAYOUT) (LAYOUT, bytes layout) (with_session d.session (with_objects 1 os none)) (no_layout d.session os)
+      ∙ ap (λ x. f layout + x) (sum-session d.session (with_objects 1 os none) (no_session os) ∙ ap (λ x. session_sum f d.session + x) (sum-objects 1 os (omega (arith, few)) held typed))

@@ -6,6 +6,7 @@ use Rattle.std.specs.Prelude.{◌&&◌, nat_le}
 use Rattle.file_model.specs.Denotes.{Denotes}
 use Rattle.file_model.proofs.Unique.{one_tree}
 use Rattle.storage_tree.specs.Tree.{Tree}
+use Rattle.document_model.specs.Documents.{Doc}
 use Rattle.document_model.specs.DocOf.{DocOf, doc_read, is_object}
 use Rattle.document_model.specs.Layouts.{MOST_OBJECTS}
 use Rattle.document_model.specs.declared.object.DocObject.{DocObject}
@@ -19,7 +20,7 @@ use Rattle.container_documents.specs.Reading.{IsHeldAs, as_given}
 ⊥_prop a b = absurd a
 
 -- the tree that is denoted holds this document, or none
-pub read_as : (file : List ℕ) (t : Tree) (d : Option (List DocObject)) → ∥ Denotes file t ∥₁ → IsHeldAs t d → IsReadAs (Some file) (as_given d)
+pub read_as : (file : List ℕ) (t : Tree) (d : Option Doc) → ∥ Denotes file t ∥₁ → IsHeldAs t d → IsReadAs (Some file) (as_given d)
 read_as file t None denoted h = λ u ds den doc. ∥∥₁_elim denoted ⊥_prop (λ mine. h ds (subst (λ (v : Tree). DocOf v ds) (one_tree file u t den mine) doc))
 read_as file t (Some ds) denoted h = ∥∥₁_map denoted (λ mine. (t, mine, h))
 
@@ -29,7 +30,7 @@ unread file k = λ t ds den doc. k t den
 
 -- a tree that is refused holds no document
 pub none_held : (t : Tree) (fault : OleFault) → doc_read t ≡ Err fault → IsHeldAs t None
-none_held t fault e = λ ds doc. (let both : ◌≡◌ {A = Result (List DocObject) OleFault} (Err fault) (Ok ds) = sym e ∙ doc in cc)
+none_held t fault e = λ ds doc. (let both : ◌≡◌ {A = Result Doc OleFault} (Err fault) (Ok ds) = sym e ∙ doc in cc)
 
 -- what a document promises is that it is one
 both_hold : (a b : Bool) → a ≡ true → b ≡ true → (a && b) ≡ true
@@ -40,5 +41,5 @@ all_within : (ds : List DocObject) → AreHeld ds → are_objects ds ≡ true
 all_within [] h = refl
 all_within (d ∷ ds) h = both_hold (is_object d) (are_objects ds) h.0.within (all_within ds h.1)
 
-pub document_within : (ds : List DocObject) → IsDoc ds → is_document ds ≡ true
-document_within ds h = both_hold (nat_le (length ds) MOST_OBJECTS) (are_objects ds) (le-leb (length ds) MOST_OBJECTS h.few) (all_within ds h.held)
+pub document_within : (d : Doc) → IsDoc d → is_document d.objects ≡ true
+document_within d h = both_hold (nat_le (length d.objects) MOST_OBJECTS) (are_objects d.objects) (le-leb (length d.objects) MOST_OBJECTS h.few) (all_within d.objects h.held)

@@ -1,12 +1,14 @@
 -- What a document needs in a file, reckoned object by object. No reader has to believe it: it is shown to be what the
 -- document's tree needs.
 use Rattle.std.specs.Prelude.{◌≡◌, ◌+◌, ℕ, List, [], ◌∷◌, map, length, zero, suc, nat_lt, if◌then◌else◌}
+use Rattle.std.specs.Int.{w32, to_le_bytes}
 use Rattle.stored_streams.specs.Streams.{AreInOrder}
 use Rattle.stored_streams.specs.declared.streams.NamedStream.{NamedStream}
 use Rattle.file_model.specs.Limits.{CUTOFF}
 use Rattle.file_model.specs.Need.{pieces}
 use Rattle.ole_parts.specs.CompObjs.{CLASS_BYTES, comp_obj_bytes}
 use Rattle.ole_parts.specs.OleStreams.{ole_bytes}
+use Rattle.document_model.specs.Documents.{Doc}
 use Rattle.document_model.specs.Layouts.{layout_bytes}
 use Rattle.document_model.specs.declared.object.DocObject.{DocObject}
 
@@ -26,8 +28,12 @@ abbrev pub objects_sum : (List ℕ → ℕ) → ℕ → List DocObject → ℕ
 objects_sum f z [] = 0
 objects_sum f z (o ∷ os) = object_sum f z o + objects_sum f z os
 
-abbrev pub document_sum : (List ℕ → ℕ) → ℕ → List DocObject → ℕ
-document_sum f z os = f (layout_bytes (map (λ (o : DocObject). o.area) os)) + objects_sum f z os
+abbrev pub session_sum : (List ℕ → ℕ) → ℕ → ℕ
+session_sum f zero = 0
+session_sum f (suc n) = f (to_le_bytes w32 (suc n))
+
+abbrev pub document_sum : (List ℕ → ℕ) → ℕ → Doc → ℕ
+document_sum f z d = f (layout_bytes (map (λ (o : DocObject). o.area) d.objects)) + (session_sum f d.session + objects_sum f z d.objects)
 
 -- a stream is one entry of the directory, and lies in mini sectors or in sectors
 abbrev pub one : List ℕ → ℕ
@@ -45,6 +51,11 @@ long_of size = if nat_lt size CUTOFF then 0 else pieces 512 size
 abbrev pub picture_of : (ℕ → ℕ) → ℕ → ℕ
 picture_of f zero = 0
 picture_of f (suc size) = f (suc size)
+
+-- "Session" has four bytes
+abbrev pub session_of : (ℕ → ℕ) → ℕ → ℕ
+session_of f zero = 0
+session_of f (suc session) = f 4
 
 -- how many bytes "\1CompObj" has for a user type of so many bytes
 abbrev pub comp_obj_size : ℕ → ℕ

@@ -1,7 +1,7 @@
 //! The document of a frame: its objects, each with the content that a save counts, and the file that holds them.
 
 ghost use Rattle.std.specs.Prelude.{◌≡◌, ◌≤◌, IfOk, Ok, is_ok, length, true};
-ghost use Rattle.container_model.specs.Saves.{are_objects, document, document_tree, fitting, held_part, is_document, part_of, parts_in};
+ghost use Rattle.container_model.specs.Saves.{are_objects, document, document_tree, fitting, held_part, held_parts, is_document, part_of, parts_in};
 ghost use Rattle.document_model.specs.DocOf.{DocOf, is_object};
 ghost use Rattle.file_model.specs.Denotes.{Denotes};
 ghost use Rattle.file_model.specs.Limits.{MOST_BYTES};
@@ -9,7 +9,7 @@ ghost use Rattle.file_writer.specs.Laid.{IsLaidOut};
 
 use crate::room::has_room;
 use container_checks::contents::kept;
-use container_model::answer::Part;
+use container_model::answer::{FrameDocument, Part};
 use container_model::record::Object;
 use file_model::fault::WriteFault;
 use file_writer::write::write_file;
@@ -37,7 +37,7 @@ fn part_of(alloc: Global, object: &Object) -> Result<Part, AllocError>
     })
 }
 
-/// The document of a frame: its objects in order, each with the content that a save counts.
+/// The objects of a frame in order, each with the content that a save counts.
 ///
 /// Refused for want of memory alone.
 pub fn parts_in(alloc: Global, f: u32, objects: &[Object]) -> Result<Vec<Part>, AllocError>
@@ -54,7 +54,7 @@ pub fn parts_in(alloc: Global, f: u32, objects: &[Object]) -> Result<Vec<Part>, 
 
 /// How many objects of a frame stand here.
 fn count(f: u32, objects: &[Object]) -> usize
-    ensures { result ≡ length (document (parts_in f objects.now)) }
+    ensures { result ≡ length (held_parts (parts_in f objects.now)) }
 {
     let mut count = 0;
     for object in objects {
@@ -67,7 +67,7 @@ fn count(f: u32, objects: &[Object]) -> usize
 
 /// Whether a document can hold each object of a frame.
 fn are_objects(f: u32, objects: &[Object]) -> bool
-    ensures { result ≡ are_objects (document (parts_in f objects.now)) }
+    ensures { result ≡ are_objects (held_parts (parts_in f objects.now)) }
 {
     for object in objects {
         if object.frame == f && !is_object(object) {
@@ -84,12 +84,12 @@ fn is_object(object: &Object) -> bool
     is_within(kept(object)) && object.user_type.len() < PAST_USER_TYPE
 }
 
-/// Whether a file can hold the document of a frame: there are at most 64 objects, each within its limits, and the tree
-/// needs no more FAT sectors than a header names.
-pub fn fits(f: u32, objects: &[Object]) -> bool
-    ensures { result ≡ is_ok (fitting (parts_in f objects.now)) }
+/// Whether a file can hold the document of a frame, of this session: there are at most 64 objects, each within its limits,
+/// and the tree needs no more FAT sectors than a file may have.
+pub fn fits(session: u32, f: u32, objects: &[Object]) -> bool
+    ensures { result ≡ is_ok (fitting (record { session = session; parts = parts_in f objects.now })) }
 {
-    count(f, objects) <= MOST_OBJECTS && are_objects(f, objects) && has_room(f, objects)
+    count(f, objects) <= MOST_OBJECTS && are_objects(f, objects) && has_room(session, f, objects)
 }
 
 /// An object as a document holds it.
@@ -114,14 +114,14 @@ fn lacking(fault: OleFault) -> AllocError
     }
 }
 
-/// The document of these parts, which a document can hold.
+/// The document of this session and these parts, which a document can hold.
 ///
 /// Refused for want of memory alone.
-fn document(alloc: Global, parts: &[Part]) -> Result<Doc, AllocError>
-    requires { is_document (document parts.now) ≡ true }
-    ensures { IfOk result (λ d. d ≡ document parts.now) }
+fn document(alloc: Global, session: u32, parts: &[Part]) -> Result<Doc, AllocError>
+    requires { is_document (held_parts parts.now) ≡ true }
+    ensures { IfOk result (λ d. d ≡ document (record { session = session; parts = parts.now })) }
 {
-    let mut doc = Doc::new(alloc);
+    let mut doc = Doc::new(alloc, session);
     for part in parts {
         match doc.push(held(alloc, part)?) {
             Ok(()) => {}
@@ -135,14 +135,14 @@ fn document(alloc: Global, parts: &[Part]) -> Result<Doc, AllocError>
 /// out of that tree alone, so that nothing else stands in it. It is no longer than a store takes.
 ///
 /// Refused for want of memory alone.
-pub fn file_of(alloc: Global, parts: &[Part]) -> Result<Vec<u8>, AllocError>
-    requires { fitting parts.now ≡ Ok parts.now }
-    ensures denotes { IfOk result (λ v. ∥ Denotes v.items (document_tree parts.now) ∥₁) }
-    ensures laid_out { IfOk result (λ v. IsLaidOut (document_tree parts.now) v.items) }
+pub fn file_of(alloc: Global, saved: &FrameDocument) -> Result<Vec<u8>, AllocError>
+    requires { fitting saved.now ≡ Ok saved.now }
+    ensures denotes { IfOk result (λ v. ∥ Denotes v.items (document_tree saved.now) ∥₁) }
+    ensures laid_out { IfOk result (λ v. IsLaidOut (document_tree saved.now) v.items) }
     ensures few { IfOk result (λ v. length v.items ≤ MOST_BYTES) }
-    ensures holds { IfOk result (λ v. DocOf (document_tree parts.now) (document parts.now)) }
+    ensures holds { IfOk result (λ v. DocOf (document_tree saved.now) (document saved.now)) }
 {
-    let doc = document(alloc, parts)?;
+    let doc = document(alloc, saved.session, saved.parts.as_slice())?;
     document_is_read_again();
     files_are_taken();
     let _ = doc.as_slice();

@@ -43,7 +43,7 @@ fn lacks_memory_to_read(fault: ReadFault) -> bool
 /// Refused for want of memory alone.
 fn document_held(alloc: Global, tree: Tree) -> Result<Option<Doc>, AllocError>
     ensures held { IfOk result (IsHeldAs (kept tree).now) }
-    ensures within { IfOk result (λ d. IfSome d (λ ds. is_document ds ≡ true)) }
+    ensures within { IfOk result (λ d. IfSome d (λ doc. is_document doc.objects ≡ true)) }
 {
     match document_of(alloc, tree) {
         Ok(doc) => {
@@ -65,7 +65,7 @@ fn document_held(alloc: Global, tree: Tree) -> Result<Option<Doc>, AllocError>
 /// Refused for want of memory alone.
 pub fn document_in(alloc: Global, file: &[u8]) -> Result<Option<Doc>, AllocError>
     ensures given { IfOk result (λ d. IsReadAs (Some file.now) (as_given d)) }
-    ensures within { IfOk result (λ d. IfSome d (λ ds. is_document ds ≡ true)) }
+    ensures within { IfOk result (λ d. IfSome d (λ doc. is_document doc.objects ≡ true)) }
 {
     match read_file(alloc, file) {
         Ok(tree) => document_held(alloc, tree),

@@ -1,8 +1,8 @@
 //! The room that a frame's document needs in a file, reckoned without memory.
 
 ghost use Rattle.std.specs.Prelude.{◌+◌, ◌≡◌, ◌<◌, is_ok, length, min, nat_le, true};
-ghost use Rattle.container_model.specs.Saves.{document, document_tree, held_part, is_document, part_of, parts_in};
-ghost use Rattle.container_documents.specs.Sums.{IsTyped, comp_obj_size, long_of, object_sum, one, one_of, picture_of, short_of, streams_sum};
+ghost use Rattle.container_model.specs.Saves.{document_tree, held_part, held_parts, is_document, part_of, parts_in};
+ghost use Rattle.container_documents.specs.Sums.{IsTyped, comp_obj_size, long_of, object_sum, one, one_of, picture_of, session_of, short_of, streams_sum};
 ghost use Rattle.file_model.specs.Limits.{MOST_FAT_SECTORS};
 ghost use Rattle.file_model.specs.Need.{fat_sectors as fat_needed, long_pieces, needed, short_pieces};
 ghost use Rattle.file_model.specs.Refusals.{writable};
@@ -17,6 +17,9 @@ use stored_streams::streams::NamedStream;
 
 /// How many bytes `\1Ole` has (MS-OLEDS 2.3.3).
 const OLE_SIZE: usize = 20;
+
+/// How many bytes `Session` has.
+const SESSION_SIZE: usize = 4;
 
 /// How many entries, mini sectors and sectors of long streams are needed. Each is counted up to the bound.
 #[derive(Drop)]
@@ -132,6 +135,19 @@ impl Room {
         if size == 0 { self } else { self.stream(size) }
     }
 
+    /// With a session, which has no stream where it is 0.
+    fn session(self, session: u32) -> Room
+        ensures entries { min MANY result.entries ≡ min MANY (self.entries + session_of one_of session) }
+        ensures minis { min MANY result.minis ≡ min MANY (self.minis + session_of short_of session) }
+        ensures longs { min MANY result.longs ≡ min MANY (self.longs + session_of long_of session) }
+    {
+        if session == 0 {
+            self
+        } else {
+            self.stream(SESSION_SIZE)
+        }
+    }
+
     /// With an object's storage and its streams.
     fn object(self, object: &Object) -> Room
         requires { length object.now.user_type < PAST_USER_TYPE }
@@ -161,10 +177,10 @@ impl Room {
     }
 }
 
-/// Whether a file has room for the document of a frame. It takes no memory.
-pub(crate) fn has_room(f: u32, objects: &[Object]) -> bool
-    requires { is_document (document (parts_in f objects.now)) ≡ true }
-    ensures { result ≡ is_ok (writable (document_tree (parts_in f objects.now))) }
+/// Whether a file has room for the document of a frame, of this session. It takes no memory.
+pub(crate) fn has_room(session: u32, f: u32, objects: &[Object]) -> bool
+    requires { is_document (held_parts (parts_in f objects.now)) ≡ true }
+    ensures { result ≡ is_ok (writable (document_tree (record { session = session; parts = parts_in f objects.now }))) }
 {
     let mut room = Room::new();
     let mut count: usize = 0;
@@ -174,5 +190,5 @@ pub(crate) fn has_room(f: u32, objects: &[Object]) -> bool
             count += 1;
         }
     }
-    room.stream(8 + 8 * count).fits()
+    room.session(session).stream(8 + 8 * count).fits()
 }

@@ -24,7 +24,7 @@ use Rattle.container_grants.specs.Granted.{claims_by, claims_if}
 use Rattle.container_steady.specs.Roles.{Giving, IsClaim, Plays, SteadyGrant, queue_of, role_in, waits_as}
 use Rattle.container_steady.specs.Steady.{Steady, SteadyLink, SteadyObject}
 use Rattle.container_steady.proofs.SteadyFinds.{find-map, find-put_other, put_by_number}
-use Rattle.container_steady.proofs.SteadyLookups.{each_found, each_weaker}
+use Rattle.container_queues.proofs.SteadyLookups.{each_found, each_weaker}
 use Rattle.container_steady.proofs.SteadyRecords.{at_some, if_at}
 use Rattle.container_grants.proofs.GrantsEach.{Agrees, Differ, IsOther}
 

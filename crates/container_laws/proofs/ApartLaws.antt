@@ -36,9 +36,9 @@ use Rattle.container_steady.specs.Roles.{IsClaim, role_in}
 use Rattle.container_steady.specs.Steady.{Steady, SteadyObject}
 use Rattle.container_steady.proofs.SteadyFinds.{acts_differ, found_by_number}
 use Rattle.container_steady.proofs.SteadyHolders.{held_by, linked_by}
-use Rattle.container_steady.proofs.SteadyLookups.{each_found, each_get, nth-set_other, nth-set_same, nth-settled}
+use Rattle.container_queues.proofs.SteadyLookups.{each_found, each_get, nth-set_other, nth-set_same, nth-settled}
 use Rattle.container_steady.proofs.SteadyRecords.{Held, if_at, if_told, some_and}
-use Rattle.container_steady.proofs.SteadyRoles.{getting_at, giving_at}
+use Rattle.container_queues.proofs.SteadyRoles.{getting_at, giving_at}
 use Rattle.container_steady.proofs.SteadyTells.{ok_rec}
 use Rattle.container_steady.proofs.SteadyTests.{find_passes}
 use Rattle.container_steps.proofs.SteadyMessages.{link_goes}

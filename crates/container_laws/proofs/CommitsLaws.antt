@@ -15,45 +15,48 @@ use Rattle.container_model.specs.declared.record.Link.{Link}
 use Rattle.container_model.specs.declared.record.Object.{Object}
 use Rattle.container_model.specs.declared.record.Frame.{Frame}
 use Rattle.container_model.specs.declared.record.Phase.TheVariants.{Saving, HandingOff, Committing}
+use Rattle.container_model.specs.declared.answer.FrameDocument.{FrameDocument}
 use Rattle.container_model.specs.declared.answer.Part.{Part}
 use Rattle.container_model.specs.declared.fault.ContainerFault.{ContainerFault}
 use Rattle.container_model.specs.declared.fault.ContainerFault.TheVariants.{Full, WrongState}
 use Rattle.container_model.specs.Record.{Record, Took, ask_at, asked_all, asked_sent, is_doubtful, sends}
-use Rattle.container_model.specs.Saves.{awaits, commit_at, commit_done, commit_fitting, commit_made, completed, completion, document, document_tree, fitting, fitting_in, is_document, has_image, image, image_at, is_awaited_link, is_away, is_committing, is_keeping_link, is_ready, keeps, kept_by, kept_in, part_of, parts_in, resolved_at}
+use Rattle.container_model.specs.Saves.{awaits, commit_at, commit_done, commit_fitting, commit_made, completed, completion, document_tree, fitting, fitting_in, frame_document, held_parts, is_document, has_image, image, image_at, is_awaited_link, is_away, is_committing, is_keeping_link, is_ready, keeps, kept_by, kept_in, part_of, parts_in, resolved_at}
 use Rattle.container_laws.specs.CommitLaws.{AreParts, CommitCounts, CommitTells, Gives, HandOffWaits, HasAnswered, HasGivenAway, IsCommit, IsPart, SaveWaits, free_link, free_links, none, one, other, stored_part, stored_parts, telling}
-use Rattle.container_steady.proofs.SteadyLookups.{each_weaker, none_keeping}
+use Rattle.container_queues.proofs.SteadyLookups.{each_weaker, none_keeping}
 use Rattle.container_steady.proofs.SteadyRecords.{ready_at}
-use Rattle.container_steps.proofs.SteadyHandOffs.{handing_at}
+use Rattle.container_commands.proofs.SteadyHandOffs.{handing_at}
 use Rattle.container_model.proofs.Completing.{completed_in, completed_out}
 use Rattle.container_steady.proofs.SteadyRecords.{if_told}
 
 -- ---- a commit that succeeds
-parts_told : (parts ps : List Part) (told : Result (Unit {0}) WriteFault) → fitting_in parts told ≡ Ok ps → ps ≡ parts
-parts_told parts ps (Ok done) h = cc
-parts_told parts ps (Err fault) h = absurd (cc)
+fitting_told : (d e : FrameDocument) (told : Result (Unit {0}) WriteFault) → fitting_in d told ≡ Ok e → e ≡ d
+fitting_told d e (Ok done) h = cc
+fitting_told d e (Err fault) h = absurd (cc)
 
-fitting_parts : (parts ps : List Part) → fitting parts ≡ Ok ps → ps ≡ parts
-fitting_parts parts ps h = if_told (λ (z : Result (List Part) ContainerFault). z ≡ Ok ps → ps ≡ parts) (is_document (document parts)) (fitting_in parts (writable (document_tree parts))) (Err Full)
-    (λ t g. parts_told parts ps (writable (document_tree parts)) g)
+fitting_is : (d e : FrameDocument) → fitting d ≡ Ok e → e ≡ d
+fitting_is d e h = if_told (λ (z : Result FrameDocument ContainerFault). z ≡ Ok e → e ≡ d) (is_document (held_parts d.parts)) (fitting_in d (writable (document_tree d))) (Err Full)
+    (λ t g. fitting_told d e (writable (document_tree d)) g)
     (λ t g. cc) h
 
-image_parts : (r : Record) (f : ℕ) (found : Option Frame) (ps : List Part) → image_at r f found ≡ Ok ps → ps ≡ parts_in f r.objects
-image_parts r f None ps h = absurd (cc)
-image_parts r f (Some frame) ps h = if_told (λ (z : Result (List Part) ContainerFault). z ≡ Ok ps → ps ≡ parts_in f r.objects) (has_image frame.phase) (fitting (parts_in f r.objects)) (Err WrongState)
-    (λ t g. fitting_parts (parts_in f r.objects) ps g)
+-- what a commit writes is the frame's document
+image_is : (r : Record) (f : ℕ) (frame : Frame) (d : FrameDocument) → image_at r f (Some frame) ≡ Ok d → d ≡ frame_document frame (parts_in f r.objects)
+image_is r f frame d h =
+    let mine : FrameDocument = frame_document frame (parts_in f r.objects) in
+    if_told (λ (z : Result FrameDocument ContainerFault). z ≡ Ok d → d ≡ mine) (has_image frame.phase) (fitting mine) (Err WrongState)
+    (λ t g. fitting_is mine d g)
     (λ t g. cc) h
 
 pub record IsDone (r : Record) (f : ℕ) (t : Took) : Type 0 where
   pub frame : Frame
   pub here : nth r.frames f ≡ Some frame
-  pub counts : image r f ≡ Ok (parts_in f r.objects)
+  pub counts : image r f ≡ Ok (frame_document frame (parts_in f r.objects))
   pub made : t ≡ commit_made r f frame
 
-fitted : (r : Record) (f : ℕ) (t : Took) (frame : Frame) (told : Result (List Part) ContainerFault) → nth r.frames f ≡ Some frame → image r f ≡ told
+fitted : (r : Record) (f : ℕ) (t : Took) (frame : Frame) (told : Result FrameDocument ContainerFault) → nth r.frames f ≡ Some frame → image r f ≡ told
     → commit_fitting r f frame told ≡ Ok t → IsDone r f t
 fitted r f t frame (Err fault) here e h = absurd (cc)
-fitted r f t frame (Ok ps) here e h =
-    record { frame = frame; here = here; counts = e ∙ ap (λ (xs : List Part). Ok xs) (image_parts r f (nth r.frames f) ps e); made = cc }
+fitted r f t frame (Ok d) here e h =
+    record { frame = frame; here = here; counts = e ∙ ap (λ (x : FrameDocument). Ok x) (image_is r f frame d (ap (image_at r f) (sym here) ∙ e)); made = cc }
 
 done_if : (r : Record) (f : ℕ) (t : Took) (frame : Frame) (b : Bool) → nth r.frames f ≡ Some frame
     → (if b then commit_fitting r f frame (image r f) else Err WrongState) ≡ Ok t → IsDone r f t
@@ -110,7 +113,7 @@ stored_after f frame (o ∷ os) =
 pub commit_counts : CommitCounts
 commit_counts r f t h =
     let d : IsDone r f t = done_from r f t h in
-    (d.frame, d.here, parts_in f r.objects, d.counts, are_parts f r.objects, ap (λ (x : Took). x.counted) d.made, ap (λ (x : Took). stored_parts f x.rec.objects) d.made ∙ stored_after f d.frame r.objects)
+    (d.frame, d.here, frame_document d.frame (parts_in f r.objects), d.counts, refl, are_parts f r.objects, ap (λ (x : Took). x.counted) d.made, ap (λ (x : Took). stored_parts f x.rec.objects) d.made ∙ stored_after f d.frame r.objects)
 
 -- ---- whom it tells
 tells_at : (frame : Frame) (l : Link) (p : Option Operation) → l.pending ≡ p → sends (ask_at l (completion frame) p).sent ≡ map (telling frame) (elim p [ None ↦ l ∷ [] | Some op ↦ [] ])

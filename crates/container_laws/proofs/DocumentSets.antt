@@ -6,6 +6,7 @@ use mathlib.Core.List.{List-discrete}
 use Rattle.object_parts.specs.declared.area.Area.{Area}
 use Rattle.stored_streams.specs.declared.stored.Stored.{Stored}
 use Rattle.stored_streams.specs.declared.streams.NamedStream.{NamedStream}
+use Rattle.document_model.specs.Documents.{Doc}
 use Rattle.document_model.specs.declared.object.DocObject.{DocObject}
 
 text_decided : Discrete (List ℕ)
@@ -45,5 +46,11 @@ object_decided : Discrete DocObject
 object_decided a b = both_decided (pair_decided (text_decided a.class b.class) (text_decided a.user_type b.user_type)) (pair_decided (area_decided a.area b.area) (stored_decided a.stored b.stored)) (object_made a b)
     (λ e. (ap (λ (z : DocObject). z.class) e, ap (λ (z : DocObject). z.user_type) e)) (λ e. (ap (λ (z : DocObject). z.area) e, ap (λ (z : DocObject). z.stored) e))
 
-pub Document-set : IsSet (List DocObject)
-Document-set = hedberg (List-discrete object_decided)
+document_made : (a b : Doc) → a.session ≡ b.session → a.objects ≡ b.objects → a ≡ b
+document_made a b p q = λ i. record { session = p i; objects = q i }
+
+document_decided : Discrete Doc
+document_decided a b = both_decided (ℕ_discrete a.session b.session) (List-discrete object_decided a.objects b.objects) (document_made a b) (ap (λ (z : Doc). z.session)) (ap (λ (z : Doc). z.objects))
+
+pub Document-set : IsSet Doc
+Document-set = hedberg document_decided

@@ -40,16 +40,16 @@ use Rattle.container_steady.specs.Steady.{Steady, SteadyObject}
 use Rattle.container_steps.proofs.SteadyAnswers.{fit_replied}
 use Rattle.container_steady.proofs.SteadyClaims.{settled_ui}
 use Rattle.container_steady.proofs.SteadyFinds.{found_by_number}
-use Rattle.container_steady.proofs.SteadyLookups.{each_found, nth-set_same, nth-set_other, nth-settled}
+use Rattle.container_queues.proofs.SteadyLookups.{each_found, nth-set_same, nth-set_other, nth-settled}
 use Rattle.container_steady.proofs.SteadyHolders.{linked_by}
 use Rattle.container_steps.proofs.HandedOff.{in_ui}
 use Rattle.container_steps.proofs.SteadyMessages.{link_goes}
 use Rattle.container_steady.proofs.SteadyRecords.{Held, some_and}
 use Rattle.container_steps.proofs.SteadyReplies.{IsToldBy}
-use Rattle.container_steady.proofs.SteadyRoles.{giving_at}
+use Rattle.container_queues.proofs.SteadyRoles.{giving_at}
 use Rattle.container_steady.proofs.SteadyTells.{ok_rec}
 use Rattle.container_steady.proofs.SteadyTests.{find_passes}
-use Rattle.container_steps.proofs.SteadyVerbs.{claim_act}
+use Rattle.container_commands.proofs.SteadyVerbs.{claim_act}
 use Rattle.container_laws.proofs.WriteLaws.{taken_if, write_taken}
 
 -- only the answer to UiDeactivate tells that a frame was given up

@@ -20,7 +20,7 @@ use Rattle.container_steady.specs.Roles.{IsClaim}
 use Rattle.container_steady.specs.Steady.{EachPair, InOrder, Steady}
 use Rattle.container_steps.proofs.SteadyFates.{Hosted}
 use Rattle.container_steady.proofs.SteadyFinds.{number_apart}
-use Rattle.container_steady.proofs.SteadyLookups.{each_get, each_weaker, pairs_put}
+use Rattle.container_queues.proofs.SteadyLookups.{each_get, each_weaker, pairs_put}
 use Rattle.container_steady.proofs.SteadyMoves.{each_unit}
 use Rattle.container_steps.proofs.SteadyReaps.{ClaimsApart, Passing, claims, each_own, freed_all, freed_pairs, gone, gone_but, gone_link, passing, stays_object, waits_claim}
 use Rattle.container_steady.proofs.SteadyRecords.{TookPlace, order_left, order_right}

@@ -28,7 +28,7 @@ use Rattle.container_laws.proofs.KeepLaws.{IsTold, as_before, of_grant, all_amon
 use Rattle.container_laws.proofs.HandLaws.{regranted_same, to_asked}
 use Rattle.container_laws.proofs.MessageLaws.{taken_of}
 use Rattle.container_steady.proofs.SteadyFinds.{found_by_number, put_by_number}
-use Rattle.container_steady.proofs.SteadyLookups.{each_found, each_get}
+use Rattle.container_queues.proofs.SteadyLookups.{each_found, each_get}
 use Rattle.container_steps.proofs.HandedOff.{in_tells}
 use Rattle.container_steps.proofs.SteadyMessages.{AnswersSteadily, link_goes, took}
 use Rattle.container_steps.proofs.SteadyReaps.{each_own, passed_few}

@@ -13,6 +13,7 @@ use Rattle.container_model.specs.declared.record.Phase.TheVariants.{Saving, Hand
 use Rattle.container_model.specs.declared.answer.Action.{Action}
 use Rattle.container_model.specs.declared.answer.Action.TheVariants.{Send}
 use Rattle.container_model.specs.declared.answer.Done.{Done}
+use Rattle.container_model.specs.declared.answer.FrameDocument.{FrameDocument}
 use Rattle.container_model.specs.declared.answer.Part.{Part}
 use Rattle.container_model.specs.Record.{Record, Took}
 use Rattle.container_model.specs.HandOffs.{hands_off}
@@ -54,11 +55,11 @@ IsCommit r f t = (commit_done r f ≡ Ok t) ⊎ (resolve r f true ≡ Ok t)
 abbrev pub counted_part : ℕ → Part → Done
 counted_part k p = record { object = p.object; k = k; content = p.content }
 
--- A commit counts the frame's objects with what each gave, under the number of the frame's save, and nothing else; after it
--- their work contents are what was counted.
+-- A commit writes a document of the frame's session. It counts the frame's objects with what each gave, under the number of
+-- the frame's save, and nothing else; after it their work contents are what was counted.
 abbrev pub CommitCounts : Type 0
 CommitCounts = (r : Record) (f : ℕ) (t : Took) → IsCommit r f t
-    → (frame : Frame) × (nth r.frames f ≡ Some frame) × (parts : List Part) × (image r f ≡ Ok parts) × AreParts f r.objects parts × (t.counted ≡ map (counted_part frame.k) parts) × (stored_parts f t.rec.objects ≡ parts)
+    → (frame : Frame) × (nth r.frames f ≡ Some frame) × (d : FrameDocument) × (image r f ≡ Ok d) × (d.session ≡ frame.session) × AreParts f r.objects d.parts × (t.counted ≡ map (counted_part frame.k) d.parts) × (stored_parts f t.rec.objects ≡ d.parts)
 
 -- the activations of a frame that have no pending call
 abbrev pub free_link : Option Link → List Link

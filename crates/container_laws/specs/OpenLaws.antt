@@ -3,35 +3,38 @@ use Rattle.std.specs.Prelude.{◌≡◌, ◌≢◌, ◌+◌, ℕ, true, List, le
 use Rattle.storage_tree.specs.Tree.{Tree}
 use Rattle.file_model.specs.Denotes.{Denotes}
 use Rattle.document_model.specs.DocOf.{DocOf}
-use Rattle.document_model.specs.declared.object.DocObject.{DocObject}
-use Rattle.container_model.specs.declared.answer.Part.{Part}
+use Rattle.document_model.specs.Documents.{Doc}
+use Rattle.container_model.specs.declared.answer.FrameDocument.{FrameDocument}
+use Rattle.container_model.specs.declared.record.Frame.{Frame}
 use Rattle.container_model.specs.declared.fault.ContainerFault.TheVariants.{BadFile}
 use Rattle.container_model.specs.Record.{Record, Took}
-use Rattle.container_model.specs.Saves.{document, document_tree, image, is_document, parts_in}
+use Rattle.wire_msgs.specs.Found.{nth}
+use Rattle.container_model.specs.Saves.{document, document_tree, frame_document, image, is_document, parts_in}
 use Rattle.container_model.specs.Opens.{Given, IsReadAs, opened}
 use Rattle.container_steady.specs.Steady.{Steady}
 
 -- What a tree holds is a document within its limits.
 abbrev pub HeldIsWithin : Type 0
-HeldIsWithin = (t : Tree) (ds : List DocObject) → DocOf t ds → is_document ds ≡ true
+HeldIsWithin = (t : Tree) (d : Doc) → DocOf t d → is_document d.objects ≡ true
 
 -- A file gives one thing.
 abbrev pub FilesGiveOne : Type 0
 FilesGiveOne = (file : Option (List ℕ)) (given other : Given) → IsReadAs file given → IsReadAs file other → given ≡ other
 
 -- Bytes are the file of a document.
-pub record IsFileOf (bytes : List ℕ) (parts : List Part) : Type 0 where
-  pub denotes : ∥ Denotes bytes (document_tree parts) ∥₁
-  pub holds : DocOf (document_tree parts) (document parts)
+pub record IsFileOf (bytes : List ℕ) (d : FrameDocument) : Type 0 where
+  pub denotes : ∥ Denotes bytes (document_tree d) ∥₁
+  pub holds : DocOf (document_tree d) (document d)
 
 -- The file of a document gives it.
 abbrev pub FilesGiveTheirs : Type 0
-FilesGiveTheirs = (bytes : List ℕ) (parts : List Part) (given : Given) → IsFileOf bytes parts → IsReadAs (Some bytes) given → given ≡ Given.Holding (document parts)
+FilesGiveTheirs = (bytes : List ℕ) (d : FrameDocument) (given : Given) → IsFileOf bytes d → IsReadAs (Some bytes) given → given ≡ Given.Holding (document d)
 
--- So it is never a bad file, and where it is opened, what the new frame has is that document again.
-pub record IsOpenedAgain (u : Record) (name : List ℕ) (w h : ℕ) (given : Given) (parts : List Part) : Type 0 where
+-- So it is never a bad file, and where it is opened, what the new frame has is that document again, its session and its objects.
+pub record IsOpenedAgain (u : Record) (name : List ℕ) (w h : ℕ) (given : Given) (d : FrameDocument) : Type 0 where
   pub good : opened u name w h given ≢ Err BadFile
-  pub again : (t : Took) → opened u name w h given ≡ Ok t → document (parts_in (length u.frames + 1) t.rec.objects) ≡ document parts
+  pub again : (t : Took) → opened u name w h given ≡ Ok t
+      → (frame : Frame) × (nth t.rec.frames (length u.frames + 1) ≡ Some frame) × (document (frame_document frame (parts_in (length u.frames + 1) t.rec.objects)) ≡ document d)
 
 abbrev pub CommitsAreOpenedAgain : Type 0
-CommitsAreOpenedAgain = (r u : Record) (f : ℕ) (parts : List Part) (bytes name : List ℕ) (w h : ℕ) (given : Given) → image r f ≡ Ok parts → IsFileOf bytes parts → IsReadAs (Some bytes) given → Steady u → IsOpenedAgain u name w h given parts
+CommitsAreOpenedAgain = (r u : Record) (f : ℕ) (d : FrameDocument) (bytes name : List ℕ) (w h : ℕ) (given : Given) → image r f ≡ Ok d → IsFileOf bytes d → IsReadAs (Some bytes) given → Steady u → IsOpenedAgain u name w h given d

@@ -1,14 +1,13 @@
 -- An operation that is asked of all objects of a frame: all memory is taken first, then the objects change.
 use Rattle.std.specs.Prelude.{◌++◌, ◌+◌, ◌==◌, ◌≡◌, ◌≤◌, List, [], ◌∷◌, None, Option, Some, if◌then◌else◌, length, map, ℕ}
 use Rattle.wire_msgs.specs.declared.operation.Operation.{Operation}
-use Rattle.wire_msgs.specs.declared.message.Message.TheVariants.{Call}
 use Rattle.container_model.specs.declared.answer.Action.{Action}
 use Rattle.container_model.specs.declared.answer.Action.TheVariants.{Send}
 use Rattle.container_links.specs.declared.asking.Prepared.{Prepared}
 use Rattle.container_links.specs.declared.asking.Prepared.TheVariants.{Nothing, Now, Behind}
 use Rattle.container_model.specs.declared.record.Link.{Link}
 use Rattle.container_model.specs.declared.record.Object.{Object}
-use Rattle.container_model.specs.Record.{asked_all, sends}
+use Rattle.container_model.specs.Record.{asked_all, call, sends}
 use Rattle.container_model.specs.Room.{IfLinked}
 
 -- one more call of an object's activation can be numbered
@@ -29,7 +28,7 @@ prepared f op o = if o.frame == f then prepared_link op o.link else Nothing
 
 -- what is sent to it then, if anything
 abbrev pub called_at : Operation → Link → Option Operation → Option Action
-called_at op l None = Some (Send (Call l.inc l.act (l.last + 1) op))
+called_at op l None = Some (Send (call l (l.last + 1) op))
 called_at op l (Some before) = None
 
 abbrev pub called : Operation → Option Link → Option Action

@@ -2,7 +2,6 @@
 use Rattle.std.specs.Prelude.{◌+◌, ◌++◌, ◌||◌, ℕ, Bool, false, List, [], ◌∷◌, Option, Some, Result, Ok, Err, drop, take}
 use Rattle.wire_msgs.specs.declared.operation.Operation.{Operation}
 use Rattle.wire_msgs.specs.declared.operation.Operation.TheVariants.{HandsOff}
-use Rattle.wire_msgs.specs.declared.message.Message.TheVariants.{Call}
 use Rattle.container_model.specs.declared.answer.Action.{Action}
 use Rattle.container_model.specs.declared.answer.Action.TheVariants.{Send}
 use Rattle.container_model.specs.declared.record.Link.{Link}
@@ -10,6 +9,7 @@ use Rattle.container_model.specs.declared.record.Object.{Object}
 use Rattle.container_model.specs.declared.fault.ContainerFault.{ContainerFault}
 use Rattle.container_model.specs.HandOffs.{is_answered}
 use Rattle.container_model.specs.Messages.{Replied}
+use Rattle.container_model.specs.Record.{call}
 use Rattle.container_model.specs.Saves.{awaits}
 use Rattle.container_links.specs.declared.asking.Prepared.{Prepared}
 use Rattle.container_links.specs.declared.asking.Prepared.TheVariants.{Now, Behind}
@@ -29,7 +29,7 @@ answers before (Ok replied) = is_answered before replied.link
 
 -- what is sent to an object by what was prepared for it, and to all
 abbrev pub call_by : Prepared → Option Link → List Action
-call_by (Now n op) (Some l) = Send (Call l.inc l.act n HandsOff) ∷ []
+call_by (Now n op) (Some l) = Send (call l n HandsOff) ∷ []
 call_by p link = []
 
 abbrev pub calls_by : List Prepared → List Object → List Action

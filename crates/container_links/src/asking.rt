@@ -2,11 +2,12 @@
 
 ghost use Rattle.std.specs.Prelude.{◌++◌, ◌+◌, ◌<◌, ◌≡◌, ◌≤◌, All, IfOk, OnErr, OnOk, [], ◌∷◌, length, map, option_to_list, vec_capacity, vec_len, ℕ};
 ghost use Rattle.container_links.specs.Asking.{HasNumber, IsAsking, installed, prepared};
-ghost use Rattle.container_model.specs.Record.{ask, asked_all, asked_link, asked_object, asked_sent, sends};
+ghost use Rattle.container_model.specs.Record.{ask, asked_all, asked_link, asked_object, asked_sent, call, sends};
 ghost use Rattle.container_model.specs.Room.{IfLinked};
 ghost use Rattle.container_model.specs.declared.answer.Action.TheVariants.{Send};
 ghost use Rattle.wire_msgs.specs.declared.operation.Operation.{Operation};
 
+use crate::calling::call;
 use container_model::answer::Action;
 use container_model::record::{Link, Object};
 use std::alloc::{AllocError, Global};
@@ -29,7 +30,7 @@ fn ask(alloc: Global, link: &mut Link, operation: Operation) -> Result<Option<Me
             Ok(None)
         }
         None => {
-            let call = call(alloc, link, &operation)?;
+            let call = next_call(alloc, link, &operation)?;
             link.last += 1;
             link.pending = Some(operation);
             Ok(Some(call))
@@ -90,16 +91,15 @@ pub(crate) fn add(actions: &mut Vec<Action>, message: Message)
 }
 
 // The next call of an activation.
-pub(crate) fn call(alloc: Global, link: &Link, operation: &Operation) -> Result<Message, AllocError>
+pub(crate) fn next_call(
+    alloc: Global,
+    link: &Link,
+    operation: &Operation,
+) -> Result<Message, AllocError>
     requires { link.now.last ≤ 1000000 }
-    ensures { IfOk result (λ m. m ≡ Message.Call link.now.inc link.now.act (link.now.last + 1) operation.now) }
+    ensures { IfOk result (λ m. m ≡ call link.now (link.now.last + 1) operation.now) }
 {
-    Ok(Message::Call {
-        inc: link.inc,
-        act: link.act,
-        n: link.last + 1,
-        operation: operation.copy(alloc)?,
-    })
+    Ok(call(link, link.last + 1, operation.copy(alloc)?))
 }
 
 /// What an object takes up where it is asked.
@@ -155,7 +155,7 @@ fn calls(
         if object.frame == frame {
             if let Some(link) = &object.link {
                 if link.pending.is_none() {
-                    out.push(Action::Send(call(alloc, link, operation)?))?;
+                    out.push(Action::Send(next_call(alloc, link, operation)?))?;
                 }
             }
         }

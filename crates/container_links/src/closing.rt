@@ -6,13 +6,13 @@ ghost use Rattle.container_model.specs.Record.{ask_each, sends};
 ghost use Rattle.container_model.specs.Verbs.{operation_of};
 
 use crate::asking::copied;
+use crate::calling::call;
 use crate::requests::add_action;
 use container_model::answer::Action;
 use container_model::record::Link;
 use object_state::Step;
 use std::alloc::{AllocError, Global};
 use wire_msgs::items::Items;
-use wire_msgs::message::Message;
 use wire_msgs::operation::Operation;
 
 // The operation of a step, under a grant where it takes one.
@@ -96,12 +96,7 @@ pub fn prepare_steps(
     Ok(Stepped {
         first: Some(operation_of(g, *first)),
         waiting,
-        action: Some(Action::Send(Message::Call {
-            inc: link.inc,
-            act: link.act,
-            n: link.last + 1,
-            operation: operation_of(g, *first),
-        })),
+        action: Some(Action::Send(call(link, link.last + 1, operation_of(g, *first)))),
     })
 }
 

@@ -11,6 +11,7 @@ ghost use Rattle.wire_msgs.specs.declared.answer.Answer.TheVariants.{Content};
 ghost use Rattle.wire_msgs.specs.declared.operation.Operation.TheVariants.{HandsOff};
 
 use crate::asking::{Prepared, copied, take_up, takes};
+use crate::calling::call;
 use crate::settling::awaits;
 use crate::turns::{WhenContent, when_content};
 use container_model::answer::Action;
@@ -20,7 +21,6 @@ use std::alloc::{AllocError, Global};
 use stored_streams::stored::Stored;
 use wire_msgs::answer::Answer;
 use wire_msgs::items::Items;
-use wire_msgs::message::Message;
 use wire_msgs::operation::Operation;
 
 /// Whether an answer to the call of this number is the content that was asked for in the present save, and is taken.
@@ -141,13 +141,8 @@ fn push_call(actions: &mut Vec<Action>, take: &Prepared, link: &Option<Link>)
     let Prepared::Now(n, _) = take else {
         return;
     };
-    let message = Message::Call {
-        inc: link.inc,
-        act: link.act,
-        n: *n,
-        operation: Operation::HandsOff,
-    };
-    match actions.push(Action::Send(message)) {
+    let call = call(link, *n, Operation::HandsOff);
+    match actions.push(Action::Send(call)) {
         Ok(()) => {}
         Err(_) => unreachable!(),
     }

@@ -3,6 +3,7 @@
 #![tactic(auto)]
 
 pub mod asking;
+pub mod calling;
 pub mod closing;
 pub mod handing;
 pub mod replies;

@@ -10,6 +10,7 @@ ghost use Rattle.container_model.specs.Replies.{first_call, resumed};
 ghost use Rattle.container_model.specs.Room.{IfLinked, IsRoomy};
 ghost use Rattle.wire_msgs.specs.declared.operation.Operation.TheVariants.{UiDeactivate};
 
+use crate::calling::call;
 use crate::turns::{
     WhenContent, WhenDone, WhenRefused, grant_of, when_content, when_done, when_refused,
 };
@@ -23,7 +24,6 @@ use object_state::{Op, States};
 use std::alloc::{AllocError, Global};
 use stored_streams::stored::Stored;
 use wire_msgs::answer::Answer;
-use wire_msgs::message::Message;
 use wire_msgs::operation::Operation;
 use wire_msgs::refusal::Refusal;
 
@@ -47,12 +47,11 @@ fn next_call(alloc: Global, link: &Link) -> Result<Option<Action>, AllocError>
 {
     match link.waiting.as_slice().first() {
         None => Ok(None),
-        Some(operation) => Ok(Some(Action::Send(Message::Call {
-            inc: link.inc,
-            act: link.act,
-            n: link.last + 1,
-            operation: operation.copy(alloc)?,
-        }))),
+        Some(operation) => Ok(Some(Action::Send(call(
+            link,
+            link.last + 1,
+            operation.copy(alloc)?,
+        )))),
     }
 }
 

@@ -6,7 +6,7 @@ ghost use Rattle.container_model.specs.Record.{asked_link, asked_sent, sends};
 ghost use Rattle.container_model.specs.Room.{IfLinked};
 ghost use Rattle.wire_msgs.specs.declared.operation.Operation.{Operation};
 
-use crate::asking::{Prepared, behind, call, install};
+use crate::asking::{Prepared, behind, install, next_call};
 use container_model::answer::Action;
 use container_model::record::{Link, Object};
 use std::alloc::{AllocError, Global};
@@ -49,7 +49,7 @@ pub fn prepare_one(
             action: None,
         });
     }
-    let message = call(alloc, link, operation)?;
+    let message = next_call(alloc, link, operation)?;
     Ok(Request {
         takes: Prepared::Now(link.last + 1, operation.copy(alloc)?),
         action: Some(Action::Send(message)),

@@ -3,6 +3,7 @@
 ghost use Rattle.std.specs.Prelude.{◌≡◌, IfOk, option_to_list};
 ghost use Rattle.container_model.specs.Replies.{pending_call, pending_calls};
 
+use crate::calling::call;
 use container_model::record::{Link, Object};
 use std::alloc::{AllocError, Global};
 use wire_msgs::message::Message;
@@ -16,12 +17,7 @@ fn pending_call(alloc: Global, link: &Option<Link>) -> Result<Option<Message>, A
     };
     match &link.pending {
         None => Ok(None),
-        Some(operation) => Ok(Some(Message::Call {
-            inc: link.inc,
-            act: link.act,
-            n: link.last,
-            operation: operation.copy(alloc)?,
-        })),
+        Some(operation) => Ok(Some(call(link, link.last, operation.copy(alloc)?))),
     }
 }
 

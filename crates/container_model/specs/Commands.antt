@@ -2,7 +2,6 @@
 use Rattle.std.specs.Prelude.{◌+◌, ◌==◌, ◌&&◌, ◌||◌, ◌++◌, ℕ, Bool, true, false, not, List, [], ◌∷◌, length, map, Option, Some, None, is_some, Result, Ok, Err, if◌then◌else◌, nat_le, nat_lt, codes}
 use Rattle.std.specs.Str.{bytes_eq}
 use Rattle.wire_msgs.specs.Found.{find, put, nth, set_nth}
-use Rattle.wire_msgs.specs.declared.message.Message.TheVariants.{Call}
 use Rattle.wire_msgs.specs.declared.operation.Operation.{Operation}
 use Rattle.wire_msgs.specs.declared.operation.Operation.TheVariants.{InitNew, Load, Edit, Save}
 use Rattle.object_state.specs.Both.{loaded}
@@ -23,7 +22,7 @@ use Rattle.container_model.specs.declared.command.Command.TheVariants as command
 use Rattle.container_model.specs.declared.answer.Action.TheVariants.{Start, End}
 use Rattle.container_model.specs.declared.fault.ContainerFault.{ContainerFault}
 use Rattle.container_model.specs.declared.fault.ContainerFault.TheVariants.{NoSuch, Busy, NotRunning, InDoubt, Full, NumbersSpent, WrongState, UnknownClass}
-use Rattle.container_model.specs.Record.{Record, Took, MOST_FRAMES, MOST_OBJECTS, MOST_SERVERS, MARGIN, quiet_answer, acts, sends, is_object, is_alive, is_busy, is_moving, is_saving, is_doubtful, count_alive, count_objects, counts_none, without_first, has_numbers, link_has_numbers, asked_link, asked_sent, asked_object, asked_all, unless, with_object}
+use Rattle.container_model.specs.Record.{Record, Took, MOST_FRAMES, MOST_OBJECTS, MOST_SERVERS, MARGIN, quiet_answer, acts, call, sends, is_object, is_alive, is_busy, is_moving, is_saving, is_doubtful, count_alive, count_objects, counts_none, without_first, has_numbers, link_has_numbers, asked_link, asked_sent, asked_object, asked_all, unless, with_object}
 use Rattle.container_model.specs.Located.{located, ready}
 use Rattle.container_model.specs.Grants.{Requested}
 use Rattle.container_model.specs.Saves.{settle, settle_actions}
@@ -43,7 +42,7 @@ abbrev pub is_size : ℕ → ℕ → Bool
 is_size w h = nat_le 1 w && nat_le w 200 && nat_le 1 h && nat_le h 100
 
 abbrev pub new_frame : List ℕ → ℕ → ℕ → Frame
-new_frame name w h = record { name = name; asked = None; k = 0; ui = fresh w h; stored = false; phase = Idle }
+new_frame name w h = record { name = name; asked = None; k = 0; ui = fresh w h; stored = false; session = 0; phase = Idle }
 
 abbrev pub new_made : Record → List ℕ → ℕ → ℕ → Took
 new_made r name w h = record {
@@ -129,9 +128,10 @@ begun_link inc act op = record { inc = inc; act = act; last = 1; pending = Some 
 abbrev pub run_made : Record → Object → ℕ → Took
 run_made r o inc =
     let op = first_operation o o.work.streams in
+    let link = begun_link inc (r.last_act + 1) op in
     record {
-      rec = record r { objects = put (is_object o.number) (record o { link = Some (begun_link inc (r.last_act + 1) op) }) r.objects; last_act = r.last_act + 1 };
-      answer = acts (sends (Call inc (r.last_act + 1) 1 op ∷ []));
+      rec = record r { objects = put (is_object o.number) (record o { link = Some link }) r.objects; last_act = r.last_act + 1 };
+      answer = acts (sends (call link 1 op ∷ []));
       counted = [];
     }
 

@@ -25,7 +25,7 @@ use Rattle.container_model.specs.declared.record.Object.{Object}
 use Rattle.container_model.specs.declared.record.Frame.{Frame}
 use Rattle.container_model.specs.declared.fault.ContainerFault.{ContainerFault}
 use Rattle.container_model.specs.declared.fault.ContainerFault.TheVariants.{NoSuch, WrongLink, Stale, BadAnswer}
-use Rattle.container_model.specs.Record.{Record, Took, counts_none, quiet_answer, acts, sends, is_linked, is_alive, with_frame}
+use Rattle.container_model.specs.Record.{Record, Took, counts_none, quiet_answer, acts, call, sends, is_linked, is_alive, with_frame}
 use Rattle.container_model.specs.declared.grants.Tells.{Tells}
 use Rattle.container_model.specs.declared.grants.Tells.TheVariants.{Gets, GivesUp}
 use Rattle.container_model.specs.Grants.{Regranted, Requested, free_grants, moved, regranted, request}
@@ -118,7 +118,7 @@ pub record Sent : Type 0 where
 
 abbrev pub next_at : Link → List Operation → Sent
 next_at l [] = record { link = l; sent = [] }
-next_at l (op ∷ ops) = record { link = record l { last = l.last + 1; pending = Some op; waiting = ops }; sent = Call l.inc l.act (l.last + 1) op ∷ [] }
+next_at l (op ∷ ops) = record { link = record l { last = l.last + 1; pending = Some op; waiting = ops }; sent = call l (l.last + 1) op ∷ [] }
 
 abbrev pub next_link : Option Link → Option Link
 next_link None = None

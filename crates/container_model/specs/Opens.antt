@@ -3,6 +3,7 @@ use Rattle.std.specs.Prelude.{◌+◌, ◌≡◌, ◌++◌, ◌||◌, ℕ, not, 
 use Rattle.std.specs.List.{range_with_len}
 use Rattle.storage_tree.specs.Tree.{Tree}
 use Rattle.file_model.specs.Denotes.{Denotes}
+use Rattle.document_model.specs.Documents.{Doc}
 use Rattle.document_model.specs.DocOf.{DocOf}
 use Rattle.document_model.specs.declared.object.DocObject.{DocObject}
 use Rattle.container_model.specs.declared.record.Frame.{Frame}
@@ -13,18 +14,18 @@ use Rattle.container_model.specs.Record.{MOST_FRAMES, Record, Took, quiet_answer
 use Rattle.container_model.specs.Saves.{is_document}
 use Rattle.container_model.specs.Commands.{is_named, is_size, new_frame}
 
--- What there is under a name: no file, one that holds no document, or the objects of a document.
+-- What there is under a name: no file, one that holds no document, or a document.
 pub data Given : Type 0 where
   Missing : Given
   Broken : Given
-  Holding : List DocObject → Given
+  Holding : Doc → Given
 
 -- A file is read so: it denotes the tree of the document that is given, or no tree that holds one. What bytes denote is a
 -- relation, and so is this; there is at most one document that a file can give.
 abbrev pub IsReadAs : Option (List ℕ) → Given → Type 0
 IsReadAs None Given.Missing = ⊤
-IsReadAs (Some bytes) Given.Broken = (t : Tree) (ds : List DocObject) → Denotes bytes t → DocOf t ds → ⊥
-IsReadAs (Some bytes) (Given.Holding ds) = ∥ ((t : Tree) × Denotes bytes t × DocOf t ds) ∥₁
+IsReadAs (Some bytes) Given.Broken = (t : Tree) (d : Doc) → Denotes bytes t → DocOf t d → ⊥
+IsReadAs (Some bytes) (Given.Holding d) = ∥ ((t : Tree) × Denotes bytes t × DocOf t d) ∥₁
 IsReadAs file given = ⊥
 
 -- the objects of a document in a frame, in their order: passive, each with the next number
@@ -35,32 +36,33 @@ abbrev pub opened_objects : ℕ → ℕ → List DocObject → List Object
 opened_objects last f [] = []
 opened_objects last f (d ∷ ds) = opened_object (last + 1) f d ∷ opened_objects (last + 1) f ds
 
-abbrev pub opened_frame : List ℕ → ℕ → ℕ → Frame
-opened_frame name w h = record (new_frame name w h) { stored = true }
+-- the frame holds the document's session
+abbrev pub opened_frame : List ℕ → ℕ → ℕ → ℕ → Frame
+opened_frame name w h session = record (new_frame name w h) { stored = true; session = session }
 
-abbrev pub opened_made : Record → List ℕ → ℕ → ℕ → List DocObject → Took
-opened_made r name w h ds = record {
+abbrev pub opened_made : Record → List ℕ → ℕ → ℕ → Doc → Took
+opened_made r name w h d = record {
   rec = record r {
-    frames = r.frames ++ opened_frame name w h ∷ [];
-    objects = r.objects ++ opened_objects r.last_object (length r.frames + 1) ds;
-    last_object = r.last_object + length ds;
+    frames = r.frames ++ opened_frame name w h d.session ∷ [];
+    objects = r.objects ++ opened_objects r.last_object (length r.frames + 1) d.objects;
+    last_object = r.last_object + length d.objects;
   };
-  answer = record quiet_answer { frame = Some (length r.frames + 1); objects = range_with_len (r.last_object + 1) (length ds) };
+  answer = record quiet_answer { frame = Some (length r.frames + 1); objects = range_with_len (r.last_object + 1) (length d.objects) };
   counted = [];
 }
 
 -- (what a tree holds is always a document within its limits)
-abbrev pub opened_document : Record → List ℕ → ℕ → ℕ → List DocObject → Result Took ContainerFault
-opened_document r name w h ds =
-    unless (not (is_document ds)) BadFile
+abbrev pub opened_document : Record → List ℕ → ℕ → ℕ → Doc → Result Took ContainerFault
+opened_document r name w h d =
+    unless (not (is_document d.objects)) BadFile
     (unless (nat_le MOST_FRAMES (length r.frames)) Full
-    (unless (nat_le r.numbers (length r.frames) || nat_lt r.numbers (r.last_object + length ds)) NumbersSpent
-    (Ok (opened_made r name w h ds))))
+    (unless (nat_le r.numbers (length r.frames) || nat_lt r.numbers (r.last_object + length d.objects)) NumbersSpent
+    (Ok (opened_made r name w h d))))
 
 abbrev pub opened_given : Record → List ℕ → ℕ → ℕ → Given → Result Took ContainerFault
 opened_given r name w h Given.Missing = Err NoSuch
 opened_given r name w h Given.Broken = Err BadFile
-opened_given r name w h (Given.Holding ds) = opened_document r name w h ds
+opened_given r name w h (Given.Holding d) = opened_document r name w h d
 
 -- a name that no frame bears or asked for, and a size, are looked at before the file is
 abbrev pub opening : {A : Type 0} → Record → List ℕ → ℕ → ℕ → Result A ContainerFault → Result A ContainerFault

@@ -140,13 +140,17 @@ abbrev pub link_has_numbers : ℕ → Option Link → Bool
 link_has_numbers numbers None = true
 link_has_numbers numbers (Some l) = has_numbers numbers l
 
+-- the call of this number that asks an activation for an operation
+abbrev pub call : Link → ℕ → Operation → Message
+call l n op = Call l.inc l.act n op
+
 -- An operation is asked: at once where none is pending, else behind those that wait.
 pub record Asked : Type 0 where
   pub link : Link
   pub sent : List Message
 
 abbrev pub ask_at : Link → Operation → Option Operation → Asked
-ask_at l op None = record { link = record l { last = l.last + 1; pending = Some op }; sent = Call l.inc l.act (l.last + 1) op ∷ [] }
+ask_at l op None = record { link = record l { last = l.last + 1; pending = Some op }; sent = call l (l.last + 1) op ∷ [] }
 ask_at l op (Some before) = record { link = record l { waiting = l.waiting ++ op ∷ [] }; sent = [] }
 
 abbrev pub ask : Link → Operation → Asked

@@ -2,7 +2,6 @@
 use Rattle.std.specs.Prelude.{◌+◌, ℕ, List, [], ◌∷◌, ◌++◌, Option, Some, None, Result, Ok, Err}
 use Rattle.wire_msgs.specs.declared.refusal.Refusal.{Refusal}
 use Rattle.wire_msgs.specs.declared.message.Message.{Message}
-use Rattle.wire_msgs.specs.declared.message.Message.TheVariants.{Call}
 use Rattle.wire_msgs.specs.declared.operation.Operation.{Operation}
 use Rattle.stored_streams.specs.declared.stored.Stored.{Stored}
 use Rattle.container_model.specs.declared.record.Link.{Link}
@@ -10,7 +9,7 @@ use Rattle.container_model.specs.declared.record.Object.{Object}
 use Rattle.container_model.specs.declared.answer.Action.{Action}
 use Rattle.container_model.specs.declared.answer.Action.TheVariants.{Send}
 use Rattle.container_model.specs.declared.fault.ContainerFault.{ContainerFault}
-use Rattle.container_model.specs.Record.{sends}
+use Rattle.container_model.specs.Record.{call, sends}
 use Rattle.container_model.specs.declared.grants.Tells.{Tells}
 use Rattle.container_model.specs.Messages.{Replied, next_link, next_sent}
 
@@ -28,12 +27,12 @@ resumed (Ok replied) = Ok (record { link = next_link replied.link; taken = repli
 -- the call of the first operation that waits
 abbrev pub first_call : Link → List Operation → Option Action
 first_call l [] = None
-first_call l (op ∷ ops) = Some (Send (Call l.inc l.act (l.last + 1) op))
+first_call l (op ∷ ops) = Some (Send (call l (l.last + 1) op))
 
 -- The calls that are pending, as they were first sent, by the objects' order.
 abbrev pub pending_at : Link → Option Operation → List Message
 pending_at l None = []
-pending_at l (Some op) = Call l.inc l.act l.last op ∷ []
+pending_at l (Some op) = call l l.last op ∷ []
 
 abbrev pub pending_call : Option Link → List Message
 pending_call None = []

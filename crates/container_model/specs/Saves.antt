@@ -8,6 +8,7 @@ use Rattle.object_state.specs.declared.persist_states.PersistState.TheVariants a
 use Rattle.stored_streams.specs.declared.stored.Stored.{Stored}
 use Rattle.storage_tree.specs.Tree as tree
 use Rattle.document_model.specs.declared.object.DocObject.{DocObject}
+use Rattle.document_model.specs.Documents.{Doc}
 use Rattle.document_model.specs.DocOf.{is_object}
 use Rattle.document_model.specs.DocTree.{doc_tree}
 use Rattle.document_model.specs.Layouts.{MOST_OBJECTS}
@@ -21,6 +22,7 @@ use Rattle.container_model.specs.declared.record.Phase.TheVariants.{Idle, Saving
 use Rattle.container_model.specs.declared.answer.Action.{Action}
 use Rattle.container_model.specs.declared.answer.Action.TheVariants.{Commit}
 use Rattle.container_model.specs.declared.answer.Done.{Done}
+use Rattle.container_model.specs.declared.answer.FrameDocument.{FrameDocument}
 use Rattle.container_model.specs.declared.answer.Part.{Part}
 use Rattle.container_model.specs.declared.fault.ContainerFault.{ContainerFault}
 use Rattle.container_model.specs.declared.fault.ContainerFault.TheVariants.{NoSuch, WrongState, Full}
@@ -92,7 +94,7 @@ kept_by work (Some l) = kept_in work l.saved
 abbrev pub kept : Object → Stored
 kept o = kept_by o.work o.link
 
--- a document: the objects of a frame in order, each with the content that is counted
+-- the objects of a frame in order, each with the content that is counted
 abbrev pub part_of : Object → Part
 part_of o = record { object = o.number; class = o.class; user_type = o.user_type; area = o.area; content = kept o }
 
@@ -108,11 +110,19 @@ done_entry k part = record { object = part.object; k = k; content = part.content
 abbrev pub held_part : Part → DocObject
 held_part p = record { class = p.class; user_type = p.user_type; area = p.area; stored = p.content }
 
-abbrev pub document : List Part → List DocObject
-document parts = map held_part parts
+abbrev pub held_parts : List Part → List DocObject
+held_parts parts = map held_part parts
 
-abbrev pub document_tree : List Part → tree.Tree
-document_tree parts = doc_tree (document parts)
+-- a frame's document, of the session that the frame holds
+abbrev pub frame_document : Frame → List Part → FrameDocument
+frame_document frame parts = record { session = frame.session; parts = parts }
+
+-- the document that its file holds
+abbrev pub document : FrameDocument → Doc
+document d = record { session = d.session; objects = held_parts d.parts }
+
+abbrev pub document_tree : FrameDocument → tree.Tree
+document_tree d = doc_tree (document d)
 
 -- what a document takes: no more objects than it may have, each of them within its limits
 abbrev pub are_objects : List DocObject → Bool
@@ -123,12 +133,12 @@ abbrev pub is_document : List DocObject → Bool
 is_document objects = nat_le (length objects) MOST_OBJECTS && are_objects objects
 
 -- a document that fits into a file
-abbrev pub fitting_in : List Part → Result (Unit {0}) WriteFault → Result (List Part) ContainerFault
-fitting_in parts (Ok told) = Ok parts
-fitting_in parts (Err fault) = Err Full
+abbrev pub fitting_in : FrameDocument → Result (Unit {0}) WriteFault → Result FrameDocument ContainerFault
+fitting_in d (Ok told) = Ok d
+fitting_in d (Err fault) = Err Full
 
-abbrev pub fitting : List Part → Result (List Part) ContainerFault
-fitting parts = if is_document (document parts) then fitting_in parts (writable (document_tree parts)) else Err Full
+abbrev pub fitting : FrameDocument → Result FrameDocument ContainerFault
+fitting d = if is_document (held_parts d.parts) then fitting_in d (writable (document_tree d)) else Err Full
 
 -- The document whose file is to be committed, in a frame whose commit is asked or in doubt.
 abbrev pub has_image : Phase → Bool
@@ -136,11 +146,11 @@ has_image Committing = true
 has_image InDoubt = true
 has_image phase = false
 
-abbrev pub image_at : Record → ℕ → Option Frame → Result (List Part) ContainerFault
+abbrev pub image_at : Record → ℕ → Option Frame → Result FrameDocument ContainerFault
 image_at r f None = Err NoSuch
-image_at r f (Some frame) = if has_image frame.phase then fitting (parts_in f r.objects) else Err WrongState
+image_at r f (Some frame) = if has_image frame.phase then fitting (frame_document frame (parts_in f r.objects)) else Err WrongState
 
-abbrev pub image : Record → ℕ → Result (List Part) ContainerFault
+abbrev pub image : Record → ℕ → Result FrameDocument ContainerFault
 image r f = image_at r f (nth r.frames f)
 
 -- A commit that is done: the contents are work contents, the asked name is the name, and each object that isn't passive
@@ -180,9 +190,9 @@ abbrev pub is_committing : Phase → Bool
 is_committing Committing = true
 is_committing phase = false
 
-abbrev pub commit_fitting : Record → ℕ → Frame → Result (List Part) ContainerFault → Result Took ContainerFault
+abbrev pub commit_fitting : Record → ℕ → Frame → Result FrameDocument ContainerFault → Result Took ContainerFault
 commit_fitting r f frame (Err fault) = Err fault
-commit_fitting r f frame (Ok parts) = Ok (commit_made r f frame)
+commit_fitting r f frame (Ok d) = Ok (commit_made r f frame)
 
 abbrev pub commit_at : Record → ℕ → Option Frame → Result Took ContainerFault
 commit_at r f None = Err NoSuch

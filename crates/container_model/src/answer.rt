@@ -79,6 +79,15 @@ pub struct Done {
     pub content: Stored,
 }
 
+/// The document of a frame, as a save counts it.
+#[derive(Drop)]
+pub struct FrameDocument {
+    /// The session that its file says, 0 where there was none.
+    pub session: u32,
+    /// The frame's objects, in their order.
+    pub parts: Items<Part>,
+}
+
 /// An object of a document.
 #[derive(Drop)]
 pub struct Part {

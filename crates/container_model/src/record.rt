@@ -79,6 +79,8 @@ pub struct Frame {
     pub ui: FrameUi,
     /// Whether it was opened, or a commit of it was counted.
     pub stored: bool,
+    /// The session of the document that it was opened from, 0 for a new one. Each save writes it again.
+    pub session: u32,
     /// How far its save is.
     pub phase: Phase,
 }

@@ -13,7 +13,7 @@ use Rattle.stored_streams.specs.declared.stored.Stored.{Stored}
 use Rattle.grant_core.specs.Frames.{after}
 use Rattle.grant_core.specs.Grants as grant
 use Rattle.grant_core.specs.Grants.{Event}
-use Rattle.container_model.specs.declared.answer.Part.{Part}
+use Rattle.container_model.specs.declared.answer.FrameDocument.{FrameDocument}
 use Rattle.container_model.specs.declared.fault.ContainerFault.{ContainerFault}
 use Rattle.container_model.specs.declared.fault.ContainerFault.TheVariants.{BadAnswer, NoSuch, Stale, WrongLink, WrongState}
 use Rattle.container_model.specs.declared.grants.Tells.{Tells}
@@ -180,7 +180,7 @@ reaps r inc =
     keeps_if r (is_alive r inc) (Ok (reap_made r inc)) NoSuch (settled (reaped_saving r inc).rec ∙ (each_handed 1 granted.frames granted ∙ many))
 
 -- ---- commits
-fits : (r : Record) (f : ℕ) (frame : Frame) (parts : Result (List Part) ContainerFault) → Keeps r (commit_fitting r f frame parts)
+fits : (r : Record) (f : ℕ) (frame : Frame) (parts : Result FrameDocument ContainerFault) → Keeps r (commit_fitting r f frame parts)
 fits r f frame (Err fault) = tt
 fits r f frame (Ok parts) = length-set_nth r.frames f (committed_frame frame)
 
@@ -208,4 +208,4 @@ few_frames_after r (Input.Reaped inc) t h e = kept_few r (on_reap r inc) t (reap
 few_frames_after r (Input.Committed f) t h e = kept_few r (commit_done r f) t (commits r f (nth r.frames f)) h e
 few_frames_after r (Input.Failed f) t h e = kept_few r (commit_failed r f) t (fails r f (nth r.frames f)) h e
 few_frames_after r (Input.Resolved f is_kept) t h e = kept_few r (resolve r f is_kept) t (resolves r f is_kept (nth r.frames f)) h e
-few_frames_after r (Input.Opened name w k given) t h e = (let o = is_opened r name w k given t e in subst (λ (z : Took). FewFrames z.rec) o.made (one_more r.frames (opened_frame name w k) o.few))
+few_frames_after r (Input.Opened name w k given) t h e = (let o = is_opened r name w k given t e in subst (λ (z : Took). FewFrames z.rec) o.made (one_more r.frames (opened_frame name w k o.d.session) o.few))

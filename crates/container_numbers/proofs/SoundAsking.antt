@@ -12,7 +12,7 @@ use Rattle.container_model.specs.declared.record.Phase.TheVariants.{Idle, Saving
 use Rattle.container_model.specs.Grants.{moved}
 use Rattle.container_model.specs.Record.{Record, ask_each, asked_link, has_numbers, is_object, link_has_numbers, with_object}
 use Rattle.container_model.specs.Room.{IfLinked, IsRoomy, debt, debt_in}
-use Rattle.container_steady.proofs.SteadyLookups.{each_found}
+use Rattle.container_queues.proofs.SteadyLookups.{each_found}
 use Rattle.container_numbers.proofs.SoundGrants.{asks_less, grant_few}
 use Rattle.container_numbers.proofs.SoundMoves.{move_owed}
 use Rattle.container_numbers.proofs.SoundRooms.{Owing, Within, debts, each_asked_roomy, put_within}

@@ -16,7 +16,7 @@ use Rattle.container_model.specs.Room.{HasNumbers, IfLinked, IsRoomy, debt_in}
 use Rattle.container_model.specs.Commands
 use Rattle.container_steady.specs.Steady.{Steady}
 use Rattle.container_steady.proofs.SteadyCounts.{each_without}
-use Rattle.container_steady.proofs.SteadyLookups.{each_append, each_set, each_weaker, nth-set_other, pairs_map}
+use Rattle.container_queues.proofs.SteadyLookups.{each_append, each_set, each_weaker, nth-set_other, pairs_map}
 use Rattle.container_steady.proofs.SteadyTells.{if_told}
 use Rattle.container_steady.specs.Made.{IsMade, makes_activation, makes_edit, makes_end, makes_fewer, makes_frame, makes_nothing, makes_object, makes_save, makes_server, makes_steps, makes_taking, run_by}
 use Rattle.container_steady.specs.Taken.{edited}

@@ -13,7 +13,7 @@ use Rattle.container_model.specs.Room.{IfLinked, IsRoomy, debt, debt_in, grant_d
 use Rattle.container_model.specs.Grants.{Requested}
 use Rattle.container_model.specs.HandOffs.{hand_off, hand_off_at, hand_off_each, hand_off_in, handed_off, handing_frame, hands_off, hands_off_at, unasked}
 use Rattle.container_model.specs.Saves.{awaits}
-use Rattle.container_steady.proofs.SteadyLookups.{each_map, each_nth, each_set, nth-set_other, nth-set_same, pairs_map}
+use Rattle.container_queues.proofs.SteadyLookups.{each_map, each_nth, each_set, nth-set_other, nth-set_same, pairs_map}
 use Rattle.container_steady.proofs.SteadyTells.{if_told}
 use Rattle.container_numbers.proofs.SoundRooms.{Differs, IsSaved, Owing, Within, asked_linked, debts, length-set_nth}
 

@@ -32,7 +32,7 @@ use Rattle.container_model.specs.Messages.{Replied, ask_found, ask_framed, is_he
 use Rattle.container_steady.specs.Roles.{IsClaim, SteadyGrant}
 use Rattle.container_steady.specs.Steady.{Steady}
 use Rattle.container_steady.proofs.SteadyFinds.{acts_differ, found_by_number}
-use Rattle.container_steady.proofs.SteadyLookups.{each_both, each_found, each_nth, each_weaker}
+use Rattle.container_queues.proofs.SteadyLookups.{each_both, each_found, each_nth, each_weaker}
 use Rattle.container_steady.proofs.SteadyHolders.{asked_state, held_by, linked_by}
 use Rattle.container_steady.proofs.SteadyTells.{if_told, ok_rec}
 use Rattle.container_steady.proofs.SteadyTests.{find_passes}

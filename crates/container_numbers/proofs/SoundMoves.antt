@@ -16,7 +16,7 @@ use Rattle.container_model.specs.Room.{IfLinked, IsRoomy, debt, debt_in, grant_d
 use Rattle.container_steady.specs.Roles.{IsClaim}
 use Rattle.container_steady.specs.Steady.{EachPair, InOrder, Steady}
 use Rattle.container_steady.proofs.SteadyFinds.{here, number_apart}
-use Rattle.container_steady.proofs.SteadyLookups.{each_both, each_found, each_put, each_set, each_weaker, nth-set_other, nth-set_same}
+use Rattle.container_queues.proofs.SteadyLookups.{each_both, each_found, each_put, each_set, each_weaker, nth-set_other, nth-set_same}
 use Rattle.container_steady.proofs.SteadyTells.{if_at}
 use Rattle.container_numbers.proofs.SoundGrants.{told}
 use Rattle.container_numbers.proofs.SoundRooms.{IsSaved, Owing, Within, asked_linked, debts, length-set_nth, put_apart, put_within, within_less}

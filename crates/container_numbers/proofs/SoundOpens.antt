@@ -21,6 +21,6 @@ one_sound f n r d held h =
 pub opens_keep : {Greatest : ℕ → Type 0} (r : Record) (name : List ℕ) (w k : ℕ) (given : Given) (t : Took) → HasNumbers Greatest r → opened r name w k given ≡ Ok t → HasNumbers Greatest t.rec
 opens_keep {Greatest} r name w k given t h e =
     let o = is_opened r name w k given t e in
-    let start : HasNumbers Greatest (framed r (opened_frame name w k)) = frame_sound r (opened_frame name w k) h o.numbers (omega arith) (λ n. refl) in
+    let start : HasNumbers Greatest (framed r (opened_frame name w k o.d.session)) = frame_sound r (opened_frame name w k o.d.session) h o.numbers (omega arith) (λ n. refl) in
     subst (λ (z : Took). HasNumbers Greatest z.rec) o.made
-    (each_opened (HasLeft Greatest) (length r.frames + 1) (one_sound (length r.frames + 1)) o.ds (framed r (opened_frame name w k)) o.within (record { sound = start; left = o.objects })).sound
+    (each_opened (HasLeft Greatest) (length r.frames + 1) (one_sound (length r.frames + 1)) o.d.objects (framed r (opened_frame name w k o.d.session)) o.within (record { sound = start; left = o.objects })).sound

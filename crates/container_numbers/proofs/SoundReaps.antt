@@ -19,7 +19,7 @@ use Rattle.container_model.specs.Messages.{on_reap, reap_made, reaped, reaped_gr
 use Rattle.container_model.specs.Room.{HasNumbers, debt_in, grant_debt}
 use Rattle.container_model.specs.Saves.{kept}
 use Rattle.container_steady.specs.Steady.{Steady}
-use Rattle.container_steady.proofs.SteadyLookups.{each_both, each_map, pairs_map}
+use Rattle.container_queues.proofs.SteadyLookups.{each_both, each_map, pairs_map}
 use Rattle.container_steady.proofs.SteadyTells.{if_told}
 use Rattle.container_numbers.proofs.SoundGrants.{Pays, pays_stays, pays_told, told, told-append, told_waits}
 use Rattle.container_numbers.proofs.SoundHandOffs.{hand_off_within}

@@ -12,7 +12,7 @@ use Rattle.container_model.specs.declared.record.Frame.{Frame}
 use Rattle.container_model.specs.Record.{Record, ask, ask_at, ask_each, asked_link, is_object}
 use Rattle.container_model.specs.Room.{IfLinked, IsRoomy, debt_in, HasNumbers}
 use Rattle.container_steady.specs.Steady.{EachPair, InOrder, Steady}
-use Rattle.container_steady.proofs.SteadyLookups.{each_found, each_put, each_weaker}
+use Rattle.container_queues.proofs.SteadyLookups.{each_found, each_put, each_weaker}
 
 -- ---- what each object owes
 abbrev pub Owing : ℕ → (ℕ → ℕ → ℕ) → Object → Type 0

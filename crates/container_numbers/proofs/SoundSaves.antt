@@ -13,7 +13,7 @@ use Rattle.container_model.specs.Record.{Record, Took, asked_link}
 use Rattle.container_model.specs.Room.{HasNumbers, IfLinked, IsRoomy, debt, debt_in, grant_debt}
 use Rattle.container_model.specs.Saves.{commit_done, commit_doubted, commit_failed, awaits, cleared, commit_at, commit_made, committed_frame, completed, completion, doubted_frame, dropped_frame, dropped_object, kept, resolve, resolved_at, save_dropped, is_ready, is_ready_at, keeps, settle, settled_frame, settled_frames}
 use Rattle.container_model.proofs.Completing.{completed_in, completed_out}
-use Rattle.container_steady.proofs.SteadyLookups.{each_map, each_nth, each_set, each_settled, each_weaker, nth-set_other, nth-set_same}
+use Rattle.container_queues.proofs.SteadyLookups.{each_map, each_nth, each_set, each_settled, each_weaker, nth-set_other, nth-set_same}
 use Rattle.container_steady.proofs.SteadyTells.{if_told}
 use Rattle.container_numbers.proofs.SoundRooms.{IsSaved, Owing, Within, all_of, asked_linked, debts, each_of, length-set_nth, owes_less}
 use Rattle.container_steady.specs.Steady.{IsUnsettled}

@@ -23,7 +23,7 @@ use Rattle.container_model.specs.Room.{HasNumbers, IfLinked, IsRoomy}
 use Rattle.container_model.specs.Verbs.{before_taking, claim_of, claimed, gives_up, holder_has_numbers, holder_of, leaving_made, object_has_numbers, operation_of, revoked, revoked_at, stepped_link, steps_now, taking_made}
 use Rattle.container_steady.specs.Made.{IsRow, IsTaking, row_of_close, row_of_verb}
 use Rattle.container_steady.proofs.SteadyFinds.{find-put_other, find-put_same}
-use Rattle.container_steady.proofs.SteadyLookups.{each_found, each_nth}
+use Rattle.container_queues.proofs.SteadyLookups.{each_found, each_nth}
 use Rattle.container_steady.proofs.SteadyTells.{if_told}
 use Rattle.container_steady.proofs.SteadyTests.{found_numbered}
 use Rattle.container_numbers.proofs.SoundAsking.{asked_checked, asks_debts, debts_few, one_asked}

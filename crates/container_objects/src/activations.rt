@@ -6,6 +6,7 @@ ghost use Rattle.container_model.specs.declared.answer.Action.TheVariants.{Send}
 ghost use Rattle.embed_core.specs.Kinds.{class_of};
 ghost use Rattle.wire_msgs.specs.declared.message.Message.TheVariants.{Call};
 
+use container_links::calling::call;
 use container_model::answer::Action;
 use container_model::command::ObjectKind;
 use container_model::record::{Link, Object};
@@ -17,7 +18,6 @@ use stored_streams::stored::Stored;
 use stored_values::bytes::Bytes;
 use stored_values::class_id::ClassId;
 use wire_msgs::items::Items;
-use wire_msgs::message::Message;
 use wire_msgs::operation::Operation;
 
 /// A passive object of a kind, without content.
@@ -91,14 +91,7 @@ pub fn begun(
     ensures sent { IfOk result (λ b. b.1 ≡ Send (Call inc act 1 (first_operation object.now object.now.work.streams)) ∷ []) }
 {
     let operation = first_operation(alloc, object)?;
-    let call = Message::Call {
-        inc,
-        act,
-        n: 1,
-        operation: operation.copy(alloc)?,
-    };
-    let mut actions = Items::new(alloc);
-    actions.push(Action::Send(call))?;
+    let asked = operation.copy(alloc)?;
     let link = Link {
         inc,
         act,
@@ -110,6 +103,8 @@ pub fn begun(
         w: 0,
         saved: None,
     };
+    let mut actions = Items::new(alloc);
+    actions.push(Action::Send(call(&link, 1, asked)))?;
     Ok((link, actions))
 }
 

@@ -9,9 +9,9 @@ use grant_core::FrameUi;
 use std::alloc::{AllocError, Global};
 use stored_values::bytes::Bytes;
 
-/// A frame of a file that is opened, under the file's name.
-pub fn opened_frame(name: Bytes, w: u16, h: u16) -> Frame
-    ensures { result ≡ opened_frame name w h }
+/// A frame of a file that is opened, under the file's name. It holds the session of the file's document.
+pub fn opened_frame(name: Bytes, w: u16, h: u16, session: u32) -> Frame
+    ensures { result ≡ opened_frame name w h session }
 {
     Frame {
         name,
@@ -19,6 +19,7 @@ pub fn opened_frame(name: Bytes, w: u16, h: u16) -> Frame
         k: 0,
         ui: FrameUi::new(w, h),
         stored: true,
+        session,
         phase: Phase::Idle,
     }
 }

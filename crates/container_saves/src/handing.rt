@@ -9,13 +9,13 @@ ghost use Rattle.wire_msgs.specs.declared.operation.Operation.TheVariants.{Hands
 
 use crate::rooms::{FrameRooms, Room};
 use container_checks::frames::Frames;
+use container_links::calling::call;
 use container_links::settling::hands_off;
 use container_model::answer::Action;
 use container_model::record::{Frame, Link, Object, Phase};
 use std::alloc::Global;
 use std::mem;
 use wire_msgs::items::Items;
-use wire_msgs::message::Message;
 use wire_msgs::operation::Operation;
 
 /// Whether a frame is saving under another name.
@@ -74,12 +74,7 @@ fn ask_link(alloc: Global, link: &mut Link, room: Room, actions: &mut Vec<Action
     }
     link.last += 1;
     link.pending = Some(Operation::HandsOff);
-    let call = Message::Call {
-        inc: link.inc,
-        act: link.act,
-        n: link.last,
-        operation: Operation::HandsOff,
-    };
+    let call = call(link, link.last, Operation::HandsOff);
     match actions.push(Action::Send(call)) {
         Ok(()) => {}
         Err(_) => unreachable!(),

@@ -23,7 +23,7 @@ use Rattle.container_model.specs.Saves.{awaits, is_awaited_link, settle, settle_
 use Rattle.std.specs.List.{AllByRecursion}
 use Rattle.container_model.specs.Room.{IsSound}
 use Rattle.container_steady.specs.Steady.{EachPair, InOrder, Steady, SteadyObject}
-use Rattle.container_steady.proofs.SteadyLookups.{each_both, each_weaker}
+use Rattle.container_queues.proofs.SteadyLookups.{each_both, each_weaker}
 use Rattle.container_objects.specs.Told.{ToldObject, told_of}
 
 -- an object that isn't waited for takes another's place

@@ -49,6 +49,7 @@ impl State {
             k: 0,
             ui: FrameUi::new(w, h),
             stored: false,
+            session: 0,
             phase: Phase::Idle,
         };
         if self.frames.push(frame).is_err() {

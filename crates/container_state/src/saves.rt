@@ -8,7 +8,7 @@ ghost use Rattle.container_model.specs.Room.{IsSound};
 ghost use Rattle.container_model.specs.declared.fault.ContainerFault.{ContainerFault};
 ghost use Rattle.container_model.specs.declared.record.Phase.TheVariants.{Idle};
 ghost use Rattle.container_steady.specs.Steady.{Steady};
-ghost use Rattle.container_steps.specs.Saving.{named, unready};
+ghost use Rattle.container_commands.specs.Saving.{named, unready};
 
 use crate::state::State;
 use container_checks::checks;

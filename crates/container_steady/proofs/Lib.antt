@@ -5,15 +5,10 @@ pub mod SteadyCloses
 pub mod SteadyContents
 pub mod SteadyCounts
 pub mod SteadyDocuments
-pub mod SteadyEnding
 pub mod SteadyFinds
 pub mod SteadyHolders
-pub mod SteadyLinks
-pub mod SteadyLookups
 pub mod SteadyMoves
-pub mod SteadyQueues
 pub mod SteadyRecords
-pub mod SteadyRoles
 pub mod SteadyShapes
 pub mod SteadyTells
 pub mod SteadyTests

@@ -19,16 +19,17 @@ use Rattle.container_steady.proofs.SteadyTests.{not_false}
 held_opened : (r : Record) (name : List ℕ) (w h : ℕ) (given : Given) (t : Took) → is_named name r.frames ≡ false → is_size w h ≡ true → opened_given r name w h given ≡ Ok t → IsOpened r name w h given t
 held_opened r name w h Given.Missing t unnamed size e = cc
 held_opened r name w h Given.Broken t unnamed size e = cc
-held_opened r name w h (Given.Holding ds) t unnamed size e =
+held_opened r name w h (Given.Holding d) t unnamed size e =
+    let ds = d.objects in
     let a = unless_ok (not (is_document ds)) BadFile _ t e in
     let b = unless_ok (nat_le MOST_FRAMES (length r.frames)) Full _ t a.1 in
     let c = unless_ok (nat_le r.numbers (length r.frames) || nat_lt r.numbers (r.last_object + length ds)) NumbersSpent _ t b.1 in
     let held = and_both (nat_le (length ds) MOST_OBJECTS) (are_objects ds) (not_false (is_document ds) a.0) in
     let drawn = or_false (nat_le r.numbers (length r.frames)) (nat_lt r.numbers (r.last_object + length ds)) c.0 in
     let made = c.1 in
-    let is : opened_made r name w h ds ≡ t = cc in
+    let is : opened_made r name w h d ≡ t = cc in
     record {
-      ds = ds;
+      d = d;
       holds = refl;
       unnamed = unnamed;
       size = size;

@@ -3,15 +3,15 @@ use Rattle.std.proofs.Common.{◌≡◌, ◌≢◌, ℕ, Bool, true, false, List
 use Rattle.wire_msgs.specs.Found.{nth}
 use Rattle.container_model.specs.Record.{Record, Took, is_doubtful}
 use Rattle.container_model.specs.Saves.{image, commit_done, commit_at, commit_doubted, commit_failed, commit_fitting, commit_made, failed_at, is_committing, resolve, resolved_at, save_dropped}
-use Rattle.container_model.specs.declared.answer.Part.{Part}
+use Rattle.container_model.specs.declared.answer.FrameDocument.{FrameDocument}
 use Rattle.container_model.specs.declared.record.Frame.{Frame}
 use Rattle.container_model.specs.declared.record.Phase.{Phase}
 use Rattle.container_model.specs.declared.record.Phase.TheVariants.{Idle, Saving, HandingOff, Committing, InDoubt}
 use Rattle.container_model.specs.declared.fault.ContainerFault.{ContainerFault}
 use Rattle.container_model.specs.declared.fault.ContainerFault.TheVariants.{WrongState}
-use Rattle.container_steady.specs.Steady.{IsUnsettled}
+use Rattle.container_queues.specs.Steady.{IsUnsettled}
 
-fitting_commit : (r : Record) (f : ℕ) (frame : Frame) (told : Result (List Part) ContainerFault) (t : Took) → commit_fitting r f frame told ≡ Ok t → commit_made r f frame ≡ t
+fitting_commit : (r : Record) (f : ℕ) (frame : Frame) (told : Result FrameDocument ContainerFault) (t : Took) → commit_fitting r f frame told ≡ Ok t → commit_made r f frame ≡ t
 fitting_commit r f frame (Err fault) t e = cc
 fitting_commit r f frame (Ok parts) t e = cc
 

@@ -13,9 +13,9 @@ use Rattle.container_model.specs.declared.record.Frame.{Frame}
 use Rattle.container_model.specs.declared.record.Phase.TheVariants.{Committing}
 use Rattle.container_model.specs.Record.{Record, is_object, without_first}
 use Rattle.container_model.specs.Saves.{is_ready, settled_frame, settled_frames}
-use Rattle.container_steady.specs.Roles.{IsClaim, Giving, Other, SteadyGrant, role_in, waits_as}
+use Rattle.container_queues.specs.Roles.{IsClaim, Giving, Other, SteadyGrant, role_in, waits_as}
 use Rattle.container_steady.proofs.SteadyFinds.{find-map, find-put_other, find-put_same, find-without_other}
-use Rattle.container_steady.proofs.SteadyLookups.{nth-set_same, nth-set_other}
+use Rattle.container_queues.proofs.SteadyLookups.{nth-set_same, nth-set_other}
 use Rattle.container_steady.proofs.SteadyTells.{if_told, if_each}
 
 -- an activation that stays, under its number

@@ -5,10 +5,10 @@ use Rattle.wire_msgs.specs.Found.{nth}
 use Rattle.wire_msgs.specs.declared.operation.Operation.{Operation}
 use Rattle.wire_msgs.specs.declared.operation.Operation.TheVariants.{Close}
 use Rattle.container_model.specs.declared.record.Phase.{Phase}
-use Rattle.container_steady.specs.Roles.{role_in}
-use Rattle.container_steady.specs.Steady.{queue_of, IsTimely, SteadyLink, SteadyObject, ClosesAreOpen}
-use Rattle.container_steady.proofs.SteadyEnding.{closing_open}
-use Rattle.container_steady.proofs.SteadyLookups.{each_found}
+use Rattle.container_queues.specs.Roles.{role_in}
+use Rattle.container_queues.specs.Steady.{queue_of, IsTimely, SteadyLink, SteadyObject, ClosesAreOpen}
+use Rattle.container_queues.proofs.SteadyEnding.{closing_open}
+use Rattle.container_queues.proofs.SteadyLookups.{each_found}
 use Rattle.container_steady.proofs.SteadyRecords.{some_and, if_at, Held}
 
 pub closes-are_open : ClosesAreOpen

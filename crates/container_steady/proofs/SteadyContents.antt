@@ -10,9 +10,9 @@ use Rattle.container_model.specs.declared.record.Frame.{Frame}
 use Rattle.container_model.specs.declared.record.Phase.{Phase}
 use Rattle.container_model.specs.Record.{is_object, asked_link, asked_object}
 use Rattle.container_model.specs.Saves.{kept, kept_by, kept_in, cleared, completion, completed, dropped_object}
-use Rattle.container_steady.specs.Roles.{role_in}
-use Rattle.container_steady.specs.Steady.{SteadyLink, SteadyObject, IsSavedIn, IsUnsettled, CommitsAnsweredContents}
-use Rattle.container_steady.proofs.SteadyLookups.{each_found}
+use Rattle.container_queues.specs.Roles.{role_in}
+use Rattle.container_queues.specs.Steady.{SteadyLink, SteadyObject, IsSavedIn, IsUnsettled, CommitsAnsweredContents}
+use Rattle.container_queues.proofs.SteadyLookups.{each_found}
 use Rattle.container_steady.proofs.SteadyRecords.{if_told, at_some, if_at, Held}
 
 -- what becomes of an object, whether it is of the frame or not

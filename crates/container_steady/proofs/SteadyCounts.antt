@@ -5,7 +5,7 @@ use Rattle.std.specs.List.{AllByRecursion}
 use Rattle.wire_msgs.specs.Found.{find, put}
 use Rattle.container_model.specs.declared.record.Object.{Object}
 use Rattle.container_model.specs.Record.{count_objects, without_first}
-use Rattle.container_steady.specs.Steady.{EachPair}
+use Rattle.container_queues.specs.Steady.{EachPair}
 
 pub count_put : (f : ℕ) (test : Object → Bool) (a x : Object) (os : List Object) → find test os ≡ Some x → a.frame ≡ x.frame → count_objects f (put test a os) ≡ count_objects f os
 count_put f test a x [] e h = refl

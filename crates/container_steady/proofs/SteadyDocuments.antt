@@ -12,14 +12,14 @@ use Rattle.file_model.specs.declared.fault.WriteFault.TheVariants.{TooBig}
 use Rattle.object_parts.specs.Limits.{is_within}
 use Rattle.ole_parts.specs.CompObjs.{PAST_USER_TYPE}
 use Rattle.storage_tree.specs.Tree.{Tree}
-use Rattle.container_model.specs.declared.answer.Part.{Part}
+use Rattle.container_model.specs.declared.answer.FrameDocument.{FrameDocument}
 use Rattle.container_model.specs.declared.record.Frame.{Frame}
 use Rattle.container_model.specs.declared.record.Object.{Object}
 use Rattle.container_model.specs.declared.fault.ContainerFault.{ContainerFault}
 use Rattle.container_model.specs.declared.fault.ContainerFault.TheVariants.{WrongState, Full}
 use Rattle.container_model.specs.Record.{Record, MOST_OBJECTS, count_objects}
-use Rattle.container_model.specs.Saves.{are_objects, document, document_tree, fitting, fitting_in, has_image, image_at, is_document, kept, part_of, parts_in}
-use Rattle.container_steady.specs.Steady.{DocumentsHold, FullByTheFileAlone, SteadyObject}
+use Rattle.container_model.specs.Saves.{are_objects, document_tree, fitting, fitting_in, frame_document, has_image, held_parts, image_at, is_document, kept, part_of, parts_in}
+use Rattle.container_queues.specs.Steady.{DocumentsHold, FullByTheFileAlone, SteadyObject}
 use Rattle.container_steady.proofs.SteadyRecords.{if_told, some_and, Held, kept_object_within}
 
 both_hold : (a b : Bool) → a ≡ true → b ≡ true → (a && b) ≡ true
@@ -27,9 +27,9 @@ both_hold true b e g = g
 both_hold false b e g = cc
 
 -- as many parts as objects
-parts_counted : (f : ℕ) (os : List Object) → length (document (parts_in f os)) ≡ count_objects f os
+parts_counted : (f : ℕ) (os : List Object) → length (held_parts (parts_in f os)) ≡ count_objects f os
 parts_counted f [] = refl
-parts_counted f (o ∷ os) = elim (o.frame == f) as (λ b. length (document (if b then part_of o ∷ parts_in f os else parts_in f os)) ≡ (if b then 1 + count_objects f os else count_objects f os)) [
+parts_counted f (o ∷ os) = elim (o.frame == f) as (λ b. length (held_parts (if b then part_of o ∷ parts_in f os else parts_in f os)) ≡ (if b then 1 + count_objects f os else count_objects f os)) [
   | true ↦ (let up : suc (count_objects f os) ≡ 1 + count_objects f os = omega arith in ap suc (parts_counted f os) ∙ up)
   | false ↦ parts_counted f os
 ]
@@ -40,18 +40,18 @@ object_held r o h =
     let s = some_and (Held r o.number o.link) (nth r.frames o.frame) h.linked in
     both_hold (is_within (kept o)) (nat_lt (length o.user_type) PAST_USER_TYPE) (kept_object_within r o s.0 h.within s.2) h.user_type
 
-parts_held : (r : Record) (f : ℕ) (os : List Object) → AllByRecursion (SteadyObject r) os → are_objects (document (parts_in f os)) ≡ true
+parts_held : (r : Record) (f : ℕ) (os : List Object) → AllByRecursion (SteadyObject r) os → are_objects (held_parts (parts_in f os)) ≡ true
 parts_held r f [] h = refl
-parts_held r f (o ∷ os) h = elim (o.frame == f) as (λ b. are_objects (document (if b then part_of o ∷ parts_in f os else parts_in f os)) ≡ true) [
-  | true ↦ both_hold (is_within (kept o) && nat_lt (length o.user_type) PAST_USER_TYPE) (are_objects (document (parts_in f os))) (object_held r o h.0) (parts_held r f os h.1)
+parts_held r f (o ∷ os) h = elim (o.frame == f) as (λ b. are_objects (held_parts (if b then part_of o ∷ parts_in f os else parts_in f os)) ≡ true) [
+  | true ↦ both_hold (is_within (kept o) && nat_lt (length o.user_type) PAST_USER_TYPE) (are_objects (held_parts (parts_in f os))) (object_held r o h.0) (parts_held r f os h.1)
   | false ↦ parts_held r f os h.1
 ]
 
 pub documents-hold : DocumentsHold
 documents-hold r f s =
-    let few : length (document (parts_in f r.objects)) ≤ MOST_OBJECTS = subst (λ (n : ℕ). n ≤ MOST_OBJECTS) (sym (parts_counted f r.objects)) (s.count f) in
-    both_hold (nat_le (length (document (parts_in f r.objects))) MOST_OBJECTS) (are_objects (document (parts_in f r.objects)))
-    (le-leb (length (document (parts_in f r.objects))) MOST_OBJECTS few) (parts_held r f r.objects s.objects)
+    let few : length (held_parts (parts_in f r.objects)) ≤ MOST_OBJECTS = subst (λ (n : ℕ). n ≤ MOST_OBJECTS) (sym (parts_counted f r.objects)) (s.count f) in
+    both_hold (nat_le (length (held_parts (parts_in f r.objects))) MOST_OBJECTS) (are_objects (held_parts (parts_in f r.objects)))
+    (le-leb (length (held_parts (parts_in f r.objects))) MOST_OBJECTS few) (parts_held r f r.objects s.objects)
 
 -- what is refused is the tree alone
 too_big : (t : Tree) (fault : WriteFault) → writable t ≡ Err fault → writable t ≡ Err TooBig
@@ -60,19 +60,25 @@ too_big t fault e = elim (nat_lt MOST_FAT_SECTORS (fat_sectors (data_sectors t))
   | false ↦ (λ g. cc)
 ] e
 
-full_told : (parts : List Part) (told : Result (Unit {0}) WriteFault) → fitting_in parts told ≡ Err Full → (fault : WriteFault) × (told ≡ Err fault)
-full_told parts (Ok done) e = cc
-full_told parts (Err fault) e = (fault, refl)
+full_told : (d : FrameDocument) (told : Result (Unit {0}) WriteFault) → fitting_in d told ≡ Err Full → (fault : WriteFault) × (told ≡ Err fault)
+full_told d (Ok done) e = cc
+full_told d (Err fault) e = (fault, refl)
 
-full_fitting : (parts : List Part) (b : Bool) → b ≡ true → (if b then fitting_in parts (writable (document_tree parts)) else Err Full) ≡ Err Full → writable (document_tree parts) ≡ Err TooBig
-full_fitting parts true d e = (let w = full_told parts (writable (document_tree parts)) e in too_big (document_tree parts) w.0 w.1)
-full_fitting parts false d e = cc
+full_fitting : (d : FrameDocument) (b : Bool) → b ≡ true → (if b then fitting_in d (writable (document_tree d)) else Err Full) ≡ Err Full → writable (document_tree d) ≡ Err TooBig
+full_fitting d true is e = (let w = full_told d (writable (document_tree d)) e in too_big (document_tree d) w.0 w.1)
+full_fitting d false is e = cc
 
-full_image : (r : Record) (f : ℕ) (found : Option Frame) → is_document (document (parts_in f r.objects)) ≡ true → image_at r f found ≡ Err Full → writable (document_tree (parts_in f r.objects)) ≡ Err TooBig
-full_image r f None d e = cc
-full_image r f (Some frame) d e = if_told (λ (z : Result (List Part) ContainerFault). z ≡ Err Full → writable (document_tree (parts_in f r.objects)) ≡ Err TooBig) (has_image frame.phase) (fitting (parts_in f r.objects)) (Err WrongState)
-    (λ t g. full_fitting (parts_in f r.objects) (is_document (document (parts_in f r.objects))) d g)
-    (λ t g. cc) e
+full_image : (r : Record) (f : ℕ) (found : Option Frame) → nth r.frames f ≡ found → is_document (held_parts (parts_in f r.objects)) ≡ true → image_at r f found ≡ Err Full
+    → (frame : Frame) × (nth r.frames f ≡ Some frame) × (writable (document_tree (frame_document frame (parts_in f r.objects))) ≡ Err TooBig)
+full_image r f None at is e = cc
+full_image r f (Some frame) at is e =
+    let d : FrameDocument = frame_document frame (parts_in f r.objects) in (
+      frame,
+      at,
+      if_told (λ (z : Result FrameDocument ContainerFault). z ≡ Err Full → writable (document_tree d) ≡ Err TooBig) (has_image frame.phase) (fitting d) (Err WrongState)
+          (λ t g. full_fitting d (is_document (held_parts (parts_in f r.objects))) is g)
+          (λ t g. cc) e,
+    )
 
 pub full-by_the_file_alone : FullByTheFileAlone
-full-by_the_file_alone r f s e = full_image r f (nth r.frames f) (documents-hold r f s) e
+full-by_the_file_alone r f s e = full_image r f (nth r.frames f) refl (documents-hold r f s) e

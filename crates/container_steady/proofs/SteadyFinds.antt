@@ -7,8 +7,8 @@ use Rattle.wire_msgs.specs.Found.{find, put}
 use Rattle.container_model.specs.declared.record.Link.{Link}
 use Rattle.container_model.specs.declared.record.Object.{Object}
 use Rattle.container_model.specs.Record.{is_object, is_link, is_linked, without_first}
-use Rattle.container_steady.specs.Steady.{InOrder, EachPair, OneObjectAnActivation}
-use Rattle.container_steady.proofs.SteadyLookups.{each_found}
+use Rattle.container_queues.specs.Steady.{InOrder, EachPair, OneObjectAnActivation}
+use Rattle.container_queues.proofs.SteadyLookups.{each_found}
 use Rattle.container_steady.proofs.SteadyTells.{if_at}
 
 -- an object that stands further on has another number

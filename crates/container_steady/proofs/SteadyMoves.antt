@@ -13,11 +13,11 @@ use Rattle.grant_core.specs.declared.grant_states.GrantState.TheVariants as stat
 use Rattle.container_model.specs.declared.record.Object.{Object}
 use Rattle.container_model.specs.declared.record.Frame.{Frame}
 use Rattle.container_model.specs.Record.{Record, MOST_OBJECTS, count_objects, is_object, with_frame}
-use Rattle.container_steady.specs.Roles.{Role, Getting, Holding, Giving, Waiting, SteadyGrant, role_in}
-use Rattle.container_steady.specs.Steady.{SteadyLink, SteadyObject, SteadyFrame, InOrder, EachPair, Steady}
+use Rattle.container_queues.specs.Roles.{Role, Getting, Holding, Giving, Waiting, SteadyGrant, role_in}
+use Rattle.container_queues.specs.Steady.{SteadyLink, SteadyObject, SteadyFrame, InOrder, EachPair, Steady}
 use Rattle.container_steady.proofs.SteadyClaims.{LinkStays, claim_kept, grant_kept, keeps_put, keeps_refl, set_back}
 use Rattle.container_steady.proofs.SteadyCounts.{count_put}
-use Rattle.container_steady.proofs.SteadyLookups.{each_nth, each_set, each_weaker, nth-set_same, nth-set_other, pairs_put}
+use Rattle.container_queues.proofs.SteadyLookups.{each_nth, each_set, each_weaker, nth-set_same, nth-set_other, pairs_put}
 use Rattle.container_steady.proofs.SteadyRecords.{Held, TookPlace, and_some, at_some, order_left, order_right, some_and}
 
 -- what holds of each object but those of these numbers

@@ -16,11 +16,11 @@ use Rattle.container_model.specs.declared.record.Phase.{Phase}
 use Rattle.container_model.specs.declared.record.Phase.TheVariants.{Idle, Saving, HandingOff, Committing, InDoubt}
 use Rattle.container_model.specs.Record.{Record, MOST_OBJECTS, is_object}
 use Rattle.container_model.specs.Saves.{kept, kept_by, kept_in, awaits, is_awaited_link, is_away, is_keeping_link, is_ready, is_ready_at, keeps, settled_frame, settled_frames, settle}
-use Rattle.container_steady.specs.Roles.{IsClaim, Other, SteadyGrant, role_in}
-use Rattle.container_steady.specs.Steady.{IsAskedIn, MayBeStored, SteadyLink, SteadyObject, SteadyFrame, InOrder, Steady, SteadyFromTheStart}
-use Rattle.container_steady.proofs.SteadyLookups.{each_weaker, each_both, each_put, pairs_put, nth-settled, each_nth, each_settled, none_awaited, none_keeping}
+use Rattle.container_queues.specs.Roles.{IsClaim, Other, SteadyGrant, role_in}
+use Rattle.container_queues.specs.Steady.{IsAskedIn, MayBeStored, SteadyLink, SteadyObject, SteadyFrame, InOrder, Steady, SteadyFromTheStart}
+use Rattle.container_queues.proofs.SteadyLookups.{each_weaker, each_both, each_put, pairs_put, nth-settled, each_nth, each_settled, none_awaited, none_keeping}
 use Rattle.container_steady.proofs.SteadyCounts.{count_put}
-use Rattle.container_steady.proofs.SteadyLinks.{now_away, now_committing}
+use Rattle.container_queues.proofs.SteadyLinks.{now_away, now_committing}
 use Rattle.container_steady.proofs.SteadyClaims.{Names, KeepsLink, LinkStays, claim_kept, grant_kept, keeps_put, keeps_put_other, keeps_refl, named_part, none_there, settled_back}
 use Rattle.container_steady.proofs.SteadyFinds.{found_by_number, put_by_number}
 pub use Rattle.container_steady.proofs.SteadyTells.{if_told, unless_ok, or_false, some_and, and_some, at_some, if_weaker, if_at}

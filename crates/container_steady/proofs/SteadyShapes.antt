@@ -5,8 +5,8 @@ use Rattle.wire_msgs.specs.declared.message.Message.{Message}
 use Rattle.wire_msgs.specs.declared.operation.Operation.{Operation}
 use Rattle.container_model.specs.declared.record.Object.{Object}
 use Rattle.container_model.specs.Record.{is_object, asked_sent, asked_all}
-use Rattle.container_steady.specs.Steady.{InOrder, EachPair}
-use Rattle.container_steady.proofs.SteadyLookups.{each_found}
+use Rattle.container_queues.specs.Steady.{InOrder, EachPair}
+use Rattle.container_queues.proofs.SteadyLookups.{each_found}
 use Rattle.container_steady.proofs.SteadyTells.{if_told}
 use Rattle.container_steady.proofs.SteadyFinds.{number_apart, here}
 

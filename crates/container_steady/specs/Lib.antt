@@ -1,5 +1,5 @@
 pub mod Made
 pub mod Opened
-pub mod Roles
-pub mod Steady
+pub use Rattle.container_queues.specs.Roles
+pub use Rattle.container_queues.specs.Steady
 pub mod Taken

@@ -11,9 +11,9 @@ use Rattle.container_model.specs.Record.{Record, asked_link, asked_object}
 use Rattle.container_model.specs.Grants.{Requested}
 use Rattle.container_model.specs.HandOffs.{hand_off_at, hand_off_each, hand_off_in, handed_off, handing_frame, hands_off, unasked}
 use Rattle.container_model.specs.Saves.{awaits}
-use Rattle.container_steady.proofs.SteadyLookups.{nth-set_other, nth-set_same}
+use Rattle.container_queues.proofs.SteadyLookups.{nth-set_other, nth-set_same}
 use Rattle.container_steady.proofs.SteadyRecords.{if_told}
-use Rattle.container_steps.proofs.SteadyHandOffs.{handing_at}
+use Rattle.container_commands.proofs.SteadyHandOffs.{handing_at}
 
 -- an object whose frame hands off is asked for its storage
 pub record Handed (frames : List Frame) (o later : Object) : Type 0 where

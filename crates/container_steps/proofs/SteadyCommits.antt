@@ -18,10 +18,10 @@ use Rattle.grant_core.specs.declared.grant_states.GrantState.{GrantState}
 use Rattle.container_steady.specs.Roles.{Role, SteadyGrant, role_in}
 use Rattle.container_steady.specs.Steady.{IsUnsettled, SteadyLink, SteadyObject, SteadyFrame, InOrder, Steady}
 use Rattle.container_steady.proofs.Settling.{done_commits, is_dropped, is_failed, kept_commits}
-use Rattle.container_steady.proofs.SteadyLookups.{each_map, each_set, each_weaker, pairs_map}
+use Rattle.container_queues.proofs.SteadyLookups.{each_map, each_set, each_weaker, pairs_map}
 use Rattle.container_steady.proofs.SteadyContents.{completed_if, dropped_if}
 use Rattle.container_steady.proofs.SteadyCounts.{count_map}
-use Rattle.container_steady.proofs.SteadyLinks.{completion_asked, drop_asked, now_doubtful, undoubted}
+use Rattle.container_queues.proofs.SteadyLinks.{completion_asked, drop_asked, now_doubtful, undoubted}
 use Rattle.container_steady.proofs.SteadyRecords.{at_some, Held, kept_object_within, Follows, TookPlace, order_both}
 use Rattle.container_steady.proofs.SteadyClaims.{LinkStays, claim_kept, grant_kept, keeps_map, keeps_refl, set_back}
 use Rattle.container_steady.proofs.SteadyMoves.{set_object, unset_object}

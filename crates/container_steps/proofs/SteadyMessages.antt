@@ -37,17 +37,17 @@ use Rattle.container_steps.proofs.SteadyAnswers.{GivesItsOwn, Keeps, OwnGiven, f
 use Rattle.container_steady.proofs.SteadyClaims.{LinkStays}
 use Rattle.container_steady.proofs.SteadyFinds.{acts_differ, find-put_other, found_by_number, put_by_number}
 use Rattle.container_steady.proofs.SteadyHolders.{asked_state, held_by, linked_by}
-use Rattle.container_steady.proofs.SteadyLinks.{end_asked, grant_asked}
-use Rattle.container_steady.proofs.SteadyLookups.{each_found}
+use Rattle.container_queues.proofs.SteadyLinks.{end_asked, grant_asked}
+use Rattle.container_queues.proofs.SteadyLookups.{each_found}
 use Rattle.container_steady.proofs.SteadyMoves.{But, SteadyBut, all_steady, gets_it, gives_it, has_it, move_but, moved_to, parts_freed, parts_got, parts_passed, put_but, set_object, waits_for_it}
 use Rattle.container_steady.proofs.SteadyRecords.{if_told, some_and, and_some, if_at, Held, IsOut, kept_within, Follows, TookPlace, put_steady, settle_steady}
-use Rattle.container_steps.proofs.SteadyHandOffs.{hand_off_in_steady}
+use Rattle.container_commands.proofs.SteadyHandOffs.{hand_off_in_steady}
 use Rattle.container_steps.proofs.SteadyReplies.{EndsOther, IsToldBy, Stays, fits_is_fit, fitting_taken, replied_goes, role_after}
-use Rattle.container_steady.proofs.SteadyRoles.{AtGranting, AtRevoking, getting_at, giving_at}
-use Rattle.container_steps.proofs.SteadyTaking.{asked_object_steady}
+use Rattle.container_queues.proofs.SteadyRoles.{AtGranting, AtRevoking, getting_at, giving_at}
+use Rattle.container_commands.proofs.SteadyTaking.{asked_object_steady}
 use Rattle.container_steady.proofs.SteadyTells.{and_both, ok_rec}
 use Rattle.container_steady.proofs.SteadyTests.{asked_follows, find_passes, found_numbered, link_asked}
-use Rattle.container_steps.proofs.SteadyVerbs.{ended_grant, ended_parts}
+use Rattle.container_commands.proofs.SteadyVerbs.{ended_grant, ended_parts}
 
 -- an answer that is taken
 module _ (r : Record) (frame : Frame) (n : ℕ) where

@@ -17,7 +17,7 @@ use Rattle.container_steady.proofs.Opening.{each_opened, framed, is_opened, nth_
 use Rattle.container_steady.proofs.SteadyCounts.{count_append}
 use Rattle.container_steady.proofs.SteadyRecords.{some_and, Held}
 use Rattle.container_steady.proofs.SteadyTells.{and_both}
-use Rattle.container_steps.proofs.SteadyCommands.{frame_steady, object_steady}
+use Rattle.container_commands.proofs.SteadyCommands.{frame_steady, object_steady}
 
 -- no object is in a frame that isn't there
 pub elsewhere : (r : Record) (o : Object) → SteadyObject r o → o.frame ≡ length r.frames + 1 → ⊥
@@ -53,13 +53,13 @@ one_more f frame n r d held h =
 pub opened_keeps : (r : Record) (name : List ℕ) (w h : ℕ) (given : Given) (t : Took) → Steady r → opened r name w h given ≡ Ok t → Steady t.rec
 opened_keeps r name w h given t s e =
     let o = is_opened r name w h given t e in
-    let frame : Frame = opened_frame name w h in
+    let frame : Frame = opened_frame name w h o.d.session in
     let f : ℕ = length r.frames + 1 in
     let empty : count_objects f r.objects ≡ 0 = none_in r r.objects s.objects in
     let most = o.most in
-    let places : HasPlaces f frame (length o.ds) (framed r frame) = record {
+    let places : HasPlaces f frame (length o.d.objects) (framed r frame) = record {
       steady = frame_steady r frame s (record { asked = refl }) refl;
       there = nth_last r.frames frame;
-      room = subst (λ (m : ℕ). m + length o.ds ≤ MOST_OBJECTS) (sym empty) (omega (arith, most));
+      room = subst (λ (m : ℕ). m + length o.d.objects ≤ MOST_OBJECTS) (sym empty) (omega (arith, most));
     } in
-    subst (λ (z : Took). Steady z.rec) o.made (each_opened (HasPlaces f frame) f (one_more f frame) o.ds (framed r frame) o.within places).steady
+    subst (λ (z : Took). Steady z.rec) o.made (each_opened (HasPlaces f frame) f (one_more f frame) o.d.objects (framed r frame) o.within places).steady

@@ -19,18 +19,18 @@ use Rattle.container_model.specs.Saves.{kept}
 use Rattle.container_model.specs.Messages.{on_reap, reaped, reaped_grants, reaped_saving, reaped_object}
 use Rattle.container_steady.specs.Roles.{IsClaim, Getting, Role, SteadyGrant, Waiting, role_in}
 use Rattle.container_steady.specs.Steady.{SteadyFrame, SteadyLink, SteadyObject, InOrder, EachPair, Steady}
-use Rattle.container_steps.proofs.SteadyHandOffs.{hand_off_steady}
+use Rattle.container_commands.proofs.SteadyHandOffs.{hand_off_steady}
 use Rattle.container_steps.proofs.SteadyAnswers.{none_follows}
 use Rattle.container_steady.proofs.SteadyClaims.{claim_kept, keeps_map}
 use Rattle.container_steady.proofs.SteadyCounts.{count_map}
 use Rattle.container_steps.proofs.SteadyFates.{Fate, stays, ends, unwaits, passes, Hosted, keeps_part, granted_part, fate, grant_after, part_after}
 use Rattle.container_steady.proofs.SteadyFinds.{find-map, find-put_other, here, number_apart}
-use Rattle.container_steady.proofs.SteadyLinks.{grant_asked, link_moved}
-use Rattle.container_steady.proofs.SteadyLookups.{each_both, each_found, each_map, each_weaker, nth-set_other, pairs_map}
+use Rattle.container_queues.proofs.SteadyLinks.{grant_asked, link_moved}
+use Rattle.container_queues.proofs.SteadyLookups.{each_both, each_found, each_map, each_weaker, nth-set_other, pairs_map}
 use Rattle.container_steady.proofs.SteadyMoves.{But, SteadyBut, all_steady, but_all, gets_it, put_but, waits_for_it}
 use Rattle.container_steady.proofs.SteadyRecords.{if_told, some_and, and_some, at_some, Held, kept_object_within, TookPlace, order_both, settle_steady}
 use Rattle.container_steady.proofs.SteadyShapes.{Among}
-use Rattle.container_steps.proofs.SteadyTaking.{asked_part}
+use Rattle.container_commands.proofs.SteadyTaking.{asked_part}
 use Rattle.container_steady.proofs.SteadyTells.{ok_rec}
 use Rattle.container_steady.proofs.SteadyTests.{asked_follows, find_passes, link_asked}
 

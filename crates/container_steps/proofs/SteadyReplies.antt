@@ -36,9 +36,9 @@ use Rattle.container_model.specs.Messages.{Replied, closed, closed_with, granted
 use Rattle.container_steady.specs.Roles.{Role, Other, Getting, Holding, Giving, IsPlain, IsShown, Plays}
 use Rattle.container_steady.specs.Steady.{HasStorage, queue_of, ended, EndsWell, IsBeginning, PastFirstCall, IsTimely, IsSavedIn, MayBeStored, SteadyLink}
 use Rattle.container_steps.specs.Steps.{Fits}
-use Rattle.container_steady.proofs.SteadyEnding.{closing_other}
-use Rattle.container_steady.proofs.SteadyQueues.{LeavesRunning, first_other, has_begun, joined_ok, taken, done_past, edit_taken, none_asked_again, save_scribbles}
-use Rattle.container_steady.proofs.SteadyRoles.{activated, deactivated, getting_role, giving_role, plain_shown, plays_pop, shown_as}
+use Rattle.container_queues.proofs.SteadyEnding.{closing_other}
+use Rattle.container_queues.proofs.SteadyQueues.{LeavesRunning, first_other, has_begun, joined_ok, taken, done_past, edit_taken, none_asked_again, save_scribbles}
+use Rattle.container_queues.proofs.SteadyRoles.{activated, deactivated, getting_role, giving_role, plain_shown, plays_pop, shown_as}
 
 -- the first operation that waits is sent
 module _ (servers : List Bool) (last_act : ℕ) (phase : Phase) (asked : Option (List ℕ)) (k : ℕ) (role : Role) where

@@ -5,7 +5,7 @@ use Rattle.container_steady.specs.Steady.{Steady}
 use Rattle.container_model.specs.Inputs.{Input, Leads}
 use Rattle.container_steps.specs.Steps.{SteadyAfter, SteadyAlways}
 use Rattle.container_steady.proofs.SteadyRecords.{empty_steady}
-use Rattle.container_steps.proofs.SteadyCommands.{on_command_keeps}
+use Rattle.container_commands.proofs.SteadyCommands.{on_command_keeps}
 use Rattle.container_steps.proofs.SteadyMessages.{on_message_keeps}
 use Rattle.container_steps.proofs.SteadyOpens.{opened_keeps}
 use Rattle.container_steps.proofs.SteadyReaps.{on_reap_keeps}

@@ -3,13 +3,12 @@
 use crate::answers::is_fault;
 use crate::words::counts;
 use container_core::container::ContainerCore;
-use container_model::answer::Part;
+use container_model::answer::FrameDocument;
 use container_model::fault::ContainerFault;
 use std::alloc::Global;
 use std::str::SplitWhitespace;
-use wire_msgs::items::Items;
 
-fn parts(alloc: Global, core: &ContainerCore) -> Result<Items<Part>, ContainerFault> {
+fn document(alloc: Global, core: &ContainerCore) -> Result<FrameDocument, ContainerFault> {
     core.document(alloc, 1)
 }
 
@@ -19,8 +18,8 @@ pub(crate) fn is_document(
     core: &ContainerCore,
     words: &mut SplitWhitespace<'_>,
 ) -> bool {
-    match parts(alloc, core) {
-        Ok(parts) => counts(words, parts.len()),
+    match document(alloc, core) {
+        Ok(document) => counts(words, document.parts.len()),
         Err(fault) => is_fault(fault, words),
     }
 }
@@ -28,7 +27,7 @@ pub(crate) fn is_document(
 fn commit_image(
     alloc: Global,
     core: &ContainerCore,
-) -> Result<(Items<Part>, Vec<u8>), ContainerFault> {
+) -> Result<(FrameDocument, Vec<u8>), ContainerFault> {
     core.commit_image(alloc, 1)
 }
 
@@ -50,7 +49,7 @@ pub(crate) fn is_file(
     words: &mut SplitWhitespace<'_>,
 ) -> bool {
     match commit_image(alloc, core) {
-        Ok((parts, file)) => counts(words, parts.len()) && is_image(alloc, core, &file),
+        Ok((document, file)) => counts(words, document.parts.len()) && is_image(alloc, core, &file),
         Err(fault) => is_fault(fault, words),
     }
 }

@@ -97,7 +97,7 @@ fn object(rt: &impl Abort, alloc: Global) -> DocObject {
 
 /// A file with an object of a class that no server has.
 fn other(rt: &impl Abort, alloc: Global) -> Vec<u8> {
-    let mut doc = Doc::new(alloc);
+    let mut doc = Doc::new(alloc, 0);
     doc.push(object(rt, alloc)).expect(rt, "an object");
     let tree = document_tree(alloc, doc).expect(rt, "memory");
     written(rt, alloc, &tree)

@@ -1,5 +1,6 @@
 -- What document a tree holds.
-use Rattle.std.specs.Prelude.{ℕ, ◌+◌, ◌&&◌, ◌≡◌, ◌∷◌, ◌++◌, List, [], Bool, cond, length, nat_lt, nat_le, Option, Some, None, Result, Ok, Err}
+use Rattle.std.specs.Prelude.{ℕ, ◌+◌, ◌&&◌, ◌≡◌, ◌∷◌, ◌++◌, List, [], Bool, cond, length, nat_eq, nat_lt, nat_le, Option, Some, None, Result, Ok, Err}
+use Rattle.std.specs.Int.{w32, from_le_bytes}
 use Rattle.cfb_names.specs.Names.{key}
 use Rattle.object_parts.specs.Limits.{OLE, COMP_OBJ, OLE_PRES, is_within}
 use Rattle.object_parts.specs.declared.area.Area.{Area}
@@ -8,7 +9,8 @@ use Rattle.storage_tree.specs.Change.{Seen, bytes, inner, find, without}
 use Rattle.stored_streams.specs.Streams.{is_next}
 use Rattle.stored_streams.specs.declared.streams.NamedStream.{NamedStream}
 use Rattle.ole_parts.specs.CompObjs.{PAST_USER_TYPE, user_type_read}
-use Rattle.document_model.specs.DocTree.{LAYOUT, object_name}
+use Rattle.document_model.specs.Documents.{Doc, no_objects}
+use Rattle.document_model.specs.DocTree.{LAYOUT, SESSION, object_name}
 use Rattle.ole_parts.specs.Fields.{on_ok}
 use Rattle.document_model.specs.Layouts.{MOST_OBJECTS, layout_read}
 use Rattle.ole_parts.specs.OleStreams.{ole_read}
@@ -61,26 +63,38 @@ abbrev pub is_object : DocObject → Bool
 is_object o = is_within o.stored && nat_lt (length o.user_type) PAST_USER_TYPE
 
 -- a document with one more object
-abbrev pub pushed : List DocObject → DocObject → Result (List DocObject) OleFault
-pushed objects o = cond (nat_le MOST_OBJECTS (length objects)) (Err TooManyObjects) (cond (is_object o) (Ok (objects ++ o ∷ [])) (Err NotADocument))
+abbrev pub pushed : Doc → DocObject → Result Doc OleFault
+pushed d o = cond (nat_le MOST_OBJECTS (length d.objects)) (Err TooManyObjects) (cond (is_object o) (Ok (record d { objects = d.objects ++ o ∷ [] })) (Err NotADocument))
 
 -- a document with the object of this number and this area, which stands in the storage of its name
-abbrev pub object_pushed : List DocObject → ℕ → Area → Children → Result (List DocObject) OleFault
-object_pushed objects number area cs =
-    on_ok (λ o. pushed objects o) (on_ok (λ t. object_read area t) (as_storage (find (key (object_name number)) cs)))
+abbrev pub object_pushed : Doc → ℕ → Area → Children → Result Doc OleFault
+object_pushed d number area cs =
+    on_ok (λ o. pushed d o) (on_ok (λ t. object_read area t) (as_storage (find (key (object_name number)) cs)))
 
--- The objects behind others, each with its area; there is nothing else.
-abbrev pub objects_behind : List DocObject → ℕ → List Area → Children → Result (List DocObject) OleFault
+-- The objects behind those of a document, each with its area; there is nothing else.
+abbrev pub objects_behind : Doc → ℕ → List Area → Children → Result Doc OleFault
 objects_behind before number [] none = Ok before
 objects_behind before number [] (stream k name b cs) = Err NotADocument
 objects_behind before number [] (storage k name t cs) = Err NotADocument
 objects_behind before number (area ∷ areas) cs =
-    on_ok (λ objects. objects_behind objects (number + 1) areas (without (key (object_name number)) cs)) (object_pushed before number area cs)
+    on_ok (λ d. objects_behind d (number + 1) areas (without (key (object_name number)) cs)) (object_pushed before number area cs)
+
+-- The session in four bytes, least byte first; where there is no stream it is 0.
+abbrev pub session_of_bytes : List ℕ → Result ℕ OleFault
+session_of_bytes b = cond (nat_eq (length b) 4) (Ok (from_le_bytes w32 b)) (Err NotADocument)
+
+abbrev pub session_read : Option (List ℕ × Seen) → Result ℕ OleFault
+session_read None = Ok 0
+session_read (Some (name, bytes b)) = session_of_bytes b
+session_read (Some (name, inner t)) = Err NotADocument
+
+-- the document of these areas: its session is read and taken away, then its objects
+abbrev pub behind_layout : List Area → Children → Result Doc OleFault
+behind_layout areas cs = on_ok (λ session. objects_behind (no_objects session) 1 areas (without (key SESSION) cs)) (session_read (find (key SESSION) cs))
 
 -- The document of a tree, or why it holds none. Its class and all state bits are free.
-abbrev pub doc_read : Tree → Result (List DocObject) OleFault
-doc_read (tree class state cs) =
-    on_ok (λ areas. objects_behind [] 1 areas (without (key LAYOUT) cs)) (on_ok layout_read (as_stream (find (key LAYOUT) cs)))
+abbrev pub doc_read : Tree → Result Doc OleFault
+doc_read (tree class state cs) = on_ok (λ areas. behind_layout areas (without (key LAYOUT) cs)) (on_ok layout_read (as_stream (find (key LAYOUT) cs)))
 
-abbrev pub DocOf : Tree → List DocObject → Type 0
-DocOf t objects = doc_read t ≡ Ok objects
+abbrev pub DocOf : Tree → Doc → Type 0
+DocOf t d = doc_read t ≡ Ok d

@@ -1,11 +1,13 @@
 -- The tree of a document.
-use Rattle.std.specs.Prelude.{ℕ, ◌+◌, ◌/◌, ◌%◌, ◌∷◌, List, [], cond, map, nat_lt}
+use Rattle.std.specs.Prelude.{ℕ, zero, suc, ◌+◌, ◌/◌, ◌%◌, ◌∷◌, List, [], cond, map, nat_lt}
+use Rattle.std.specs.Int.{w32, to_le_bytes}
 use Rattle.cfb_names.specs.Names.{key}
 use Rattle.object_parts.specs.Limits.{OLE, COMP_OBJ, OLE_PRES}
 use Rattle.storage_tree.specs.Tree.{Tree, Children, tree, none}
 use Rattle.storage_tree.specs.Change.{Seen, bytes, inner, place}
 use Rattle.stored_streams.specs.declared.streams.NamedStream.{NamedStream}
 use Rattle.ole_parts.specs.CompObjs.{comp_obj_bytes}
+use Rattle.document_model.specs.Documents.{Doc}
 use Rattle.document_model.specs.Layouts.{layout_bytes}
 use Rattle.ole_parts.specs.OleStreams.{ole_bytes}
 use Rattle.document_model.specs.declared.object.DocObject.{DocObject}
@@ -17,6 +19,10 @@ ROOT_CLASS = 0x00 ∷ 0x2a ∷ 0x1d ∷ 0x6f ∷ 0x4b ∷ 0x3c ∷ 0x5f ∷ 0x4e
 -- "Layout"
 abbrev pub LAYOUT : List ℕ
 LAYOUT = 76 ∷ 97 ∷ 121 ∷ 111 ∷ 117 ∷ 116 ∷ []
+
+-- "Session"
+abbrev pub SESSION : List ℕ
+SESSION = 83 ∷ 101 ∷ 115 ∷ 115 ∷ 105 ∷ 111 ∷ 110 ∷ []
 
 -- a number below 100 in decimal
 abbrev pub decimal : ℕ → List ℕ
@@ -56,6 +62,11 @@ abbrev pub with_objects : ℕ → List DocObject → Children → Children
 with_objects number [] cs = cs
 with_objects number (o ∷ os) cs = placed (object_name number) (inner (object_tree o)) (with_objects (number + 1) os cs)
 
--- The root: its class, state bits 0, a storage for each object, and the layout.
-abbrev pub doc_tree : List DocObject → Tree
-doc_tree objects = tree ROOT_CLASS 0 (placed LAYOUT (bytes (layout_bytes (map (λ o. o.area) objects))) (with_objects 1 objects none))
+-- the number of a session beside others, in four bytes; session 0 has no stream
+abbrev pub with_session : ℕ → Children → Children
+with_session zero cs = cs
+with_session (suc n) cs = placed SESSION (bytes (to_le_bytes w32 (suc n))) cs
+
+-- The root: its class, state bits 0, a storage for each object, the session, and the layout.
+abbrev pub doc_tree : Doc → Tree
+doc_tree d = tree ROOT_CLASS 0 (placed LAYOUT (bytes (layout_bytes (map (λ o. o.area) d.objects))) (with_session d.session (with_objects 1 d.objects none)))

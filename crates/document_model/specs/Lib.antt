@@ -1,3 +1,4 @@
+pub mod Documents
 pub mod Layouts
 pub mod DocTree
 pub mod DocOf

@@ -103,7 +103,7 @@ pub(crate) fn kind(rt: &impl Abort, alloc: Global, user_type: &[u8]) -> Bytes {
         .expect(rt, "memory")
 }
 
-fn make_storage(rt: &impl Abort, tree: &mut Tree, name: Name) {
+pub(crate) fn make_storage(rt: &impl Abort, tree: &mut Tree, name: Name) {
     tree.make_storage(&[name], ClassId::from_bytes([7; 16]), 0)
         .expect(rt, "a new storage");
 }

@@ -1,7 +1,8 @@
 //! Documents and their trees.
 
 use crate::calls::{
-    bytes, doc_of, doc_told, layout, name, object, pushed, put, remove, tree_of, tree_with,
+    bytes, doc_of, doc_told, layout, make_storage, name, object, pushed, put, remove, tree_of,
+    tree_with,
 };
 use crate::texts::{spelled, word};
 use cfb_names::name::Name;
@@ -163,7 +164,7 @@ fn takes(
 
 /// A document with two objects.
 fn two(rt: &impl Abort, alloc: Global) -> Doc {
-    let mut doc = Doc::new(alloc);
+    let mut doc = Doc::new(alloc, 0);
     assert!(rt; takes(rt, alloc, &mut doc, 1, UNDRAWN, b"ab"));
     assert!(rt; takes(rt, alloc, &mut doc, 2, b"", b""));
     doc
@@ -186,7 +187,7 @@ fn is_file(rt: &impl Abort, alloc: Global, tree: &Tree, size: usize) -> bool {
 
 #[test]
 fn an_empty_document_is_a_file(rt: HostRuntime) {
-    let tree = tree_of(&rt, rt.alloc(), Doc::new(rt.alloc()));
+    let tree = tree_of(&rt, rt.alloc(), Doc::new(rt.alloc(), 0));
     assert!(rt; tree.root().children.len() == 1);
     assert!(rt; is_file(&rt, rt.alloc(), &tree, 2560));
 }
@@ -203,7 +204,7 @@ fn a_document_is_read_again(rt: HostRuntime) {
 
 #[test]
 fn a_document_holds_what_fits(rt: HostRuntime) {
-    let mut doc = Doc::new(rt.alloc());
+    let mut doc = Doc::new(rt.alloc(), 0);
     for row in PUSHES.split('\n') {
         assert!(rt; is_pushed(&rt, rt.alloc(), &mut doc, row), "{row}");
     }
@@ -222,4 +223,34 @@ fn trees_hold_documents_or_none(rt: HostRuntime) {
     }
     let undrawn = doc_of(&rt, rt.alloc(), with_empty_picture(&rt, rt.alloc()));
     assert!(rt; is_undrawn(&undrawn));
+}
+
+/// A document without objects, with a stream `Session` of these bytes.
+fn of_session(rt: &impl Abort, alloc: Global, stream: &[u8]) -> Tree {
+    let mut tree = tree_of(rt, alloc, Doc::new(alloc, 0));
+    put(rt, &mut tree, &[names::session()], bytes(rt, alloc, stream));
+    tree
+}
+
+#[test]
+fn a_document_has_its_session(rt: HostRuntime) {
+    for session in [0, 1, 513, 4_294_967_295] {
+        let tree = tree_of(&rt, rt.alloc(), Doc::new(rt.alloc(), session));
+        let children = if session == 0 { 1 } else { 2 };
+        assert!(rt; tree.root().children.len() == children);
+        assert!(rt; doc_of(&rt, rt.alloc(), tree).session() == session);
+    }
+    let zero = of_session(&rt, rt.alloc(), b"\0\0\0\0");
+    assert!(rt; doc_of(&rt, rt.alloc(), zero).session() == 0);
+}
+
+#[test]
+fn a_session_has_four_bytes(rt: HostRuntime) {
+    for stream in [b"".as_slice(), b"\x01\0\0", b"\x01\0\0\0\0"] {
+        let tree = of_session(&rt, rt.alloc(), stream);
+        assert!(rt; doc_told(rt.alloc(), tree) == "NotADocument");
+    }
+    let mut tree = tree_of(&rt, rt.alloc(), Doc::new(rt.alloc(), 0));
+    make_storage(&rt, &mut tree, names::session());
+    assert!(rt; doc_told(rt.alloc(), tree) == "NotADocument");
 }

@@ -1,7 +1,8 @@
 -- The tree of a document holds it.
-use Rattle.std.proofs.Common.{◌≡◌, ◌<◌, ◌≤◌, ◌+◌, ◌/◌, ◌%◌, ◌++◌, ◌∷◌, ◌∙◌, ◌||◌, ℕ, List, [], Bool, true, false, cond, not, nat_lt, nat_le, Ok, Err, Some, None, map, length, take, get_or, refl, sym, ap, subst, arith, rules, append_assoc, append-nil, length-append}
+use Rattle.std.proofs.Common.{◌≡◌, ◌<◌, ◌≤◌, ◌+◌, ◌^◌, ◌/◌, ◌%◌, zero, suc, ◌++◌, ◌∷◌, ◌∙◌, ◌||◌, ℕ, List, [], Bool, true, false, cond, not, nat_lt, nat_le, Ok, Err, Some, None, map, length, take, get_or, refl, sym, ap, subst, arith, rules, append_assoc, append-nil, length-append}
 use Rattle.std.proofs.lemmas.List.{length-map}
 use Rattle.std.specs.Char.{to_ascii_uppercase}
+use Rattle.std.specs.Int.{w32, to_le_bytes}
 use Rattle.std.specs.List.{flat_map}
 use Rattle.std.specs.Ordering.{is_eq, is_lt, match_ordering}
 use Rattle.std.specs.declared.cmp.Ordering.TheVariants.{Less, Equal, Greater}
@@ -19,8 +20,9 @@ use Rattle.storage_tree.proofs.Entries.{find-child, key_eq-flip, place-child, re
 use Rattle.storage_tree.proofs.Lawful.{find-place, find-place-other}
 use Rattle.storage_tree.proofs.Wholes.{tied}
 use Rattle.ole_parts.specs.CompObjs.{comp_obj_bytes, user_type_read}
-use Rattle.document_model.specs.DocOf.{as_picture, as_storage, as_stream, behind_comp_obj, behind_picture, is_object, object_of, object_pushed, object_read, objects_behind, pushed, streams_behind}
-use Rattle.document_model.specs.DocTree.{LAYOUT, object_name, object_tree, placed, with_objects, with_picture, with_streams}
+use Rattle.document_model.specs.Documents.{Doc, no_objects}
+use Rattle.document_model.specs.DocOf.{as_picture, as_storage, as_stream, behind_comp_obj, behind_layout, behind_picture, is_object, object_of, object_pushed, object_read, objects_behind, pushed, session_read, streams_behind}
+use Rattle.document_model.specs.DocTree.{LAYOUT, SESSION, object_name, object_tree, placed, with_objects, with_picture, with_session, with_streams}
 use Rattle.ole_parts.specs.Fields.{map_ok, on_ok}
 use Rattle.ole_streams.specs.Docs.{AreHeld, IsArea, IsHeld}
 use Rattle.ole_streams.specs.Laws.{DocumentIsReadAgain}
@@ -221,6 +223,10 @@ pub layout-apart : (m : ℕ) → key_eq (key LAYOUT) (key (object_name m)) ≡ f
 unfolding digits
 layout-apart m = elim (nat_lt m 10) as (λ b. key_eq (key LAYOUT) (key (digits m b)) ≡ false) [ true ↦ refl | false ↦ refl ]
 
+pub session-apart : (m : ℕ) → key_eq (key SESSION) (key (object_name m)) ≡ false
+unfolding digits
+session-apart m = elim (nat_lt m 10) as (λ b. key_eq (key SESSION) (key (digits m b)) ≡ false) [ true ↦ refl | false ↦ refl ]
+
 pub not_among : (q : List ℕ) (m : ℕ) (os : List DocObject) → ((k : ℕ) → m ≤ k → k < m + length os → key_eq q (key (object_name k)) ≡ false) → find q (with_objects m os none) ≡ None
 not_among q m [] f = refl
 not_among q m (o ∷ os) f =
@@ -228,28 +234,29 @@ not_among q m (o ∷ os) f =
     ∙ not_among q (m + 1) os (λ k l h. f k (omega (arith, l)) (omega (arith, h)))
 
 -- Objects one behind another.
-pushed-ok : (before : List DocObject) (o : DocObject) → length before < 64 → is_object o ≡ true → pushed before o ≡ Ok (before ++ o ∷ [])
-pushed-ok before o h w =
-    let e : nat_le 64 (length before) ≡ false = grind (arith, nat_tests) in
+pushed-ok : (d : Doc) (o : DocObject) → length d.objects < 64 → is_object o ≡ true → pushed d o ≡ Ok (record d { objects = d.objects ++ o ∷ [] })
+pushed-ok d o h w =
+    let e : nat_le 64 (length d.objects) ≡ false = grind (arith, nat_tests) in
     cond_false _ _ _ e ∙ cond_true _ _ _ w
 
-objects-again : (before os : List DocObject) (n : ℕ) → AreHeld os → length before + length os ≤ 64 → n + length os ≤ 100
-    → objects_behind before n (map (λ o. o.area) os) (with_objects n os none) ≡ Ok (before ++ os)
-objects-again before [] n all few low = ap Ok (sym (append-nil before))
+objects-again : (before : Doc) (os : List DocObject) (n : ℕ) → AreHeld os → length before.objects + length os ≤ 64 → n + length os ≤ 100
+    → objects_behind before n (map (λ o. o.area) os) (with_objects n os none) ≡ Ok (record before { objects = before.objects ++ os })
+objects-again before [] n all few low = ap (λ xs. Ok (record before { objects = xs })) (sym (append-nil before.objects))
 objects-again before (o ∷ os) n all few low =
+    let after : Doc = record before { objects = before.objects ++ o ∷ [] } in
     let rest = with_objects (n + 1) os none in
     let k = key (object_name n) in
     let c : List ℕ × Seen = (object_name n, inner (object_tree o)) in
-    let here : object_pushed before n o.area (place k c rest) ≡ Ok (before ++ o ∷ []) =
+    let here : object_pushed before n o.area (place k c rest) ≡ Ok after =
     ap (λ f. on_ok (λ x. pushed before x) (on_ok (λ t. object_read o.area t) (as_storage f))) (find-place k c rest)
     ∙ ap (on_ok (λ x. pushed before x)) (object-again o all.0)
     ∙ pushed-ok before o (omega arith) all.0.within in
     let alone : find k rest ≡ None = not_among k (n + 1) os (λ m l h. names-apart n m (omega (arith, l)) (omega (arith, h))) in
-    let more : length (before ++ o ∷ []) + length os ≤ 64 = simp length-append (omega arith) in
-    ap (on_ok (λ objects. objects_behind objects (n + 1) (map (λ x. x.area) os) (without k (place k c rest)))) here
-    ∙ ap (objects_behind (before ++ o ∷ []) (n + 1) (map (λ x. x.area) os)) (without-place k c rest alone)
-    ∙ objects-again (before ++ o ∷ []) os (n + 1) all.1 more (omega arith)
-    ∙ ap Ok (append_assoc before (o ∷ []) os)
+    let more : length (before.objects ++ o ∷ []) + length os ≤ 64 = simp length-append (omega arith) in
+    ap (on_ok (λ d. objects_behind d (n + 1) (map (λ x. x.area) os) (without k (place k c rest)))) here
+    ∙ ap (objects_behind after (n + 1) (map (λ x. x.area) os)) (without-place k c rest alone)
+    ∙ objects-again after os (n + 1) all.1 more (omega arith)
+    ∙ ap (λ xs. Ok (record before { objects = xs })) (append_assoc before.objects (o ∷ []) os)
 
 -- The layout.
 area-again : (a : Area) (rest : List ℕ) → IsArea a → area_at (take 8 (area_bytes a ++ rest)) ≡ a
@@ -278,13 +285,37 @@ layout-again os few all =
     ∙ cond_false _ _ _ small
     ∙ areas-again os all
 
-pub document_again : DocumentIsReadAgain
-document_again os doc =
-    let few = doc.few in
-    let all = doc.held in
-    let c : List ℕ × Seen = (LAYOUT, bytes (layout_bytes (map (λ o. o.area) os))) in
+-- The session.
+pub no_session : (os : List DocObject) → find (key SESSION) (with_objects 1 os none) ≡ None
+no_session os = not_among (key SESSION) 1 os (λ k l h. session-apart k)
+
+session-again : (session : ℕ) (areas : List Area) (os : List DocObject) → session < 2 ^ 32
+    → behind_layout areas (with_session session (with_objects 1 os none)) ≡ objects_behind (no_objects session) 1 areas (with_objects 1 os none)
+session-again zero areas os low =
     let rest = with_objects 1 os none in
-    ap (λ f. on_ok (λ areas. objects_behind [] 1 areas (without (key LAYOUT) (place (key LAYOUT) c rest))) (on_ok layout_read (as_stream f))) (find-place (key LAYOUT) c rest)
-    ∙ ap (on_ok (λ areas. objects_behind [] 1 areas (without (key LAYOUT) (place (key LAYOUT) c rest)))) (layout-again os few all)
-    ∙ ap (objects_behind [] 1 (map (λ o. o.area) os)) (without-place (key LAYOUT) c rest (not_among (key LAYOUT) 1 os (λ k l h. layout-apart k)))
-    ∙ objects-again [] os 1 all (omega arith) (omega arith)
+    ap (λ f. on_ok (λ s. objects_behind (no_objects s) 1 areas (without (key SESSION) rest)) (session_read f)) (no_session os)
+    ∙ ap (objects_behind (no_objects 0) 1 areas) (without-none (key SESSION) rest (no_session os))
+session-again (suc n) areas os low =
+    let rest = with_objects 1 os none in
+    let c : List ℕ × Seen = (SESSION, bytes (to_le_bytes w32 (suc n))) in
+    ap (λ f. on_ok (λ s. objects_behind (no_objects s) 1 areas (without (key SESSION) (place (key SESSION) c rest))) (session_read f)) (find-place (key SESSION) c rest)
+    ∙ ap (λ s. objects_behind (no_objects s) 1 areas (without (key SESSION) (place (key SESSION) c rest))) (from_le_bytes-to_le_bytes_4 (suc n) low)
+    ∙ ap (objects_behind (no_objects (suc n)) 1 areas) (without-place (key SESSION) c rest (no_session os))
+
+-- no layout among objects, nor where the session stands beside them
+pub no_layout : (session : ℕ) (os : List DocObject) → find (key LAYOUT) (with_session session (with_objects 1 os none)) ≡ None
+no_layout zero os = not_among (key LAYOUT) 1 os (λ k l h. layout-apart k)
+no_layout (suc n) os =
+    find-place-other (key LAYOUT) (key SESSION) (SESSION, bytes (to_le_bytes w32 (suc n))) (with_objects 1 os none) refl
+    ∙ not_among (key LAYOUT) 1 os (λ k l h. layout-apart k)
+
+pub document_again : DocumentIsReadAgain
+document_again d doc =
+    let os = d.objects in
+    let c : List ℕ × Seen = (LAYOUT, bytes (layout_bytes (map (λ o. o.area) os))) in
+    let rest = with_session d.session (with_objects 1 os none) in
+    ap (λ f. on_ok (λ areas. behind_layout areas (without (key LAYOUT) (place (key LAYOUT) c rest))) (on_ok layout_read (as_stream f))) (find-place (key LAYOUT) c rest)
+    ∙ ap (on_ok (λ areas. behind_layout areas (without (key LAYOUT) (place (key LAYOUT) c rest)))) (layout-again os doc.few doc.held)
+    ∙ ap (behind_layout (map (λ o. o.area) os)) (without-place (key LAYOUT) c rest (no_layout d.session os))
+    ∙ session-again d.session (map (λ o. o.area) os) os doc.session
+    ∙ objects-again (no_objects d.session) os 1 doc.held (omega (arith, doc.few)) (omega (arith, doc.few))

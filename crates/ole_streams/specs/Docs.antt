@@ -4,6 +4,7 @@ use Rattle.object_parts.specs.declared.area.Area.{Area}
 use Rattle.stored_streams.specs.Streams.{AreInOrder}
 use Rattle.ole_parts.specs.CompObjs.{CLASS_BYTES}
 use Rattle.document_model.specs.DocOf.{is_object}
+use Rattle.document_model.specs.Documents.{Doc}
 use Rattle.document_model.specs.Layouts.{MOST_OBJECTS}
 use Rattle.document_model.specs.declared.object.DocObject.{DocObject}
 use Rattle.ole_parts.specs.declared.fault.OleFault.{OleFault}
@@ -27,14 +28,15 @@ abbrev pub AreHeld : List DocObject → Type 0
 AreHeld [] = Unit {0}
 AreHeld (o ∷ os) = IsHeld o × AreHeld os
 
--- at most 64 objects, each as a document holds it
-pub record IsDoc (objects : List DocObject) : Type 0 where
-  pub few : length objects ≤ MOST_OBJECTS
-  pub held : AreHeld objects
+-- a session of four bytes, and at most 64 objects, each as a document holds it
+pub record IsDoc (d : Doc) : Type 0 where
+  pub session : d.session < 2 ^ 32
+  pub few : length d.objects ≤ MOST_OBJECTS
+  pub held : AreHeld d.objects
 
 -- What a call did, given what it is to do: it did this, or refused for this fault and changed nothing. Only what could
 -- be done is refused for want of memory.
-abbrev pub Pushes : Result (Unit {0}) OleFault → Result (List DocObject) OleFault → List DocObject → List DocObject → Type 0
+abbrev pub Pushes : Result (Unit {0}) OleFault → Result Doc OleFault → Doc → Doc → Type 0
 Pushes (Ok u) told old new = told ≡ Ok new
 Pushes (Err NoMemory) told old new = IsOk told × (new ≡ old)
 Pushes (Err fault) told old new = (told ≡ Err fault) × (new ≡ old)

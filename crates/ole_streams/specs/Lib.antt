@@ -1,5 +1,6 @@
 pub mod Docs
 pub mod Laws
+pub use Rattle.document_model.specs.Documents
 pub use Rattle.document_model.specs.Layouts
 pub use Rattle.document_model.specs.DocTree
 pub use Rattle.document_model.specs.DocOf

@@ -1,6 +1,7 @@
 //! Documents of embedded objects.
 
 ghost use Rattle.std.specs.Prelude.{[], ◌≡◌, ◌<◌, ◌^◌, ◌↔◌, IfOk, IsTrue, length};
+ghost use Rattle.document_model.specs.Documents.{no_objects};
 ghost use Rattle.document_model.specs.DocOf.{pushed};
 ghost use Rattle.ole_parts.specs.CompObjs.{CLASS_BYTES};
 ghost use Rattle.ole_streams.specs.Docs.{IsArea, Pushes};
@@ -48,34 +49,49 @@ fn promises(object: &DocObject)
     let _ = object.stored.streams.as_slice();
 }
 
-/// A document: at most 64 objects, each within its limits.
+/// A session's number has four bytes.
+fn session_fits(session: u32)
+    ensures { session < 2 ^ 32 }
+{}
+
+/// A document: the session that its container was last in when it was written, 0 where there was none, and at most 64
+/// objects, each within its limits.
 #[derive(Drop)]
 pub struct Doc {
+    session: u32,
     objects: Vec<DocObject>,
 }
 
 impl Model for Doc {
-    ghost use Rattle.std.specs.Prelude.{List};
-    ghost use Rattle.document_model.specs.declared.object.DocObject.{DocObject};
+    ghost use Rattle.document_model.specs.Documents.{Doc as Document};
     ghost use Rattle.ole_streams.specs.Docs.{IsDoc};
 
-    ghost Value = { List DocObject };
+    ghost Value = { Document };
 
-    ghost view = { λ d. d.objects.items };
+    ghost view = { λ d. record { session = d.session; objects = d.objects.items } };
 
-    ghost invariant = { λ d. IsDoc d.objects.items };
+    ghost invariant = { λ d. IsDoc (record { session = d.session; objects = d.objects.items }) };
 }
 
 impl Doc {
     ghost use Rattle.ole_streams.specs.Docs.{IsDoc};
 
-    /// No objects.
-    pub fn new(alloc: Global) -> Doc
-        ensures { result ≡ [] }
+    /// A document of this session, without objects.
+    pub fn new(alloc: Global, session: u32) -> Doc
+        ensures { result ≡ no_objects session }
     {
+        session_fits(session);
         Doc {
+            session,
             objects: Vec::new(alloc),
         }
+    }
+
+    /// Its session, 0 where its container was in none.
+    pub fn session(&self) -> u32
+        ensures { result ≡ self.now.session }
+    {
+        self.session
     }
 
     /// Puts an object to the end.
@@ -98,7 +114,7 @@ impl Doc {
 
     /// The objects.
     pub fn as_slice(&self) -> &[DocObject]
-        ensures objects { result.now ≡ self.now }
+        ensures objects { result.now ≡ self.now.objects }
         ensures within { IsDoc self.now }
     {
         &self.objects
@@ -106,7 +122,7 @@ impl Doc {
 
     /// The objects as a vector. It takes no memory.
     pub fn into_vec(self) -> Vec<DocObject>
-        ensures objects { result.items ≡ self }
+        ensures objects { result.items ≡ self.objects }
         ensures within { IsDoc self }
     {
         self.objects
@@ -114,14 +130,14 @@ impl Doc {
 
     /// How many objects there are.
     pub fn len(&self) -> usize
-        ensures { result ≡ length self.now }
+        ensures { result ≡ length self.now.objects }
     {
         self.objects.len()
     }
 
     /// Whether there are none.
     pub fn is_empty(&self) -> bool
-        ensures { IsTrue result ↔ (self.now ≡ []) }
+        ensures { IsTrue result ↔ (self.now.objects ≡ []) }
     {
         self.objects.is_empty()
     }
@@ -134,6 +150,9 @@ impl Doc {
         for object in self.objects.as_slice() {
             objects.push(object.copy(alloc)?)?;
         }
-        Ok(Doc { objects })
+        Ok(Doc {
+            session: self.session,
+            objects,
+        })
     }
 }

@@ -5,8 +5,9 @@ ghost use Rattle.std.specs.Option.{option_map};
 ghost use Rattle.cfb_names.specs.Names.{key};
 ghost use Rattle.object_parts.specs.Limits.{COMP_OBJ, OLE, OLE_PRES};
 ghost use Rattle.ole_parts.specs.CompObjs.{user_type_read};
-ghost use Rattle.document_model.specs.DocOf.{as_picture, as_storage, as_stream, behind_comp_obj, behind_picture, doc_read, object_of, object_pushed, object_read, objects_behind, streams_behind};
-ghost use Rattle.document_model.specs.DocTree.{LAYOUT, object_name};
+ghost use Rattle.document_model.specs.Documents.{no_objects};
+ghost use Rattle.document_model.specs.DocOf.{as_picture, as_storage, as_stream, behind_comp_obj, behind_layout, behind_picture, doc_read, object_of, object_pushed, object_read, objects_behind, session_of_bytes, session_read, streams_behind};
+ghost use Rattle.document_model.specs.DocTree.{LAYOUT, SESSION, object_name};
 ghost use Rattle.ole_parts.specs.Fields.{map_ok, on_ok};
 ghost use Rattle.document_model.specs.Layouts.{layout_read};
 ghost use Rattle.ole_parts.specs.OleStreams.{ole_read};
@@ -220,13 +221,18 @@ fn push_object(
     }
 }
 
-/// The document of these areas and storages, where there is nothing else.
-fn objects_of(alloc: Global, areas: &[Area], entries: Entries) -> Result<Doc, OleFault>
+/// The document of this session, these areas and storages, where there is nothing else.
+fn objects_of(
+    alloc: Global,
+    session: u32,
+    areas: &[Area],
+    entries: Entries,
+) -> Result<Doc, OleFault>
     requires { length areas.now ≤ MOST_OBJECTS }
-    ensures { result ≢ Err NoMemory → result ≡ objects_behind [] 1 areas.now (children entries.entries) }
+    ensures { result ≢ Err NoMemory → result ≡ objects_behind (no_objects session) 1 areas.now (children entries.entries) }
 {
     let mut entries = entries;
-    let mut doc = Doc::new(alloc);
+    let mut doc = Doc::new(alloc, session);
     for (index, area) in areas.iter().enumerate() {
         match push_object(alloc, &mut doc, index + 1, *area, &mut entries) {
             Ok(()) => {}
@@ -251,13 +257,47 @@ fn take_areas(alloc: Global, entries: &mut Entries) -> Result<Vec<Area>, OleFaul
     }
 }
 
+/// The session that a stream's bytes say, which are four.
+fn session_in(bytes: &[u8]) -> Result<u32, OleFault>
+    ensures { result ≡ session_of_bytes bytes.now }
+{
+    match bytes.as_array::<4>() {
+        Some(number) => Ok(u32::from_le_bytes(*number)),
+        None => Err(OleFault::NotADocument),
+    }
+}
+
+/// Takes away the stream `Session`, and gives the number that it says; where there is no such stream it is 0.
+fn take_session(entries: &mut Entries) -> Result<u32, OleFault>
+    ensures value { result ≡ session_read (find (key SESSION) (children entries.old.entries)) }
+    ensures rest { children entries.new.entries ≡ without (key SESSION) (children entries.old.entries) }
+{
+    match take(entries, &names::session()) {
+        Some((_, Node::Stream(bytes))) => session_in(bytes.as_slice()),
+        Some((_, Node::Storage(_))) => Err(OleFault::NotADocument),
+        None => Ok(0),
+    }
+}
+
+/// The document of these areas, whose session stands among the storages.
+fn behind_layout(alloc: Global, areas: &[Area], entries: Entries) -> Result<Doc, OleFault>
+    requires { length areas.now ≤ MOST_OBJECTS }
+    ensures { result ≢ Err NoMemory → result ≡ behind_layout areas.now (children entries.entries) }
+{
+    let mut entries = entries;
+    match take_session(&mut entries) {
+        Ok(session) => objects_of(alloc, session, areas, entries),
+        Err(fault) => Err(fault),
+    }
+}
+
 /// The document that a tree holds, whatever its root's class id and all state bits are. What open transactions kept is
 /// dropped. What the tree's streams hold is moved into the document, and not copied.
 ///
-/// The stream `Layout` is read first, then the objects one after another, of each its picture, `\1CompObj`, `\1Ole` and
-/// its own streams. Refused, whichever comes first: `TooManyObjects` where `Layout` counts more than 64 objects;
-/// `Truncated`, `BadVersion`, `Linked` and `BadString` where an object's `\1CompObj` or `\1Ole` is so; `NotADocument`
-/// where `Layout` is missing or bad, where an object's storage or one of these streams is missing, where a storage stands
+/// The stream `Layout` is read first, then `Session`, then the objects one after another, of each its picture,
+/// `\1CompObj`, `\1Ole` and its own streams. Refused, whichever comes first: `TooManyObjects` where `Layout` counts more
+/// than 64 objects; `Truncated`, `BadVersion`, `Linked` and `BadString` where an object's `\1CompObj` or `\1Ole` is so;
+/// `NotADocument` where `Layout` is missing or bad, where `Session` is a storage or hasn't four bytes, where an object's storage or one of these streams is missing, where a storage stands
 /// in an object or a content is past its limits, and where anything else stands in the root. Each object's strings and
 /// streams take memory as they are read, so `NoMemory` may come before a fault that stands further on. A refusal drops
 /// the tree.
@@ -271,7 +311,7 @@ pub fn document_of(alloc: Global, tree: Tree) -> Result<Doc, OleFault>
     } = tree.into_root();
     let mut entries = children;
     match take_areas(alloc, &mut entries) {
-        Ok(areas) => objects_of(alloc, &areas, entries),
+        Ok(areas) => behind_layout(alloc, &areas, entries),
         Err(fault) => Err(fault),
     }
 }

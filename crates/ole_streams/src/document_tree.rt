@@ -3,7 +3,7 @@
 ghost use Rattle.std.specs.Prelude.{[], ◌≡◌, ◌≤◌, ◌<◌, ℕ, IfOk, OnOk, length, true};
 ghost use Rattle.cfb_names.specs.Names.{IsName};
 ghost use Rattle.document_model.specs.DocOf.{is_object};
-ghost use Rattle.document_model.specs.DocTree.{doc_tree, object_children, object_tree, placed, with_objects, with_ole_streams, with_picture, with_streams};
+ghost use Rattle.document_model.specs.DocTree.{doc_tree, object_children, object_tree, placed, with_objects, with_ole_streams, with_picture, with_session, with_streams};
 ghost use Rattle.ole_parts.specs.CompObjs.{PAST_USER_TYPE};
 ghost use Rattle.ole_streams.specs.Docs.{AreHeld};
 ghost use Rattle.ole_streams.specs.declared.doc.TheConstants.{MOST_OBJECTS};
@@ -133,15 +133,29 @@ fn with_objects(alloc: Global, objects: Vec<DocObject>) -> Result<Entries, Alloc
     Ok(entries)
 }
 
-/// The tree of a document, outside transactions: the root's class id, a storage for each object with its streams, and the
-/// stream `Layout`. What the document's contents hold is moved into the tree, and not copied.
+/// Puts the stream of a session, unless that is 0.
+fn place_session(alloc: Global, entries: &mut Entries, session: u32) -> Result<(), AllocError>
+    ensures value { OnOk result (children entries.new.entries ≡ with_session session (children entries.old.entries)) }
+    ensures whole { OnOk result ((depth : ℕ) → AreTrees depth (children entries.old.entries) → AreTrees depth (children entries.new.entries)) }
+{
+    if session == 0 {
+        return Ok(());
+    }
+    let number = Vec::from_slice(alloc, &session.to_le_bytes())?;
+    place_stream(entries, names::session(), Bytes::from_vec(alloc, number)?)
+}
+
+/// The tree of a document, outside transactions: the root's class id, a storage for each object with its streams, the
+/// stream `Session` unless that is 0, and the stream `Layout`. What the document's contents hold is moved into the tree, and not copied.
 ///
 /// Refused for want of memory alone; then the document is dropped.
 pub fn document_tree(alloc: Global, doc: Doc) -> Result<Tree, AllocError>
     ensures { IfOk result (λ t. kept t ≡ record { now = doc_tree doc; saved = [] }) }
 {
     let layout = write_layout(alloc, doc.as_slice())?;
+    let session = doc.session();
     let mut entries = with_objects(alloc, doc.into_vec())?;
+    place_session(alloc, &mut entries, session)?;
     place_stream(&mut entries, names::layout(), layout)?;
     let root = Storage {
         class: names::root_class(),

@@ -1,7 +1,7 @@
 //! The names of a document's own streams and storages.
 
 ghost use Rattle.std.specs.Prelude.{◌≡◌, ◌<◌, ◌^◌};
-ghost use Rattle.document_model.specs.DocTree.{LAYOUT, ROOT_CLASS, decimal, object_name};
+ghost use Rattle.document_model.specs.DocTree.{LAYOUT, ROOT_CLASS, SESSION, decimal, object_name};
 
 use cfb_names::name::{Name, named};
 use stored_values::class_id::ClassId;
@@ -21,6 +21,16 @@ pub fn layout() -> Name
     ensures { result ≡ LAYOUT }
 {
     match named(b"Layout") {
+        Ok(name) => name,
+        Err(_) => unreachable!(),
+    }
+}
+
+/// The name of the stream `Session`.
+pub fn session() -> Name
+    ensures { result ≡ SESSION }
+{
+    match named(b"Session") {
         Ok(name) => name,
         Err(_) => unreachable!(),
     }

@@ -21,7 +21,7 @@ module _ {D : Type 0} {disks : Disks D} where
     name = name;
     bytes = shut.0;
     shut = shut.2;
-    file = subst (λ (q : Record). IsFileOf q f name shut.0) (sym t.recorded) (record { frame = frame; found = found; named = named; parts = image.0; counted = image.1; denotes = denotes_too file shut.0 (document_tree image.0) shut.1 image.2; holds = image.3 });
+    file = subst (λ (q : Record). IsFileOf q f name shut.0) (sym t.recorded) (record { frame = frame; found = found; named = named; saved = image.0; counted = image.1; denotes = denotes_too file shut.0 (document_tree image.0) shut.1 image.2; holds = image.3 });
   }
 
   pub left_by : (es : List (Event D)) (r : Record) (f : ℕ) (frame : Frame) (name file : List ℕ) (outcome : Outcome) (fault : StoreFault) → outcome ≡ Lost fault → IsTold disks es r → IfLost outcome (IsFiledWithout disks es name file) → nth r.frames f ≡ Some frame → name ≡ file_name frame → IsImage r f file → IsLost disks es f
@@ -30,7 +30,7 @@ module _ {D : Type 0} {disks : Disks D} where
     name = name;
     bytes = shut.0;
     shut = shut.2;
-    file = subst (λ (q : Record). IsFileOf q f name shut.0) (sym t.recorded) (record { frame = frame; found = found; named = named; parts = image.0; counted = image.1; denotes = denotes_too file shut.0 (document_tree image.0) shut.1 image.2; holds = image.3 });
+    file = subst (λ (q : Record). IsFileOf q f name shut.0) (sym t.recorded) (record { frame = frame; found = found; named = named; saved = image.0; counted = image.1; denotes = denotes_too file shut.0 (document_tree image.0) shut.1 image.2; holds = image.3 });
   })
 
   pub full_by : (es : List (Event D)) (r : Record) (f : ℕ) → IsTold disks es r → image r f ≡ Err Full → IsLost disks es f

@@ -60,7 +60,7 @@ module _ {D : Type 0} (disks : Disks D) where
     frame = frame;
     found = ap (λ (q : Record). nth q.frames f) t.recorded ∙ found;
     named = named;
-    parts = image.0;
+    saved = image.0;
     counted = ap (λ (q : Record). image_of q f) t.recorded ∙ image.1;
     last = last;
   }

@@ -3,7 +3,7 @@ use Rattle.std.specs.Prelude.{◌≡◌, ◌≤◌, ℕ, List, ◌∷◌, Result
 use Rattle.storage_tree.specs.Tree.{Tree}
 use Rattle.file_model.specs.Denotes.{Denotes}
 use Rattle.document_model.specs.DocOf.{DocOf}
-use Rattle.container_model.specs.declared.answer.Part.{Part}
+use Rattle.container_model.specs.declared.answer.FrameDocument.{FrameDocument}
 use Rattle.container_model.specs.Record.{Record}
 use Rattle.container_model.specs.Saves.{document, document_tree, image}
 use Rattle.container_model.specs.declared.fault.ContainerFault.{ContainerFault}
@@ -47,7 +47,7 @@ noted_of told es = es
 
 -- bytes are the image of a frame whose commit is asked for: they denote a tree that holds its document
 abbrev pub IsImage : Record → ℕ → List ℕ → Type 0
-IsImage r f bytes = (parts : List Part) × (image r f ≡ Ok parts) × ∥ Denotes bytes (document_tree parts) ∥₁ × DocOf (document_tree parts) (document parts)
+IsImage r f bytes = (saved : FrameDocument) × (image r f ≡ Ok saved) × ∥ Denotes bytes (document_tree saved) ∥₁ × DocOf (document_tree saved) (document saved)
 
 -- what is said of a commit that was kept
 abbrev pub IfKept : Outcome → Type 0 → Type 0

@@ -53,10 +53,10 @@ fn message_of(step: Step) -> Option<Message>
 
 /// The name of a step's file.
 fn name_of(step: Step) -> Option<Bytes>
-    ensures { (name : List ℕ) (w h : ℕ) (objects : List DocObject) → step ≡ given.Open name w h objects → result ≡ Some name }
+    ensures { (name : List ℕ) (w h session : ℕ) (objects : List DocObject) → step ≡ given.Open name w h session objects → result ≡ Some name }
 {
     match step {
-        Step::Open(name, _, _, _) => Some(name),
+        Step::Open(name, _, _, _, _) => Some(name),
         _ => None,
     }
 }
@@ -154,7 +154,9 @@ pub fn opened<H: Host>(
     ensures ordered { orders (H.told host.new) ≡ orders (H.told host.old) }
 {
     files_give_one();
-    let step = Step::Open(name, width, height, Items::from_vec(document.into_vec()));
+    let session = document.session();
+    let objects = Items::from_vec(document.into_vec());
+    let step = Step::Open(name, width, height, session, objects);
     host.note(&step);
     let Some(name) = name_of(step) else {
         return Err(ContainerFault::NoMemory);

@@ -42,7 +42,7 @@ behind_step (step.Reap inc) p = p
 behind_step (step.Committed f) p = p
 behind_step (step.Failed f) p = p
 behind_step (step.Resolved f is_kept) p = p
-behind_step (step.Open name w h objects) p = p
+behind_step (step.Open name w h session objects) p = p
 behind_step step.NoMemory p = p
 
 -- how far a server is in the command that began last

@@ -35,7 +35,7 @@ given g (step.Reap inc) = gives g (on_reap g.now inc)
 given g (step.Committed f) = gives g (commit_done g.now f)
 given g (step.Failed f) = gives g (commit_failed g.now f)
 given g (step.Resolved f is_kept) = gives g (resolve g.now f is_kept)
-given g (step.Open name w h objects) = gives g (opened g.now name w h (Read.Holding objects))
+given g (step.Open name w h session objects) = gives g (opened g.now name w h (Read.Holding (record { session = session; objects = objects })))
 given g step.NoMemory = record { before = g.before; now = g.before }
 
 abbrev pub given_by : {D : Type 0} → List (Event D) → Given

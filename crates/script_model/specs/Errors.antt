@@ -6,7 +6,7 @@ use Rattle.store_model.specs.declared.disk.Disk.{Ghosts as Disks}
 use Rattle.store_model.specs.declared.fault.StoreFault.{StoreFault}
 use Rattle.store_model.specs.declared.fault.StoreFault.TheVariants.{Device, NeedsReopen, TooBig, Damaged, NoMemory}
 use Rattle.wire_msgs.specs.Found.{nth}
-use Rattle.container_model.specs.declared.answer.Part.{Part}
+use Rattle.container_model.specs.declared.answer.FrameDocument.{FrameDocument}
 use Rattle.container_model.specs.declared.record.Frame.{Frame}
 use Rattle.container_model.specs.declared.record.Link.{Link}
 use Rattle.container_model.specs.declared.record.Object.{Object}
@@ -120,6 +120,6 @@ pub record IsUnknown {D : Type 0} (disks : Disks D) (es : List (Event D)) (name 
   pub frame : Frame
   pub found : nth (record_of es).frames f ≡ Some frame
   pub named : name ≡ file_name frame
-  pub parts : List Part
-  pub counted : image (record_of es) f ≡ Ok parts
+  pub saved : FrameDocument
+  pub counted : image (record_of es) f ≡ Ok saved
   pub last : IsUnopened disks name why es

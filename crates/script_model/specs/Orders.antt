@@ -14,7 +14,7 @@ behind_order (step.Reap inc) os = os
 behind_order (step.Committed f) os = os
 behind_order (step.Failed f) os = os
 behind_order (step.Resolved f is_kept) os = os
-behind_order (step.Open name w h objects) os = os
+behind_order (step.Open name w h session objects) os = os
 behind_order step.NoMemory os = os
 
 -- the beginnings of commands, and what the container's user asked for, the newest first

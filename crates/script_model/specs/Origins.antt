@@ -56,7 +56,7 @@ after_step s (step.Reap inc) p = p
 after_step s (step.Committed f) p = p
 after_step s (step.Failed f) p = p
 after_step s (step.Resolved f is_kept) p = p
-after_step s (step.Open name w h objects) p = p
+after_step s (step.Open name w h session objects) p = p
 after_step s step.NoMemory p = p
 
 -- what passed between a server and the container; a link that couldn't be made anew is one on which nothing came
@@ -116,7 +116,7 @@ GivesNext (step.Reap inc) es = IsJustEnded inc es
 GivesNext (step.Committed f) es = Unit {0}
 GivesNext (step.Failed f) es = Unit {0}
 GivesNext (step.Resolved f is_kept) es = Unit {0}
-GivesNext (step.Open name w h objects) es = Unit {0}
+GivesNext (step.Open name w h session objects) es = Unit {0}
 GivesNext step.NoMemory es = Unit {0}
 
 -- Each message that the container was given came on a link of its server, since this was started and before it was ended: it is

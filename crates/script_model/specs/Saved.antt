@@ -2,14 +2,14 @@
 use Rattle.std.specs.Prelude.{◌≡◌, ◌<◌, ◌⊎◌, ◌||◌, ℕ, Bool, true, false, List, [], ◌∷◌, length, Option, Some, None, Ok, Err}
 use Rattle.file_model.specs.Denotes.{Denotes}
 use Rattle.document_model.specs.DocOf.{DocOf}
-use Rattle.document_model.specs.declared.object.DocObject.{DocObject}
+use Rattle.document_model.specs.Documents.{Doc}
 use Rattle.store_model.specs.Crash.{Rose, StaysIn}
 use Rattle.store_model.specs.Image.{Image}
 use Rattle.store_model.specs.Store.{StandsAsOneOf, StandsFor}
 use Rattle.store_model.specs.declared.limit.TheConstants.{MAX_DOCUMENT}
 use Rattle.store_model.specs.declared.disk.Disk.{Ghosts as Disks}
 use Rattle.wire_msgs.specs.Found.{nth}
-use Rattle.container_model.specs.declared.answer.Part.{Part}
+use Rattle.container_model.specs.declared.answer.FrameDocument.{FrameDocument}
 use Rattle.container_model.specs.declared.record.Frame.{Frame}
 use Rattle.container_model.specs.declared.record.Phase.{Phase}
 use Rattle.container_model.specs.declared.record.Phase.TheVariants.{Idle, Saving, HandingOff, Committing, InDoubt}
@@ -97,10 +97,10 @@ pub record IsFileOf (r : Record) (f : ℕ) (name bytes : List ℕ) : Type 0 wher
   pub frame : Frame
   pub found : nth r.frames f ≡ Some frame
   pub named : name ≡ file_name frame
-  pub parts : List Part
-  pub counted : image r f ≡ Ok parts
-  pub denotes : ∥ Denotes bytes (document_tree parts) ∥₁
-  pub holds : DocOf (document_tree parts) (document parts)
+  pub saved : FrameDocument
+  pub counted : image r f ≡ Ok saved
+  pub denotes : ∥ Denotes bytes (document_tree saved) ∥₁
+  pub holds : DocOf (document_tree saved) (document saved)
 
 -- The last call gave a disk back under this name, the call before it had given this disk under the same name, and in between these
 -- bytes were saved on it.
@@ -161,7 +161,7 @@ CountsSaved disks (step.Reap inc) es = Unit {0}
 CountsSaved disks (step.Committed f) es = IsSavedThere disks es f
 CountsSaved disks (step.Failed f) es = IsLost disks es f
 CountsSaved disks (step.Resolved f is_kept) es = KeptIsSaved disks is_kept es f
-CountsSaved disks (step.Open name w h objects) es = Unit {0}
+CountsSaved disks (step.Open name w h session objects) es = Unit {0}
 CountsSaved disks step.NoMemory es = Unit {0}
 
 -- ---- opened files
@@ -175,11 +175,11 @@ pub record IsReadFrom {D : Type 0} (disks : Disks D) (es : List (Event D)) (name
   pub last : es ≡ Shut name disk ∷ Found name (Some found) ∷ before
   pub read : IsReadOf disks found bytes disk
 
--- Bytes were read of the disk of this name, they denote a tree, and what this holds is a document of these objects.
-pub record IsOpened {D : Type 0} (disks : Disks D) (es : List (Event D)) (name : List ℕ) (objects : List DocObject) : Type 0 where
+-- Bytes were read of the disk of this name, they denote a tree, and what this holds is this document.
+pub record IsOpened {D : Type 0} (disks : Disks D) (es : List (Event D)) (name : List ℕ) (document : Doc) : Type 0 where
   pub bytes : List ℕ
   pub read : IsReadFrom disks es name bytes
-  pub holds : IsReadAs (Some bytes) (Given.Holding objects)
+  pub holds : IsReadAs (Some bytes) (Given.Holding document)
 
 -- a step that opens a file, behind these calls
 abbrev pub OpensRead : {D : Type 0} (disks : Disks D) → Step → List (Event D) → Type 0
@@ -190,7 +190,7 @@ OpensRead disks (step.Reap inc) es = Unit {0}
 OpensRead disks (step.Committed f) es = Unit {0}
 OpensRead disks (step.Failed f) es = Unit {0}
 OpensRead disks (step.Resolved f is_kept) es = Unit {0}
-OpensRead disks (step.Open name w h objects) es = IsOpened disks es name objects
+OpensRead disks (step.Open name w h session objects) es = IsOpened disks es name (record { session = session; objects = objects })
 OpensRead disks step.NoMemory es = Unit {0}
 
 -- ---- whole histories
@@ -216,6 +216,6 @@ OfEachStep P (Shut name disk ∷ es) = OfEachStep P es
 abbrev pub AreSaved : {D : Type 0} (disks : Disks D) → List (Event D) → Type 0
 AreSaved disks es = OfEachStep (CountsSaved disks) es
 
--- Each file that is opened has the objects of the document that was read of the disk which the host found under its name.
+-- Each file that is opened has the session and the objects of the document that was read of the disk which the host found under its name.
 abbrev pub AreOpened : {D : Type 0} (disks : Disks D) → List (Event D) → Type 0
 AreOpened disks es = OfEachStep (OpensRead disks) es

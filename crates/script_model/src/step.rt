@@ -24,8 +24,8 @@ pub enum Step {
     /// The container is told whether the file of this frame, which was in doubt, was committed after all.
     Resolved(u32, bool),
     /// The container is given a file that is opened under this name, as a frame so many columns wide and so many lines high: the
-    /// objects of its document.
-    Open(Bytes, u16, u16, Items<DocObject>),
+    /// session and the objects of its document.
+    Open(Bytes, u16, u16, u32, Items<DocObject>),
     /// The container had no memory for what it was given last.
     NoMemory,
 }

@@ -1,13 +1,13 @@
 -- A file that is opened is as it was saved.
 use Rattle.std.proofs.Common.{◌≡◌, inl, inr, ◌++◌, ℕ, List, [], ◌∷◌, Option, Some, Result, Ok, refl, sym, ap, ◌∙◌, subst}
-use Rattle.document_model.specs.declared.object.DocObject.{DocObject}
+use Rattle.document_model.specs.Documents.{Doc}
 use Rattle.store_model.specs.Crash.{IsWithin}
 use Rattle.store_model.specs.Image.{Image}
 use Rattle.store_model.specs.Store.{StandsFor}
 use Rattle.store_model.specs.declared.disk.Disk.{Ghosts as Disks}
 use Rattle.wire_msgs.specs.Found.{nth}
 use Rattle.container_laws.specs.OpenLaws.{FilesGiveTheirs, IsFileOf}
-use Rattle.container_model.specs.declared.answer.Part.{Part}
+use Rattle.container_model.specs.declared.answer.FrameDocument.{FrameDocument}
 use Rattle.container_model.specs.declared.record.Frame.{Frame}
 use Rattle.container_model.specs.Opens.{Given, IsReadAs}
 use Rattle.container_model.specs.Saves.{document, image}
@@ -67,32 +67,32 @@ one_frame found a b first second = cc
 one_found : {D : Type 0} (name other : List ℕ) (shut disk found given : D) (rest before : List (Event D)) → ◌≡◌ {A = List (Event D)} (Shut name shut ∷ Found name (Some found) ∷ rest) (Shut other disk ∷ Found other (Some given) ∷ before) → found ≡ given
 one_found name other shut disk found given rest before is = cc
 
-objects_of : (a b : List DocObject) → Given.Holding a ≡ Given.Holding b → a ≡ b
-objects_of a b is = cc
+document_held : (a b : Doc) → Given.Holding a ≡ Given.Holding b → a ≡ b
+document_held a b is = cc
 
-parts_of : {E : Type 0} (counted : Result (List Part) E) (a b : List Part) → counted ≡ Ok a → counted ≡ Ok b → a ≡ b
-parts_of counted a b first second = cc
+saved_of : {E : Type 0} (counted : Result FrameDocument E) (a b : FrameDocument) → counted ≡ Ok a → counted ≡ Ok b → a ≡ b
+saved_of counted a b first second = cc
 
 module _ {D : Type 0} (disks : Disks D) (left : (d : D) → disks.may_leave d (disks.reads d)) (theirs : FilesGiveTheirs) where
   -- the disk of a save, of which a disk that was found leaves no more, has its bytes
-  again : (name : List ℕ) (f : ℕ) (before es : List (Event D)) (objects : List DocObject) (found : D) (saved : IsSaved disks before f) (opened : IsOpened disks es name objects)
-      → IsWithin (disks.may_leave saved.shut.disk) (disks.may_leave found) → found ≡ opened.read.found → objects ≡ document saved.file.parts
-  again name f before es objects found saved opened within is =
-      let read : StandsFor opened.bytes (disks.reads found) = subst (λ (d : D). StandsFor opened.bytes (disks.reads d)) (sym is) opened.read.read.read in
+  again : (name : List ℕ) (f : ℕ) (before es : List (Event D)) (d : Doc) (found : D) (saved : IsSaved disks before f) (opened : IsOpened disks es name d)
+      → IsWithin (disks.may_leave saved.shut.disk) (disks.may_leave found) → found ≡ opened.read.found → d ≡ document saved.file.saved
+  again name f before es d found saved opened within is =
+      let read : StandsFor opened.bytes (disks.reads found) = subst (λ (x : D). StandsFor opened.bytes (disks.reads x)) (sym is) opened.read.read.read in
       let same : opened.bytes ≡ saved.bytes = one_document opened.bytes saved.bytes (disks.reads found) read (saved.shut.saved.durable (disks.reads found) (within (disks.reads found) (left found))) in
-      let file : IsFileOf saved.bytes saved.file.parts = record { denotes = saved.file.denotes; holds = saved.file.holds } in
-      objects_of objects (document saved.file.parts) (theirs saved.bytes saved.file.parts (Given.Holding objects) file (subst (λ (b : List ℕ). IsReadAs (Some b) (Given.Holding objects)) same opened.holds))
+      let file : IsFileOf saved.bytes saved.file.saved = record { denotes = saved.file.denotes; holds = saved.file.holds } in
+      document_held d (document saved.file.saved) (theirs saved.bytes saved.file.saved (Given.Holding d) file (subst (λ (b : List ℕ). IsReadAs (Some b) (Given.Holding d)) same opened.holds))
 
   pub saves-are-opened-again : SavesAreOpenedAgain disks
-  saves-are-opened-again later between before name w h objects found shut f frame parts m saves opens faithful none is_frame named counted =
+  saves-are-opened-again later between before name w h d found shut f frame kept m saves opens faithful none is_frame named counted =
       let mid : List (Event D) = between ++ (Stepped (step.Committed f) ∷ before) in
       let es : List (Event D) = Shut name shut ∷ Found name (Some found) ∷ mid in
-      let whole : List (Event D) = Stepped (step.Open name w h objects) ∷ es in
-      let opened : IsOpened disks es name objects = (earlier (OpensRead disks) later whole opens).0 in
+      let whole : List (Event D) = Stepped (step.Open name w h d.session d.objects) ∷ es in
+      let opened : IsOpened disks es name d = (earlier (OpensRead disks) later whole opens).0 in
       let saved : IsSaved disks before f = (earlier (CountsSaved disks) between (Stepped (step.Committed f) ∷ before) (earlier (CountsSaved disks) later whole saves).1).0 m in
       let same : saved.name ≡ name = saved.file.named ∙ ap file_name (one_frame (nth (record_of before).frames f) saved.file.frame frame saved.file.found is_frame) ∙ named in
       let last : IsLastShut name saved.shut.disk before = subst (λ (e : List (Event D)). IsLastShut name saved.shut.disk e) (sym saved.shut.last) (inl (same, refl)) in
       let as_shut : IsAsShut disks name (Some found) mid = (faithful_earlier disks later whole faithful).0 in
-      again name f before es objects found saved opened (as_shut saved.shut.disk (last_still name saved.shut.disk between (Stepped (step.Committed f) ∷ before) none last))
+      again name f before es d found saved opened (as_shut saved.shut.disk (last_still name saved.shut.disk between (Stepped (step.Committed f) ∷ before) none last))
       (one_found name name shut opened.read.disk found opened.read.found mid opened.read.before opened.read.last)
-      ∙ ap document (parts_of (image (record_of before) f) saved.file.parts parts saved.file.counted counted)
+      ∙ ap document (saved_of (image (record_of before) f) saved.file.saved kept saved.file.counted counted)

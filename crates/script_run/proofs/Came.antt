@@ -78,7 +78,7 @@ all_next (Stepped (step.Reap inc) ∷ es) s heard = all_next es s heard.1
 all_next (Stepped (step.Committed f) ∷ es) s heard = all_next es s heard.1
 all_next (Stepped (step.Failed f) ∷ es) s heard = all_next es s heard.1
 all_next (Stepped (step.Resolved f is_kept) ∷ es) s heard = all_next es s heard.1
-all_next (Stepped (step.Open name w h objects) ∷ es) s heard = all_next es s heard.1
+all_next (Stepped (step.Open name w h session objects) ∷ es) s heard = all_next es s heard.1
 all_next (Stepped step.NoMemory ∷ es) s heard = all_next es s heard.1
 
 -- frames at the beginning of bytes are the first of those that the bytes are read as

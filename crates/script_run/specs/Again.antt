@@ -1,10 +1,10 @@
--- That a file which is opened has the objects of the last save of its name, over a host that gives the same disk again.
+-- That a file which is opened has the session and the objects of the last save of its name, over a host that gives the same disk again.
 use Rattle.std.specs.Prelude.{◌≡◌, ◌≢◌, ◌⊎◌, ◌++◌, ℕ, List, [], ◌∷◌, IfSome, Option, Some, Ok}
-use Rattle.document_model.specs.declared.object.DocObject.{DocObject}
+use Rattle.document_model.specs.Documents.{Doc}
 use Rattle.store_model.specs.Crash.{IsWithin}
 use Rattle.store_model.specs.declared.disk.Disk.{Ghosts as Disks}
 use Rattle.wire_msgs.specs.Found.{nth}
-use Rattle.container_model.specs.declared.answer.Part.{Part}
+use Rattle.container_model.specs.declared.answer.FrameDocument.{FrameDocument}
 use Rattle.container_model.specs.declared.record.Frame.{Frame}
 use Rattle.container_model.specs.Saves.{document, image}
 use Rattle.script_model.specs.declared.step.Step.TheVariants as step
@@ -57,14 +57,14 @@ IsFaithful disks (Ended inc ∷ es) = IsFaithful disks es
 IsFaithful disks (Stepped step ∷ es) = IsFaithful disks es
 
 -- A history in which a frame's commit was counted, then a disk was found and given back under a name, and its file opened.
-abbrev pub opened_behind : {D : Type 0} → (later : List (Event D)) → (name : List ℕ) → (w h : ℕ) → List DocObject → (found shut : D) → (between : List (Event D)) → ℕ → List (Event D) → List (Event D)
-opened_behind later name w h objects found shut between f before =
-    later ++ (Stepped (step.Open name w h objects) ∷ Shut name shut ∷ Found name (Some found) ∷ (between ++ (Stepped (step.Committed f) ∷ before)))
+abbrev pub opened_behind : {D : Type 0} → (later : List (Event D)) → (name : List ℕ) → (w h : ℕ) → Doc → (found shut : D) → (between : List (Event D)) → ℕ → List (Event D) → List (Event D)
+opened_behind later name w h d found shut between f before =
+    later ++ (Stepped (step.Open name w h d.session d.objects) ∷ Shut name shut ∷ Found name (Some found) ∷ (between ++ (Stepped (step.Committed f) ∷ before)))
 
--- Where a host is faithful and its disks follow the model, a file that is opened has the objects of the document whose commit was
+-- Where a host is faithful and its disks follow the model, a file that is opened has the session and the objects of the document whose commit was
 -- counted under its name, when no disk was given back under this name in between: it is opened as it was saved.
 abbrev pub SavesAreOpenedAgain : {D : Type 0} (disks : Disks D) → Type 0
-SavesAreOpenedAgain {D = D} disks = (later between before : List (Event D)) (name : List ℕ) (w h : ℕ) (objects : List DocObject) (found shut : D) (f : ℕ) (frame : Frame) (parts : List Part)
-    → disks.follows_model → AreSaved disks (opened_behind later name w h objects found shut between f before) → AreOpened disks (opened_behind later name w h objects found shut between f before)
-    → IsFaithful disks (opened_behind later name w h objects found shut between f before) → IsNotShut name between
-    → nth (record_of before).frames f ≡ Some frame → file_name frame ≡ name → image (record_of before) f ≡ Ok parts → objects ≡ document parts
+SavesAreOpenedAgain {D = D} disks = (later between before : List (Event D)) (name : List ℕ) (w h : ℕ) (d : Doc) (found shut : D) (f : ℕ) (frame : Frame) (saved : FrameDocument)
+    → disks.follows_model → AreSaved disks (opened_behind later name w h d found shut between f before) → AreOpened disks (opened_behind later name w h d found shut between f before)
+    → IsFaithful disks (opened_behind later name w h d found shut between f before) → IsNotShut name between
+    → nth (record_of before).frames f ≡ Some frame → file_name frame ≡ name → image (record_of before) f ≡ Ok saved → d ≡ document saved

@@ -19,7 +19,7 @@ use Rattle.world_model.specs.declared.logs.ServerDone.{ServerDone}
 use Rattle.world_model.specs.World.{nth_or_zero}
 use Rattle.world_model.specs.Safe.{Among}
 use Rattle.world_facts.specs.Words.{Links, Acts, Lives, IsHonest, IsLinked, IsOpen, IsClosed, Issued, called, waits}
-use Rattle.world_facts.specs.Facts.{Drawn, CallsBounded, InStep, not_begun, level, behind, ahead, Did, InSteps, UnlinkedClosed, Replies, HasSaved, SavedSame, Counts, Facts}
+use Rattle.world_facts.specs.Facts.{Drawn, CallsBounded, InStep, not_begun, level, behind, ahead, Did, InSteps, last_acted, OneAhead, UnlinkedClosed, Replies, HasSaved, SavedSame, Counts, Facts}
 use Rattle.world_facts.specs.Shapes.{IsFirst, IsChanged, Makes, ActsOn, again, next, makes, IsReady, entries_of}
 use Rattle.world_facts.proofs.Lookups.{among_join, among_old, among_new}
 use Rattle.world_facts.proofs.Issuing.{same_act, once_join, once_entries}
@@ -27,7 +27,7 @@ use Rattle.world_facts.proofs.Issuing.{same_act, once_join, once_entries}
 module _ {hostile : List ℕ} (links : Links) (acts after : Acts) (lives : Lives) (sent : List Message) (owners : List ℕ) (last : ℕ) (counted : List Done) (served : List ServerDone)
     (inc act n : ℕ) (op : Operation) (a : Activation) (r : Answer) (told : Option Counted)
     (f : Facts hostile links acts lives sent owners last counted served) (ready : IsReady links)
-    (call : Among sent (Call inc act n op)) (runs : lives inc ≡ Some Running) (ch : IsChanged acts after inc act a) (how : ActsOn acts inc act n op a r told) where
+    (call : Among sent (Call inc act n op)) (ch : IsChanged acts after inc act a) (how : ActsOn acts inc act n op a r told) where
   abbrev pub more : List Message
   more = sent ++ Reply inc act n r ∷ []
 
@@ -55,8 +55,8 @@ module _ {hostile : List ℕ} (links : Links) (acts after : Acts) (lives : Lives
         pending = λ asked p e. f.calls.pending o inc op asked l at p (subst (λ x. Among sent (Call inc l.act x op)) e mine);
       }
 
-  pub linked_or_closed : IsHonest hostile inc → IsLinked links inc act ⊎ IsClosed (acts inc act)
-  linked_or_closed honest = f.unlinked.called inc act n op honest runs call
+  pub linked_or_closed : IsHonest hostile inc → lives inc ≡ Some Running → IsLinked links inc act ⊎ IsClosed (acts inc act)
+  linked_or_closed honest runs = f.unlinked.called inc act n op honest runs call
 
   -- the next call of an activation is the pending one of its link, which is at the activation's states
   pub record IsNextOf (l : Link) (b : Activation) : Type 0 where
@@ -108,7 +108,21 @@ module _ {hostile : List ℕ} (links : Links) (acts after : Acts) (lives : Lives
     | inr d ↦ subst (InStep l) (sym (ch.others l.inc l.act d)) (f.in_step o l e h)
   ]
 
-  -- an activation comes only further, and was called
+  -- an activation comes only further, so no call is further ahead of it than before
+  come_further : ActsOn acts inc act n op a r told → last_acted (acts inc act) ≤ a.last
+  come_further (again at en er ec) = (let was : last_acted (acts inc act) ≡ a.last = ap last_acted at in omega arith)
+  come_further (next b at en opened m) = (let was : last_acted (acts inc act) ≡ b.last = ap last_acted at in let el = m.last in omega arith)
+  come_further (makes at en fo al ar d ec eg) = (let was : last_acted (acts inc act) ≡ 0 = ap last_acted at in omega arith)
+
+  pub one_ahead : OneAhead hostile after more
+  one_ahead i x m p h g = (let was : m ≤ last_acted (acts i x) + 1 = f.one_ahead i x m p h (old_call i x m p g) in elim (same_act i x inc act) [
+    | inl s ↦ (let before : last_acted (acts i x) ≡ last_acted (acts inc act) = ap (λ y. last_acted (acts y x)) s.0 ∙ ap (λ y. last_acted (acts inc y)) s.1 in
+        let now : last_acted (after i x) ≡ a.last = ap (λ y. last_acted (after y x)) s.0 ∙ (ap (λ y. last_acted (after inc y)) s.1 ∙ ap last_acted ch.here) in
+        let le = come_further how in omega arith)
+    | inr d ↦ subst (λ y. m ≤ last_acted y + 1) (sym (ch.others i x d)) was
+  ])
+
+  -- an activation that acts was called
   called_here : ActsOn acts inc act n op a r told → 1 ≤ a.last
   called_here (again at en er ec) = f.drawn.acts_called inc act a at
   called_here (next b at en opened m) = (let el = m.last in omega arith)
@@ -142,8 +156,8 @@ module _ {hostile : List ℕ} (links : Links) (acts after : Acts) (lives : Lives
   closed_here c (next b at en opened m) = absurd (let z : b.content ≡ None = subst IsClosed at c in let y : None ≡ Some opened.0 = sym z ∙ opened.1 in cc)
   closed_here c (makes at en fo al ar d ec eg) = absurd (subst IsClosed at c)
 
-  known_here : IsHonest hostile inc → ActsOn acts inc act n op a r told → IsLinked links inc act ⊎ (a.content ≡ None)
-  known_here honest h = elim (linked_or_closed honest) [ inl g ↦ inl g | inr c ↦ inr (closed_here c h) ]
+  known_here : IsHonest hostile inc → lives inc ≡ Some Running → ActsOn acts inc act n op a r told → IsLinked links inc act ⊎ (a.content ≡ None)
+  known_here honest runs h = elim (linked_or_closed honest runs) [ inl g ↦ inl g | inr c ↦ inr (closed_here c h) ]
 
   pub unlinked : UnlinkedClosed hostile links after lives more
   unlinked = record {
@@ -157,7 +171,7 @@ module _ {hostile : List ℕ} (links : Links) (acts after : Acts) (lives : Lives
     ];
     known = λ i x b h lv e. elim (same_act i x inc act) [
       | inl s ↦ (let z : Some a ≡ Some b = sym ch.here ∙ (ap (after inc) (sym s.1) ∙ (ap (λ y. after y x) (sym s.0) ∙ e)) in let is : a ≡ b = cc in
-          elim (known_here (subst (IsHonest hostile) s.0 h) how) [
+          elim (known_here (subst (IsHonest hostile) s.0 h) (ap lives (sym s.0) ∙ lv) how) [
             | inl k ↦ inl (k.0, k.1, k.2, k.3 ∙ sym s.0, k.4 ∙ sym s.1)
             | inr c ↦ inr (subst (λ (y : Activation). y.content ≡ None) is c)
           ])
@@ -255,44 +269,32 @@ module _ {hostile : List ℕ} (links : Links) (acts after : Acts) (lives : Lives
   issued_old i x m p (called g) = called (old_call i x m p g)
   issued_old i x m p (waits o l j e ei ea at en) = waits o l j e ei ea at en
 
-  -- two links of one activation are one
-  same_link : (o o' : ℕ) (l l' : Link) → links o ≡ Some l → links o' ≡ Some l' → l.act ≡ l'.act → (o ≡ o') × (l ≡ l')
-  same_link o o' l l' e e' ea = (let z : Some o ≡ Some o' = sym (f.drawn.calls_named o l e) ∙ (ap (nth owners) ea ∙ f.drawn.calls_named o' l' e') in
-      let oo : o ≡ o' = cc in
-      let q : Some l ≡ Some l' = sym e ∙ (ap links oo ∙ e') in (oo, cc))
-
-  -- past the call that acts nothing is issued that was sent
-  not_sent : (o : ℕ) (l : Link) (m : ℕ) (p : Operation) → IsPending o l → n ≡ l.last → Among sent (Call inc act m p) → n < m → ⊥
-  not_sent o l m p k nl g lt = (let le : m ≤ l.last = (f.calls.bounded o inc m p l k.at (subst (λ x. Among sent (Call inc x m p)) (sym k.act_is) g)).1 in absurd (omega arith))
-
-  -- where a save acts, no end of a save is issued behind it
-  not_saving : (o : ℕ) (l : Link) (j k m : ℕ) (s : Bool) → IsPending o l → l.pending ≡ Some (Save j) → n ≡ l.last → n < m → Issued links sent inc act m (SaveCompleted k s) → ⊥
-  not_saving o l j k m s p ps nl lt (called g) = not_sent o l m (SaveCompleted k s) p nl g lt
-  not_saving o l j k m s p ps nl lt (waits o' l' i e ei ea at en) = (let q = same_link o' o l' l e p.at (ea ∙ sym p.act_is) in
-      ready.apart o j k i s l p.at ps (ap (λ (x : Link). slice_get x.waiting i) (sym q.1) ∙ at))
-
-  -- where a first call acts, nothing is issued behind it
-  not_beginning : (o : ℕ) (l : Link) (k m : ℕ) (s : Bool) → IsPending o l → l.waiting ≡ [] → n ≡ l.last → n < m → Issued links sent inc act m (SaveCompleted k s) → ⊥
-  not_beginning o l k m s p none1 nl lt (called g) = not_sent o l m (SaveCompleted k s) p nl g lt
-  not_beginning o l k m s p none1 nl lt (waits o' l' i e ei ea at en) = (let q = same_link o' o l' l e p.at (ea ∙ sym p.act_is) in
-      let z : None ≡ Some (SaveCompleted k s) = ap (λ xs. slice_get xs i) (sym none1) ∙ (ap (λ (x : Link). slice_get x.waiting i) (sym q.1) ∙ at) in absurd (cc))
-
-  -- the link of an activation that takes its next call, or its first
-  link_of : IsHonest hostile inc → IsOpen a → ((b : Activation) → acts inc act ≡ Some b → IsOpen b) → (o : ℕ) × (l : Link) × IsPending o l
-  link_of honest opened before = elim (linked_or_closed honest) [
-    | inl g ↦ (g.0, g.1, of_link g.0 g.1 g.2 g.3 g.4 honest)
-    | inr c ↦ absurd (at (acts inc act) refl c)
-  ]
-    where
-      at : (x : Option Activation) → acts inc act ≡ x → IsClosed x → ⊥
-      at None e c = c
-      at (Some b) e c = (let w = before b e in let z : None ≡ Some w.0 = sym c ∙ w.1 in cc)
-
-  first_alone : (o : ℕ) (l : Link) → IsPending o l → n ≡ 1 → IsFirst op → (x : Option Activation) → x ≡ None → InStep l x → (l.waiting ≡ []) × (n ≡ l.last)
-  first_alone o l p one fo _ e (not_begun q l1 v s g) = (let nl : n ≡ l.last = one ∙ sym l1 in let oq : op ≡ q = p.pending q g nl in ((ready.first o l op p.at (g ∙ ap Some (sym oq)) fo).1, nl))
+  -- where a first call acts, nothing waits
+  first_alone : (o : ℕ) (l : Link) → IsPending o l → n ≡ 1 → IsFirst op → (x : Option Activation) → x ≡ None → InStep l x → l.waiting ≡ []
+  first_alone o l p one fo _ e (not_begun q l1 v s g) = (let oq : op ≡ q = p.pending q g (one ∙ sym l1) in (ready.first o l op p.at (g ∙ ap Some (sym oq)) fo).1)
   first_alone o l p one fo _ e (level y g el v) = absurd (let z : Some y ≡ None = e in cc)
   first_alone o l p one fo _ e (behind y q g el v) = absurd (let z : Some y ≡ None = e in cc)
   first_alone o l p one fo _ e (ahead y q g el v) = absurd (let z : Some y ≡ None = e in cc)
+
+  -- past the call that acts nothing was sent
+  not_sent : IsHonest hostile inc → (m : ℕ) (p : Operation) → Among sent (Call inc act m p) → last_acted (acts inc act) + 1 < m → ⊥
+  not_sent honest m p g lt = (let le = f.one_ahead inc act m p honest g in absurd (omega arith))
+
+  -- where a save acts, no end of a save is issued behind it
+  not_saving : IsHonest hostile inc → (b : Activation) → acts inc act ≡ Some b → n ≡ b.last + 1 → (j k m : ℕ) (s : Bool) → op ≡ Save j → n < m → Issued links sent inc act m (SaveCompleted k s) → ⊥
+  not_saving honest b at en j k m s sv lt (called g) = (let el : last_acted (acts inc act) ≡ b.last = ap last_acted at in not_sent honest m (SaveCompleted k s) g (omega arith))
+  not_saving honest b at en j k m s sv lt (waits o l i e ei ea w em) =
+      let p = of_link o l e ei ea honest in
+      let x = next_of o l b p en _ at p.step in
+      ready.apart o j k i s l e (x.asked ∙ ap Some sv) w
+
+  -- where a first call acts, nothing is issued behind it
+  not_beginning : IsHonest hostile inc → acts inc act ≡ None → n ≡ 1 → IsFirst op → (k m : ℕ) (s : Bool) → n < m → Issued links sent inc act m (SaveCompleted k s) → ⊥
+  not_beginning honest at en fo k m s lt (called g) = (let el : last_acted (acts inc act) ≡ 0 = ap last_acted at in not_sent honest m (SaveCompleted k s) g (omega arith))
+  not_beginning honest at en fo k m s lt (waits o l i e ei ea w em) =
+      let p = of_link o l e ei ea honest in
+      let alone = first_alone o l p en fo _ at p.step in
+      let z : None ≡ Some (SaveCompleted k s) = ap (λ xs. slice_get xs i) (sym alone) ∙ w in absurd (cc)
 
   content_here : IsHonest hostile inc → (m k o : ℕ) (s : Bool) → Issued links sent inc act m (SaveCompleted k s) → IsOpen a → a.last < m → nth owners act ≡ Some o → ActsOn acts inc act n op a r told
       → (c : Stored) × (a.saved ≡ Some c) × Among counted (record { object = o; k = k; content = c })
@@ -301,20 +303,13 @@ module _ {hostile : List ℕ} (links : Links) (acts after : Acts) (lives : Lives
       let el = w.last in
       let before = f.counts.completed_content inc act m k o s b i honest at bo (omega arith) e in
       elim w.saved [
-        | inl sv ↦ (let lk = link_of honest opened (λ b' e'. (let z : Some b ≡ Some b' = sym at ∙ e' in let is : b ≡ b' = cc in subst IsOpen is bo)) in
-            let x = next_of lk.0 lk.1 b lk.2 en _ at lk.2.step in
-            absurd (not_saving lk.0 lk.1 sv.0 k m s lk.2 (x.asked ∙ ap Some sv.1) x.number (omega arith) i))
+        | inl sv ↦ absurd (not_saving honest b at en sv.0 k m s sv.1 (omega arith) i)
         | inr same ↦ (before.0, same ∙ before.1, before.2)
       ]
-  content_here honest m k o s i opened lt e (makes at en fo al ar d ec eg) =
-      let lk = link_of honest opened (λ b' e'. absurd (let z : None ≡ Some b' = sym at ∙ e' in cc)) in
-      let x = first_alone lk.0 lk.1 lk.2 en fo _ at lk.2.step in
-      absurd (not_beginning lk.0 lk.1 k m s lk.2 x.0 x.1 (omega arith) i)
+  content_here honest m k o s i opened lt e (makes at en fo al ar d ec eg) = absurd (not_beginning honest at en fo k m s (omega arith) i)
 
   further : (b : Activation) → acts inc act ≡ Some b → ActsOn acts inc act n op a r told → b.last ≤ a.last
-  further b at (again at' en er ec) = (let z : Some b ≡ Some a = sym at ∙ at' in let e : b ≡ a = cc in let le : b.last ≡ a.last = ap (λ (y : Activation). y.last) e in omega arith)
-  further b at (next b' at' en opened w) = (let z : Some b ≡ Some b' = sym at ∙ at' in let e : b ≡ b' = cc in let le : b.last ≡ b'.last = ap (λ (y : Activation). y.last) e in let la = w.last in omega arith)
-  further b at (makes at' en fo al ar d ec eg) = absurd (let z : Some b ≡ None = sym at ∙ at' in cc)
+  further b at h = (let was : last_acted (acts inc act) ≡ b.last = ap last_acted at in let le = come_further h in omega arith)
 
   abbrev pub Called : ServerDone → Type 0
   Called e = (x m : ℕ) × (storage : Bool) × (b : Activation) × Among more (Call e.inc x m (SaveCompleted e.k storage)) × (nth owners x ≡ Some e.object) × (after e.inc x ≡ Some b) × (m ≤ b.last)
@@ -393,4 +388,4 @@ module _ {hostile : List ℕ} (links : Links) (acts after : Acts) (lives : Lives
   }
 
   pub acted : Facts hostile links after lives more owners last counted (served ++ entries)
-  acted = record { drawn = drawn; calls = calls; in_step = in_step; unlinked = unlinked; replies = replies; saved_same = saved_same; counts = counts_now }
+  acted = record { drawn = drawn; calls = calls; in_step = in_step; one_ahead = one_ahead; unlinked = unlinked; replies = replies; saved_same = saved_same; counts = counts_now }

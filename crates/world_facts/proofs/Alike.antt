@@ -15,7 +15,7 @@ use Rattle.container_model.specs.declared.answer.Done.{Done}
 use Rattle.world_model.specs.declared.logs.ServerDone.{ServerDone}
 use Rattle.world_model.specs.Safe.{Among}
 use Rattle.world_facts.specs.Words.{Links, Acts, Lives, IsClosed}
-use Rattle.world_facts.specs.Facts.{IsEven, HasStepped, HasDone, Did, InStep, not_begun, level, behind, ahead, HasSaved, Facts}
+use Rattle.world_facts.specs.Facts.{IsEven, HasStepped, HasDone, Did, InStep, not_begun, level, behind, ahead, last_acted, HasSaved, Facts}
 use Rattle.world_facts.specs.Shapes.{IsAlike, Alike}
 
 -- the other one, where one is there
@@ -105,6 +105,12 @@ step_alike l _ (Some b) k (behind a op p n v) = behind b op p (ap (λ m. m + 1) 
 step_alike l _ None k (ahead a op p n d) = absurd k
 step_alike l _ (Some b) k (ahead a op p n d) = ahead b op p (k.last ∙ n) (subst (Did l.states l.s op b) (sym k.reply) (did_alike l.states l.s a b k op a.reply d))
 
+last_alike : (x y : Option Activation) → Alike x y → last_acted y ≡ last_acted x
+last_alike None None k = refl
+last_alike None (Some b) k = absurd k
+last_alike (Some a) None k = absurd k
+last_alike (Some a) (Some b) k = k.last
+
 saved_alike : (c : Stored) (x y : Option Activation) → Alike x y → HasSaved c x → HasSaved c y
 saved_alike c None y k h = absurd h
 saved_alike c (Some a) None k h = absurd k
@@ -136,6 +142,7 @@ module _ {hostile : List ℕ} (links : Links) (acts after : Acts) (lives now : L
     };
     calls = f.calls;
     in_step = λ o l e honest. step_alike l (acts l.inc l.act) (after l.inc l.act) (same l.inc l.act) (f.in_step o l e honest);
+    one_ahead = λ inc act n op honest g. subst (λ m. n ≤ m + 1) (sym (last_alike (acts inc act) (after inc act) (same inc act))) (f.one_ahead inc act n op honest g);
     unlinked = record {
       called = λ inc act n op honest lv g. elim (f.unlinked.called inc act n op honest (sym (still inc) ∙ lv) g) [
         | inl k ↦ inl k

@@ -18,7 +18,7 @@ use Rattle.world_facts.specs.Facts.{InStep, HasSaved, Counts, Facts}
 use Rattle.world_facts.specs.Shapes.{IsSame, IsCalled, AskedAt, none, stays, queues, sends, AsksAll, IsQuiet}
 use Rattle.world_facts.proofs.Lookups.{among_join, among_old, nth_bound, slice_get_one}
 use Rattle.world_facts.proofs.Issuing.{NoMoreEnds, counts_kept}
-use Rattle.world_facts.proofs.Sending.{is_behind, saved_kept, only_calls}
+use Rattle.world_facts.proofs.Sending.{is_behind, ahead_sent, saved_kept, only_calls}
 use Rattle.world_facts.proofs.SameLinks.{is_same_step}
 
 -- how the link of an object came to be
@@ -203,6 +203,7 @@ module _ {hostile : List ℕ} (Asks : ℕ → Operation → Type 0) (links after
       ];
     };
     in_step = in_step;
+    one_ahead = ahead_sent hostile after acts log more in_step (λ inc act n op g. (let c = new_call (Call inc act n op) g in let q = c.call in (c.o, c.link, c.is, (cc), (cc), (cc)))) f.one_ahead;
     unlinked = record {
       called = λ inc act n op honest lv g. elim (among_join log more (Call inc act n op) g) [
         | inl old ↦ elim (f.unlinked.called inc act n op honest lv old) [ inl x ↦ inl (linked inc act x) | inr x ↦ inr x ]

@@ -19,7 +19,7 @@ use Rattle.world_facts.specs.Facts.{InStep, not_begun, HasSaved, Counts, Facts}
 use Rattle.world_facts.specs.Shapes.{Begins}
 use Rattle.world_facts.proofs.Lookups.{among_join, among_old, nth_old, nth_bound}
 use Rattle.world_facts.proofs.Issuing.{NoMoreEnds, counts_kept, which}
-use Rattle.world_facts.proofs.Sending.{only_calls}
+use Rattle.world_facts.proofs.Sending.{ahead_sent, only_calls}
 use Rattle.std.proofs.lemmas.Bool.Decides.{eqb_tells}
 
 -- more activations are made: what was counted stays
@@ -147,6 +147,7 @@ module _ {hostile : List ℕ} (links after : Links) (acts : Acts) (lives : Lives
     };
     calls = record { bounded = bounded; pending = pending };
     in_step = in_step;
+    one_ahead = ahead_sent hostile after acts sent more in_step (λ inc act n op g. (let q = is_new (Call inc act n op) g in (o, link, h.is, (cc), (cc), (cc)))) f.one_ahead;
     unlinked = record {
       called = λ inc act n op honest lv g. elim (among_join sent more (Call inc act n op) g) [
         | inl old ↦ elim (f.unlinked.called inc act n op honest lv old) [ inl x ↦ inl (linked inc act x) | inr x ↦ inr x ]

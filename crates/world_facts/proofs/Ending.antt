@@ -46,6 +46,7 @@ module _ {hostile : List ℕ} (links after : Links) (acts : Acts) (lives : Lives
     };
     calls = record { bounded = λ k inc n op l e. f.calls.bounded k inc n op l (old k l e); pending = λ k inc op asked l e. f.calls.pending k inc op asked l (old k l e) };
     in_step = λ k l e. f.in_step k l (old k l e);
+    one_ahead = f.one_ahead;
     unlinked = record {
       called = λ inc act n op honest lv g. elim (f.unlinked.called inc act n op honest lv g) [ inl x ↦ linked inc act honest lv x | inr x ↦ inr x ];
       known = λ inc act a honest lv e. elim (f.unlinked.known inc act a honest lv e) [

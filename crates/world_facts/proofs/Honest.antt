@@ -37,6 +37,7 @@ fewer_honest hostile more links acts lives sent owners last counted served fewer
   drawn = f.drawn;
   calls = f.calls;
   in_step = λ o l e honest. f.in_step o l e (fewer l.inc honest);
+  one_ahead = λ inc act n op honest. f.one_ahead inc act n op (fewer inc honest);
   unlinked = record {
     called = λ inc act n op honest. f.unlinked.called inc act n op (fewer inc honest);
     known = λ inc act a honest. f.unlinked.known inc act a (fewer inc honest);

@@ -14,7 +14,7 @@ use Rattle.container_model.specs.declared.answer.Done.{Done}
 use Rattle.world_model.specs.declared.logs.ServerDone.{ServerDone}
 use Rattle.world_model.specs.Safe.{Among}
 use Rattle.world_facts.specs.Words.{Links, Acts, Lives, IsHonest, IsLinked, called, waits}
-use Rattle.world_facts.specs.Facts.{InStep, not_begun, level, behind, ahead, HasSaved, Replies, Facts}
+use Rattle.world_facts.specs.Facts.{InStep, not_begun, level, behind, ahead, InSteps, last_acted, OneAhead, HasSaved, Replies, Facts}
 use Rattle.world_facts.specs.Shapes.{IsCalled, SendsNext}
 use Rattle.world_facts.proofs.Lookups.{among_join, among_old, nth_bound}
 use Rattle.world_facts.proofs.Issuing.{NoMoreEnds, counts_kept, which, linked_kept}
@@ -26,6 +26,27 @@ is_behind b m op c _ (level a g e v) = (let el : a.last ≡ b.last = e in let ml
     behind a op c.pending (omega arith) (record { opened = v.opened; states = v.states ∙ sym c.states; grant = v.grant ∙ sym c.s }))
 is_behind b m op c _ (behind a p g e v) = absurd (let z : None ≡ Some p = sym c.free ∙ g in cc)
 is_behind b m op c _ (ahead a p g e v) = absurd (let z : None ≡ Some p = sym c.free ∙ g in cc)
+
+-- the last call of a link in step is at most one ahead of its activation
+pub last_ahead : (l : Link) (x : Option Activation) → InStep l x → l.last ≤ last_acted x + 1
+last_ahead l _ (not_begun op e v s g) = (let one : l.last ≡ 1 = e in omega arith)
+last_ahead l _ (level a g e v) = (let el : a.last ≡ l.last = e in omega arith)
+last_ahead l _ (behind a op g e v) = (let el : a.last + 1 ≡ l.last = e in omega arith)
+last_ahead l _ (ahead a op g e d) = (let el : a.last ≡ l.last = e in omega arith)
+
+-- so where each call that is sent is the last one of a link, none is more than one ahead
+pub ahead_sent : (hostile : List ℕ) (links : Links) (acts : Acts) (sent more : List Message) → InSteps hostile links acts
+    → ((inc act n : ℕ) (op : Operation) → Among more (Call inc act n op) → (o : ℕ) × (l : Link) × (links o ≡ Some l) × (inc ≡ l.inc) × (act ≡ l.act) × (n ≡ l.last))
+    → OneAhead hostile acts sent → OneAhead hostile acts (sent ++ more)
+ahead_sent hostile links acts sent more steps new h inc act n op honest g = elim (among_join sent more (Call inc act n op) g) [
+  | inl old ↦ h inc act n op honest old
+  | inr x ↦ (let c = new inc act n op x in
+      let l : Link = c.1 in
+      let k : InStep l (acts inc act) = subst (λ y. InStep l (acts inc y)) (sym c.4) (subst (λ y. InStep l (acts y l.act)) (sym c.3) (steps c.0 l c.2 (subst (IsHonest hostile) c.3 honest))) in
+      let le = last_ahead l (acts inc act) k in
+      let en : n ≡ l.last = c.5 in
+      omega arith)
+]
 
 -- the content of a save after a step that may end it
 pub saved_kept : (acts : Acts) (b m : Link) (c : Stored) → m.inc ≡ b.inc → m.act ≡ b.act → ((m.saved ≡ b.saved) ⊎ (m.saved ≡ None)) → (b.saved ≡ Some c → HasSaved c (acts b.inc b.act)) → m.saved ≡ Some c → HasSaved c (acts m.inc m.act)
@@ -167,6 +188,7 @@ module _ {hostile : List ℕ} (links after : Links) (acts : Acts) (lives : Lives
     };
     calls = record { bounded = bounded; pending = pending };
     in_step = in_step;
+    one_ahead = ahead_sent hostile after acts sent more in_step (λ inc act n op g. (let q = is_new (Call inc act n op) g in (o, h.link, h.is, (cc), (cc), (cc)))) f.one_ahead;
     unlinked = record {
       called = λ inc act n op honest lv g. elim (among_join sent more (Call inc act n op) g) [
         | inl old ↦ elim (f.unlinked.called inc act n op honest lv old) [ inl x ↦ inl (linked inc act x) | inr x ↦ inr x ]

@@ -76,6 +76,7 @@ module _ {hostile : List ℕ} (links after : Links) (acts : Acts) (lives : Lives
     drawn = record { many = f.drawn.many; acts_drawn = f.drawn.acts_drawn; acts_called = f.drawn.acts_called; calls_drawn = f.drawn.calls_drawn; calls_named = named; servers_told = told; calls_told = f.drawn.calls_told };
     calls = record { bounded = bounded; pending = pending };
     in_step = in_step;
+    one_ahead = f.one_ahead;
     unlinked = record {
       called = λ inc act n op honest lv g. elim (f.unlinked.called inc act n op honest lv g) [ inl x ↦ inl (linked inc act x) | inr x ↦ inr x ];
       known = λ inc act a honest lv g. elim (f.unlinked.known inc act a honest lv g) [ inl x ↦ inl (linked inc act x) | inr x ↦ inr x ];

@@ -1,10 +1,10 @@
 -- A server starts or ends: each fact stays.
-use Rattle.std.proofs.Common.{◌≡◌, ℕ, List, Some, sym, ◌∙◌, inl, inr, subst}
+use Rattle.std.proofs.Common.{◌≡◌, ◌≤◌, ◌+◌, ℕ, List, Some, sym, ◌∙◌, inl, inr, subst}
 use Rattle.wire_msgs.specs.declared.message.Message.{Message}
 use Rattle.container_model.specs.declared.answer.Done.{Done}
 use Rattle.world_model.specs.declared.logs.ServerDone.{ServerDone}
 use Rattle.world_facts.specs.Words.{Links, Acts, Lives, IsClosed}
-use Rattle.world_facts.specs.Facts.{InStep, HasSaved, Facts}
+use Rattle.world_facts.specs.Facts.{InStep, last_acted, HasSaved, Facts}
 use Rattle.world_facts.specs.Shapes.{StartsOrEnds}
 
 module _ {hostile : List ℕ} (links : Links) (acts after : Acts) (lives now : Lives) (sent : List Message) (owners : List ℕ) (last : ℕ) (counted : List Done) (served : List ServerDone)
@@ -22,6 +22,7 @@ module _ {hostile : List ℕ} (links : Links) (acts after : Acts) (lives now : L
     };
     calls = f.calls;
     in_step = λ o l e honest. subst (InStep l) (sym (h.same l.inc l.act)) (f.in_step o l e honest);
+    one_ahead = λ inc act n op honest g. subst (λ x. n ≤ last_acted x + 1) (sym (h.same inc act)) (f.one_ahead inc act n op honest g);
     unlinked = record {
       called = λ inc act n op honest lv g. (let p = f.drawn.calls_told inc act n op g in
           elim (f.unlinked.called inc act n op honest (h.runs inc p.0 p.1 lv) g) [ inl x ↦ inl x | inr c ↦ inr (subst IsClosed (sym (h.same inc act)) c) ]);

@@ -41,6 +41,7 @@ module _ {hostile : List ℕ} (links : Links) (acts : Acts) (lives : Lives) (sen
       pending = λ o inc op asked l e p g. f.calls.pending o inc op asked l e p (old inc l.act l.last op g);
     };
     in_step = f.in_step;
+    one_ahead = λ inc act n op honest g. f.one_ahead inc act n op honest (old inc act n op g);
     unlinked = record { called = λ inc act n op honest lv g. f.unlinked.called inc act n op honest lv (old inc act n op g); known = f.unlinked.known };
     replies = only_calls acts sent more (λ inc act n r g. own (Reply inc act n r) g) f.replies;
     saved_same = f.saved_same;

@@ -10,7 +10,6 @@ use Rattle.server_model.specs.Server.{Activation}
 use Rattle.server_model.specs.declared.counted.Counted.{Counted}
 use Rattle.container_model.specs.declared.record.Link.{Link}
 use Rattle.container_model.specs.declared.answer.Done.{Done}
-use Rattle.world_model.specs.declared.life.Life.TheVariants.{Running}
 use Rattle.world_model.specs.declared.logs.Sent.{Sent}
 use Rattle.world_model.specs.declared.logs.ServerDone.{ServerDone}
 use Rattle.world_model.specs.World.{view_of}
@@ -30,13 +29,13 @@ is_opened b h = ap is_some h.1
 module _ {hostile : List ℕ} (links : Links) (acts after : Acts) (lives : Lives) (sent : List Message) (owners : List ℕ) (last : ℕ) (counted : List Done) (served : List ServerDone)
     (inc act n : ℕ) (op : Operation) (a : Activation) (r : Answer) (told : Option Counted)
     (f : Facts hostile links acts lives sent owners last counted served) (ready : IsReady links)
-    (call : Among sent (Call inc act n op)) (runs : lives inc ≡ Some Running) (ch : IsChanged acts after inc act a) (how : ActsOn acts inc act n op a r told) (log : List Sent) (v : Views hostile links acts log) where
+    (call : Among sent (Call inc act n op)) (ch : IsChanged acts after inc act a) (how : ActsOn acts inc act n op a r told) (log : List Sent) (v : Views hostile links acts log) where
   -- the reply, with the activation's state before the call
   abbrev pub reply : Sent
   reply = record { message = Reply inc act n r; view = option_map view_of (acts inc act) }
 
-  pending_of : (o : ℕ) (l : Link) → links o ≡ Some l → l.inc ≡ inc → l.act ≡ act → IsHonest hostile inc → IsPending links acts after lives sent owners last counted served inc act n op a r told f ready call runs ch how o l
-  pending_of o l e ei ea honest = of_link links acts after lives sent owners last counted served inc act n op a r told f ready call runs ch how o l e ei ea honest
+  pending_of : (o : ℕ) (l : Link) → links o ≡ Some l → l.inc ≡ inc → l.act ≡ act → IsHonest hostile inc → IsPending links acts after lives sent owners last counted served inc act n op a r told f ready call ch how o l
+  pending_of o l e ei ea honest = of_link links acts after lives sent owners last counted served inc act n op a r told f ready call ch how o l e ei ea honest
 
   seen_old : (inc' act' m : ℕ) (q : Answer) (l : Link) → IsSeen log inc' act' m q l.states l.s → IsSeen (log ++ reply ∷ []) inc' act' m q l.states l.s
   seen_old inc' act' m q l h = record { view = h.view; among = among_old log (reply ∷ []) _ h.among; opened = h.opened; states = h.states; grant = h.grant }
@@ -55,8 +54,8 @@ module _ {hostile : List ℕ} (links : Links) (acts after : Acts) (lives : Lives
       (v.closes_sent o l a option e (subst (IsHonest hostile) (sym ei) honest) k p el)))
   seen_now o l option e ei ea honest p el (next b at en opened m) =
       let pb = pending_of o l e ei ea honest in
-      let x : IsNextOf links acts after lives sent owners last counted served inc act n op a r told f ready call runs ch how l b =
-      next_of links acts after lives sent owners last counted served inc act n op a r told f ready call runs ch how o l b pb en _ at pb.step in
+      let x : IsNextOf links acts after lives sent owners last counted served inc act n op a r told f ready call ch how l b =
+      next_of links acts after lives sent owners last counted served inc act n op a r told f ready call ch how o l b pb en _ at pb.step in
       let la : n ≡ a.last = en ∙ sym m.last in
       let is : record { message = Reply inc act a.last a.reply; view = Some (view_of b) } ≡ reply =
       ap (λ k. record { message = Reply inc act k a.reply; view = Some (view_of b) }) (sym la) ∙ (ap (λ q. record { message = Reply inc act n q; view = Some (view_of b) }) m.reply

@@ -88,6 +88,16 @@ pub data InStep (l : Link) : Option Activation → Type 0 where
 abbrev pub InSteps : List ℕ → Links → Acts → Type 0
 InSteps hostile links acts = (o : ℕ) (l : Link) → links o ≡ Some l → IsHonest hostile l.inc → InStep l (acts l.inc l.act)
 
+-- the last call that an activation has acted on: none yet, where it isn't known
+abbrev pub last_acted : Option Activation → ℕ
+last_acted None = 0
+last_acted (Some a) = a.last
+
+-- No call was sent to an activation of an honest server that is more than one ahead of the last call that it has acted on.
+-- This asks for no link and no server that runs, so it stays when both have ended.
+abbrev pub OneAhead : List ℕ → Acts → List Message → Type 0
+OneAhead hostile acts sent = (inc act n : ℕ) (op : Operation) → IsHonest hostile inc → Among sent (Call inc act n op) → n ≤ last_acted (acts inc act) + 1
+
 -- At an honest server that runs, an activation that it knows, or that it was called with, and that no link has, is closed
 -- for good; so no call acts after its activation's end.
 pub record UnlinkedClosed (hostile : List ℕ) (links : Links) (acts : Acts) (lives : Lives) (sent : List Message) : Type 0 where
@@ -130,6 +140,7 @@ pub record Facts (hostile : List ℕ) (links : Links) (acts : Acts) (lives : Liv
   pub drawn : Drawn links acts lives sent owners last_act
   pub calls : CallsBounded links sent
   pub in_step : InSteps hostile links acts
+  pub one_ahead : OneAhead hostile acts sent
   pub unlinked : UnlinkedClosed hostile links acts lives sent
   pub replies : Replies acts sent
   pub saved_same : SavedSame hostile links acts

@@ -1,12 +1,11 @@
 -- Laws: each shape of change keeps all facts.
-use Rattle.std.specs.Prelude.{◌≡◌, ◌+◌, ◌++◌, ◌∷◌, ℕ, List, [], length, Option, Some, option_map}
+use Rattle.std.specs.Prelude.{◌≡◌, ◌+◌, ◌++◌, ◌∷◌, ℕ, List, [], length, Option, option_map}
 use Rattle.wire_msgs.specs.declared.message.Message.{Message}
 use Rattle.wire_msgs.specs.declared.message.Message.TheVariants.{Call, Reply}
 use Rattle.wire_msgs.specs.declared.operation.Operation.{Operation}
 use Rattle.wire_msgs.specs.declared.answer.Answer.{Answer}
 use Rattle.server_model.specs.Server.{Activation}
 use Rattle.server_model.specs.declared.counted.Counted.{Counted}
-use Rattle.world_model.specs.declared.life.Life.TheVariants.{Running}
 use Rattle.container_model.specs.declared.answer.Done.{Done}
 use Rattle.world_model.specs.declared.logs.ServerDone.{ServerDone}
 use Rattle.world_model.specs.declared.logs.Sent.{Sent}
@@ -53,11 +52,11 @@ abbrev pub StartingKeeps : Type 0
 StartingKeeps = (hostile : List ℕ) (links : Links) (acts after : Acts) (lives now : Lives) (sent : List Message) (owners : List ℕ) (last : ℕ) (counted : List Done) (served : List ServerDone)
     → StartsOrEnds acts after lives now → Facts hostile links acts lives sent owners last counted served → Facts hostile links after now sent owners last counted served
 
--- a server that runs, honest or not, takes a call that was sent: it acts, or answers again
+-- a server, honest or not, takes a call that was sent: it acts, or answers again
 abbrev pub ActingKeeps : Type 0
 ActingKeeps = (hostile : List ℕ) (links : Links) (acts after : Acts) (lives : Lives) (sent : List Message) (owners : List ℕ) (last : ℕ) (counted : List Done) (served : List ServerDone)
     (inc act n : ℕ) (op : Operation) (a : Activation) (r : Answer) (told : Option Counted)
-    → Facts hostile links acts lives sent owners last counted served → IsReady links → Among sent (Call inc act n op) → lives inc ≡ Some Running → IsChanged acts after inc act a → ActsOn acts inc act n op a r told
+    → Facts hostile links acts lives sent owners last counted served → IsReady links → Among sent (Call inc act n op) → IsChanged acts after inc act a → ActsOn acts inc act n op a r told
     → Facts hostile links after lives (sent ++ Reply inc act n r ∷ []) owners last counted (served ++ entries_of inc act owners told)
 
 -- an activation wrote or asked
@@ -73,7 +72,7 @@ LeavingKeepsViews = (hostile : List ℕ) (links now : Links) (acts after : Acts)
 abbrev pub ActingKeepsViews : Type 0
 ActingKeepsViews = (hostile : List ℕ) (links : Links) (acts after : Acts) (lives : Lives) (sent : List Message) (owners : List ℕ) (last : ℕ) (counted : List Done) (served : List ServerDone)
     (inc act n : ℕ) (op : Operation) (a : Activation) (r : Answer) (told : Option Counted)
-    → Facts hostile links acts lives sent owners last counted served → IsReady links → Among sent (Call inc act n op) → lives inc ≡ Some Running → IsChanged acts after inc act a → ActsOn acts inc act n op a r told
+    → Facts hostile links acts lives sent owners last counted served → IsReady links → Among sent (Call inc act n op) → IsChanged acts after inc act a → ActsOn acts inc act n op a r told
     → (log : List Sent) → Views hostile links acts log → Views hostile links after (log ++ record { message = Reply inc act n r; view = option_map view_of (acts inc act) } ∷ [])
 
 -- What holds of honest servers holds where one of them is hostile from now on.

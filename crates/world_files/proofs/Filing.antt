@@ -9,7 +9,7 @@ use Rattle.document_model.specs.DocOf.{DocOf}
 use Rattle.container_model.specs.Saves as saves
 use Rattle.container_model.specs.Saves.{document_tree, committed_frame, name_after}
 use Rattle.container_model.specs.Commands.{is_named, is_named_beside, is_name}
-use Rattle.container_model.specs.declared.answer.Part.{Part}
+use Rattle.container_model.specs.declared.answer.FrameDocument.{FrameDocument}
 use Rattle.container_steady.proofs.SteadyRecords.{or_false}
 use Rattle.container_model.specs.declared.record.Frame.{Frame}
 use Rattle.container_model.specs.declared.answer.Done.{Done}
@@ -196,16 +196,16 @@ bears_after frame name (inl e) = elim frame.asked as (λ v. frame.asked ≡ v �
 bears_after frame name (inr e) = cc
 
 -- a commit of a frame
-module _ (frames : List Frame) (f : ℕ) (frame : Frame) (files : List File) (counted : List (Option Document)) (dones : List Done) (parts : List Part) (bytes : List ℕ)
-    (at : nth frames f ≡ Some frame) (denotes : ∥ Denotes bytes (document_tree parts) ∥₁) (holds : DocOf (document_tree parts) (saves.document parts)) (s : FilesCounted frames files counted dones) where
+module _ (frames : List Frame) (f : ℕ) (frame : Frame) (files : List File) (counted : List (Option Document)) (dones : List Done) (saved : FrameDocument) (bytes : List ℕ)
+    (at : nth frames f ≡ Some frame) (denotes : ∥ Denotes bytes (document_tree saved) ∥₁) (holds : DocOf (document_tree saved) (saves.document saved)) (s : FilesCounted frames files counted dones) where
   abbrev pub name : List ℕ
   name = name_after frame.name frame.asked
 
   abbrev pub entries : List Done
-  entries = map (done_entry frame.k) parts
+  entries = map (done_entry frame.k) saved.parts
 
   abbrev pub document : Document
-  document = record { k = frame.k; parts = parts }
+  document = record { k = frame.k; session = saved.session; parts = saved.parts }
 
   here : IsFiled (put_file name bytes files) (committed_frame frame) document (dones ++ entries)
   here = record {
@@ -214,7 +214,7 @@ module _ (frames : List Frame) (f : ℕ) (frame : Frame) (files : List File) (co
     found = found_put name bytes files;
     denotes = denotes;
     holds = holds;
-    counted_with = λ p g. among_new dones entries (done_entry frame.k p) (among_map (done_entry frame.k) parts p g);
+    counted_with = λ p g. among_new dones entries (done_entry frame.k p) (among_map (done_entry frame.k) saved.parts p g);
   }
 
   elsewhere : (g : ℕ) (d : Document) (other : Frame) → g ≢ f → nth frames g ≡ Some other → IsFiled files other d dones → IsFiled (put_file name bytes files) other d (dones ++ entries)

@@ -9,7 +9,7 @@ use Rattle.container_model.specs.declared.record.Object.{Object}
 use Rattle.container_model.specs.declared.record.Phase.{Phase}
 use Rattle.container_model.specs.declared.record.Phase.TheVariants.{Idle, Saving, HandingOff, Committing, InDoubt}
 use Rattle.world_files.specs.Files.{IsSameFrame, AreSameFrames}
-use Rattle.container_steady.proofs.SteadyLookups.{nth-set_same, nth-set_other}
+use Rattle.container_queues.proofs.SteadyLookups.{nth-set_same, nth-set_other}
 use Rattle.world_facts.proofs.Lookups.{length_set_nth, nth_set, nth_set_apart}
 
 pub same_frame : (frame : Frame) → IsSameFrame frame frame

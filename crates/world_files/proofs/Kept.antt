@@ -15,14 +15,14 @@ use Rattle.server_model.specs.Server.{Served, Told, on_call, wanted}
 use Rattle.server_model.specs.Server as server
 use Rattle.server_model.specs.declared.fault.ServerFault.{ServerFault}
 use Rattle.container_model.specs.Record.{Record, Took, is_object, without_first}
-use Rattle.container_model.specs.Saves.{image, image_at, has_image, fitting, fitting_in, is_document, document, parts_in, document_tree, commit_done, commit_failed, commit_made, resolve, committed_frame, completed, completion, counted_object, cleared, kept}
+use Rattle.container_model.specs.Saves.{image, image_at, frame_document, has_image, held_parts, fitting, fitting_in, is_document, document, parts_in, document_tree, commit_done, commit_failed, commit_made, resolve, committed_frame, completed, completion, counted_object, cleared, kept}
 use Rattle.container_model.specs.Messages.{on_message, on_reap}
 use Rattle.container_model.specs.Commands.{on_command, new_frame, save_made}
 use Rattle.container_model.specs.Opens.{Given, opened, opened_frame, opened_objects}
 use Rattle.container_model.specs.declared.command.Command.{Command}
 use Rattle.container_model.specs.declared.record.Frame.{Frame}
 use Rattle.container_model.specs.declared.record.Object.{Object}
-use Rattle.container_model.specs.declared.answer.Part.{Part}
+use Rattle.container_model.specs.declared.answer.FrameDocument.{FrameDocument}
 use Rattle.container_model.specs.declared.fault.ContainerFault.{ContainerFault}
 use Rattle.container_model.specs.declared.fault.ContainerFault.TheVariants.{Full, WrongState}
 use Rattle.world_model.specs.declared.logs.Sent.{Sent}
@@ -168,16 +168,16 @@ files_opened : (w : World) (name : List ℕ) (x y : ℕ) (given : Given) (t : To
 files_opened w name x y given t s k e =
     let r = w.rec in
     let o = is_opened r name x y given t e in
-    let new = opened_frame name x y in
+    let new = opened_frame name x y o.d.session in
     let framed = bounded_framed r.frames new (map id_of r.objects) r.last_object w.container_done (numbered r s) k.counted_bounded in
-    let news = opened_objects r.last_object (length r.frames + 1) o.ds in
+    let news = opened_objects r.last_object (length r.frames + 1) o.d.objects in
     subst (λ (v : Took). Files (joined w v)) o.made (record {
-      counted_bounded = subst (λ ids. CountedBounded (r.frames ++ new ∷ []) ids (r.last_object + length o.ds) w.container_done) (sym (map_join id_of r.objects news))
-          (bounded_more (r.frames ++ new ∷ []) (map id_of r.objects) (map id_of news) r.last_object (length o.ds) w.container_done (opened_past r.last_object (length r.frames + 1) o.ds) framed);
+      counted_bounded = subst (λ ids. CountedBounded (r.frames ++ new ∷ []) ids (r.last_object + length o.d.objects) w.container_done) (sym (map_join id_of r.objects news))
+          (bounded_more (r.frames ++ new ∷ []) (map id_of r.objects) (map id_of news) r.last_object (length o.d.objects) w.container_done (opened_past r.last_object (length r.frames + 1) o.d.objects) framed);
       filed = stored_framed r.frames new w.files w.counted w.container_done o.unnamed refl k.filed;
-      commits = subst (λ ids. HasCommits (r.frames ++ new ∷ []) ids (r.last_object + length o.ds) w.files (w.counted ++ None ∷ []) w.container_done) (sym (map_join id_of r.objects news))
-          (commits_moved (r.frames ++ new ∷ []) (r.frames ++ new ∷ []) (map id_of r.objects) (map id_of r.objects ++ map id_of news) r.last_object (r.last_object + length o.ds) w.files (w.counted ++ None ∷ []) w.container_done
-          (λ cs b. turns_more (r.frames ++ new ∷ []) (map id_of r.objects) (map id_of news) r.last_object (length o.ds) cs (opened_past r.last_object (length r.frames + 1) o.ds) b)
+      commits = subst (λ ids. HasCommits (r.frames ++ new ∷ []) ids (r.last_object + length o.d.objects) w.files (w.counted ++ None ∷ []) w.container_done) (sym (map_join id_of r.objects news))
+          (commits_moved (r.frames ++ new ∷ []) (r.frames ++ new ∷ []) (map id_of r.objects) (map id_of r.objects ++ map id_of news) r.last_object (r.last_object + length o.d.objects) w.files (w.counted ++ None ∷ []) w.container_done
+          (λ cs b. turns_more (r.frames ++ new ∷ []) (map id_of r.objects) (map id_of news) r.last_object (length o.d.objects) cs (opened_past r.last_object (length r.frames + 1) o.d.objects) b)
           (commits_framed r.frames (map id_of r.objects) r.last_object w.files w.counted w.container_done new k.commits));
     })
 
@@ -281,50 +281,51 @@ id_counted f o = elim (o.frame == f) as (λ b. id_of (if b then record o { work 
 id_completed : (f : ℕ) (frame : Frame) (o : Object) → id_of (completed f frame o) ≡ id_of o
 id_completed f frame o = id_asked f (completion frame) (counted_object f o) ∙ id_counted f o
 
-fitting_in_is : (parts got : List Part) (told : Result (Unit {0}) WriteFault) → fitting_in parts told ≡ Ok got → parts ≡ got
-fitting_in_is parts got (Ok u) e = cc
-fitting_in_is parts got (Err fault) e = cc
+fitting_in_is : (d got : FrameDocument) (told : Result (Unit {0}) WriteFault) → fitting_in d told ≡ Ok got → d ≡ got
+fitting_in_is d got (Ok u) e = cc
+fitting_in_is d got (Err fault) e = cc
 
-fitting_is : (parts got : List Part) → fitting parts ≡ Ok got → parts ≡ got
-fitting_is parts got e = elim (is_document (document parts)) as (λ b. (if b then fitting_in parts (writable (document_tree parts)) else Err Full) ≡ Ok got → parts ≡ got) [
-  | true ↦ (λ g. fitting_in_is parts got _ g)
+fitting_is : (d got : FrameDocument) → fitting d ≡ Ok got → d ≡ got
+fitting_is d got e = elim (is_document (held_parts d.parts)) as (λ b. (if b then fitting_in d (writable (document_tree d)) else Err Full) ≡ Ok got → d ≡ got) [
+  | true ↦ (λ g. fitting_in_is d got _ g)
   | false ↦ (λ g. cc)
 ] e
 
-pub image_is_at : (r : Record) (f : ℕ) (frame : Frame) (got : List Part) → image_at r f (Some frame) ≡ Ok got → parts_in f r.objects ≡ got
-image_is_at r f frame got e = elim (has_image frame.phase) as (λ b. (if b then fitting (parts_in f r.objects) else Err WrongState) ≡ Ok got → parts_in f r.objects ≡ got) [
-  | true ↦ (λ g. fitting_is (parts_in f r.objects) got g)
+pub image_is_at : (r : Record) (f : ℕ) (frame : Frame) (got : FrameDocument) → image_at r f (Some frame) ≡ Ok got → frame_document frame (parts_in f r.objects) ≡ got
+image_is_at r f frame got e = elim (has_image frame.phase) as (λ b. (if b then fitting (frame_document frame (parts_in f r.objects)) else Err WrongState) ≡ Ok got → frame_document frame (parts_in f r.objects) ≡ got) [
+  | true ↦ (λ g. fitting_is (frame_document frame (parts_in f r.objects)) got g)
   | false ↦ (λ g. cc)
 ] e
 
-files_done_taken : (w : World) (f : ℕ) (bytes : List ℕ) (frame : Frame) (parts : List Part) (told : Result Took ContainerFault) (v : World) → Steady w.rec → Files w → nth w.rec.frames f ≡ Some frame
-    → image w.rec f ≡ Ok parts → IsCommitOf w.rec f frame told → ∥ Denotes bytes (document_tree parts) ∥₁ → DocOf (document_tree parts) (document parts) → done_taken w f bytes frame parts told ≡ Ok v → Files v
-files_done_taken w f bytes frame parts (Err fault) v s k at im commits den held e = cc
-files_done_taken w f bytes frame parts (Ok t) v s k at im commits den held e =
+files_done_taken : (w : World) (f : ℕ) (bytes : List ℕ) (frame : Frame) (saved : FrameDocument) (told : Result Took ContainerFault) (v : World) → Steady w.rec → Files w → nth w.rec.frames f ≡ Some frame
+    → image w.rec f ≡ Ok saved → IsCommitOf w.rec f frame told → ∥ Denotes bytes (document_tree saved) ∥₁ → DocOf (document_tree saved) (document saved) → done_taken w f bytes frame saved told ≡ Ok v → Files v
+files_done_taken w f bytes frame saved (Err fault) v s k at im commits den held e = cc
+files_done_taken w f bytes frame saved (Ok t) v s k at im commits den held e =
     let r = w.rec in
     let c = commits t refl in
-    let ps : parts_in f r.objects ≡ parts = image_is_at r f frame parts (ap (image_at r f) (sym at) ∙ im) in
+    let mine : FrameDocument = frame_document frame (parts_in f r.objects) in
+    let ps : mine ≡ saved = image_is_at r f frame saved (ap (image_at r f) (sym at) ∙ im) in
     let ids : map id_of (map (completed f frame) r.objects) ≡ map id_of r.objects = map_map_same id_of (completed f frame) r.objects (id_completed f frame) in
-    let den2 : ∥ Denotes bytes (document_tree (parts_in f r.objects)) ∥₁ = subst (λ x. ∥ Denotes bytes (document_tree x) ∥₁) (sym ps) den in
-    let held2 : DocOf (document_tree (parts_in f r.objects)) (document (parts_in f r.objects)) = subst (λ x. DocOf (document_tree x) (document x)) (sym ps) held in
-    let after : World = joined (kept_commit w f frame (parts_in f r.objects) (commit_made r f frame).counted bytes) (commit_made r f frame) in
+    let den2 : ∥ Denotes bytes (document_tree mine) ∥₁ = subst (λ x. ∥ Denotes bytes (document_tree x) ∥₁) (sym ps) den in
+    let held2 : DocOf (document_tree mine) (document mine) = subst (λ x. DocOf (document_tree x) (document x)) (sym ps) held in
+    let after : World = joined (kept_commit w f frame mine (commit_made r f frame).counted bytes) (commit_made r f frame) in
     let keeps : Files after = record {
       counted_bounded = subst (λ x. CountedBounded (set_nth r.frames f (committed_frame frame)) x r.last_object after.container_done) (sym ids)
           (bounded_committed r.frames f frame r.objects r.last_object w.container_done at (not_idle frame.phase c.0) (numbered r s) k.counted_bounded);
       filed = subst (λ cs. FilesCounted (set_nth r.frames f (committed_frame frame)) after.files cs after.container_done) (sym (append-nil _))
-          (stored_committed r.frames f frame w.files w.counted w.container_done (parts_in f r.objects) bytes at den2 held2 k.filed);
+          (stored_committed r.frames f frame w.files w.counted w.container_done mine bytes at den2 held2 k.filed);
       commits = subst (λ x. HasCommits (set_nth r.frames f (committed_frame frame)) x r.last_object after.files after.counted after.container_done) (sym ids)
           (subst (λ cs. HasCommits (set_nth r.frames f (committed_frame frame)) (map id_of r.objects) r.last_object after.files cs after.container_done) (sym (append-nil _))
           (commits_committed r.frames f frame r.objects r.last_object w.files w.counted w.container_done bytes k.filed.aligned at (not_idle frame.phase c.0) (numbered r s) den2 held2 k.commits));
     } in
-    let one : Files (joined (kept_commit w f frame parts (commit_made r f frame).counted bytes) (commit_made r f frame)) = subst (λ x. Files (joined (kept_commit w f frame x (commit_made r f frame).counted bytes) (commit_made r f frame))) ps keeps in
-    let two : Files (joined (kept_commit w f frame parts t.counted bytes) t) = subst (λ x. Files (joined (kept_commit w f frame parts x.counted bytes) x)) c.1 one in
+    let one : Files (joined (kept_commit w f frame saved (commit_made r f frame).counted bytes) (commit_made r f frame)) = subst (λ x. Files (joined (kept_commit w f frame x (commit_made r f frame).counted bytes) (commit_made r f frame))) ps keeps in
+    let two : Files (joined (kept_commit w f frame saved t.counted bytes) t) = subst (λ x. Files (joined (kept_commit w f frame saved x.counted bytes) x)) c.1 one in
     subst Files (ok_is _ v e) two
 
-files_imaged : (w : World) (f : ℕ) (bytes : List ℕ) (frame : Frame) (counted : Result Took ContainerFault) (told : Result (List Part) ContainerFault) (v : World) → Steady w.rec → Files w → nth w.rec.frames f ≡ Some frame → image w.rec f ≡ told
+files_imaged : (w : World) (f : ℕ) (bytes : List ℕ) (frame : Frame) (counted : Result Took ContainerFault) (told : Result FrameDocument ContainerFault) (v : World) → Steady w.rec → Files w → nth w.rec.frames f ≡ Some frame → image w.rec f ≡ told
     → IsCommitOf w.rec f frame counted → IsImageOf w f bytes → done_imaged w f bytes frame counted told ≡ Ok v → Files v
 files_imaged w f bytes frame counted (Err fault) v s k at im commits den e = cc
-files_imaged w f bytes frame counted (Ok parts) v s k at im commits den e = (let d = den parts im in files_done_taken w f bytes frame parts counted v s k at im commits d.0 d.1 e)
+files_imaged w f bytes frame counted (Ok saved) v s k at im commits den e = (let d = den saved im in files_done_taken w f bytes frame saved counted v s k at im commits d.0 d.1 e)
 
 files_done_in : (w : World) (f : ℕ) (bytes : List ℕ) (counted : Result Took ContainerFault) (frame : Option Frame) (v : World) → Steady w.rec → Files w → nth w.rec.frames f ≡ frame
     → ((x : Frame) → nth w.rec.frames f ≡ Some x → IsCommitOf w.rec f x counted) → IsImageOf w f bytes → done_in w f bytes counted frame ≡ Ok v → Files v

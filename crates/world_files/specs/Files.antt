@@ -15,7 +15,7 @@ use Rattle.container_model.specs.declared.answer.Done.{Done}
 use Rattle.world_model.specs.declared.logs.Document.{Document}
 use Rattle.world_model.specs.declared.logs.File.{File}
 use Rattle.world_model.specs.World.{World, document_in, done_entry, is_file}
-use Rattle.world_model.specs.Safe.{Among, AreInTurn, Commit, CountedOnce, entries_of, last_commit}
+use Rattle.world_model.specs.Safe.{Among, AreInTurn, Commit, CountedOnce, entries_of, last_commit, saved_in, saved_of}
 
 -- the objects by their numbers and frames, which no step changes
 pub record Id : Type 0 where
@@ -60,8 +60,8 @@ pub record IsFiled (files : List File) (frame : Frame) (document : Document) (do
   pub stored : frame.stored ≡ true
   pub file : File
   pub found : find (is_file frame.name) files ≡ Some file
-  pub denotes : ∥ Denotes file.bytes (document_tree document.parts) ∥₁
-  pub holds : DocOf (document_tree document.parts) (saves.document document.parts)
+  pub denotes : ∥ Denotes file.bytes (document_tree (saved_of document)) ∥₁
+  pub holds : DocOf (document_tree (saved_of document)) (saves.document (saved_of document))
   pub counted_with : (p : Part) → Among document.parts p → Among dones (done_entry document.k p)
 
 pub record FilesCounted (frames : List Frame) (files : List File) (counted : List (Option Document)) (dones : List Done) : Type 0 where
@@ -83,8 +83,8 @@ pub record CommitsBounded (frames : List Frame) (ids : List Id) (last_object : �
 pub record IsOfCommit (file : File) (commits : List Commit) : Type 0 where
   pub commit : Commit
   pub counted : Among commits commit
-  pub denotes : ∥ Denotes file.bytes (document_tree commit.parts) ∥₁
-  pub holds : DocOf (document_tree commit.parts) (saves.document commit.parts)
+  pub denotes : ∥ Denotes file.bytes (document_tree (saved_in commit)) ∥₁
+  pub holds : DocOf (document_tree (saved_in commit)) (saves.document (saved_in commit))
 
 -- what was counted, commit by commit, and that all files are of these commits
 pub record HasCommits (frames : List Frame) (ids : List Id) (last_object : ℕ) (files : List File) (counted : List (Option Document)) (dones : List Done) : Type 0 where

@@ -142,10 +142,10 @@ module _ {hostile : List ℕ} (links : Links) (acts after : Acts) (lives : Lives
     took : (g : ℕ) → a.g ≡ Some g → Given g before op a
 
   next_linked : IsHonest hostile inc → (before : Activation) → acts inc act ≡ Some before → n ≡ before.last + 1 → IsOpen before → Makes before op a r told → IsNext before
-  next_linked honest before at en opened m = elim (linked_or_closed links acts after lives sent owners last counted served inc act n op a r told f ready call runs ch how honest) [
-    | inl k ↦ (let p = of_link links acts after lives sent owners last counted served inc act n op a r told f ready call runs ch how k.0 k.1 k.2 k.3 k.4 honest in
-        let x = next_of links acts after lives sent owners last counted served inc act n op a r told f ready call runs ch how k.0 k.1 before p en _ at p.step in
-        let nf = not_first links acts after lives sent owners last counted served inc act n op a r told f ready call runs ch how k.0 k.1 before at k.2 en x in
+  next_linked honest before at en opened m = elim (linked_or_closed links acts after lives sent owners last counted served inc act n op a r told f ready call ch how honest runs) [
+    | inl k ↦ (let p = of_link links acts after lives sent owners last counted served inc act n op a r told f ready call ch how k.0 k.1 k.2 k.3 k.4 honest in
+        let x = next_of links acts after lives sent owners last counted served inc act n op a r told f ready call ch how k.0 k.1 before p en _ at p.step in
+        let nf = not_first links acts after lives sent owners last counted served inc act n op a r told f ready call ch how k.0 k.1 before at k.2 en x in
         let v = ready.runs k.0 k.1 op k.2 x.asked in
         let d : Did before.states before.s op a r = m.did v.0 (ap (λ y. both.step y (op_of op)) x.states ∙ v.1) nf in
         record { object = k.0; link = k.1; linked = k.2; inc_is = k.3; act_is = k.4; asked = x.asked; took = λ g has. took before a op r nf g m.grant d has })
@@ -165,8 +165,8 @@ module _ {hostile : List ℕ} (links : Links) (acts after : Acts) (lives : Lives
   named_here honest o g l e ei ea has (next before at en opened m) =
       let x = next_linked honest before at en opened m in
       elim (x.took g has) [
-        | inl k ↦ (let p = of_link links acts after lives sent owners last counted served inc act n op a r told f ready call runs ch how o l e ei ea honest in
-            let y = next_of links acts after lives sent owners last counted served inc act n op a r told f ready call runs ch how o l before p en _ at p.step in
+        | inl k ↦ (let p = of_link links acts after lives sent owners last counted served inc act n op a r told f ready call ch how o l e ei ea honest in
+            let y = next_of links acts after lives sent owners last counted served inc act n op a r told f ready call ch how o l before p en _ at p.step in
             subst (λ z. Names z g) (sym (getting o g l e (y.asked ∙ ap Some k.0))) refl)
         | inr k ↦ h.holder_named o g l before e (subst (IsHonest hostile) (sym ei) honest) (ap (λ z. acts z l.act) ei ∙ (ap (acts inc) ea ∙ at)) k.0
       ]

@@ -11,7 +11,7 @@ use Rattle.container_model.specs.declared.record.Frame.{Frame}
 use Rattle.container_model.specs.declared.record.Phase.TheVariants.{Committing}
 use Rattle.container_model.specs.Saves.{is_ready, settled_frame, settled_frames}
 use Rattle.container_model.specs.Grants.{freed_frame}
-use Rattle.container_steady.proofs.SteadyLookups.{nth-set_same, nth-set_other, nth-settled}
+use Rattle.container_queues.proofs.SteadyLookups.{nth-set_same, nth-set_other, nth-settled}
 use Rattle.world_grants.specs.Grants.{Moves, NoTools}
 use Rattle.world_grants.proofs.States.{same, weaker, IsHosted, freed_moves}
 

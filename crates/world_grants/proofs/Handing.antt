@@ -12,7 +12,7 @@ use Rattle.container_model.specs.declared.record.Object.{Object}
 use Rattle.container_model.specs.Record.{Record, asked_link, asked_object, is_object}
 use Rattle.container_model.specs.HandOffs.{hand_off, hand_off_at, hand_off_each, hand_off_in, handed_off, handing_frame, hands_off, unasked as not_handed}
 use Rattle.container_steady.proofs.SteadyFinds.{find-map}
-use Rattle.container_steady.proofs.SteadyLookups.{nth-set_same, nth-set_other}
+use Rattle.container_queues.proofs.SteadyLookups.{nth-set_same, nth-set_other}
 use Rattle.world_model.specs.Safe.{link_at, links_of}
 use Rattle.world_grants.specs.Grants.{Moves}
 use Rattle.world_grants.proofs.Objects.{AreKept, Keeps, all_kept, kept_further, map_kept}

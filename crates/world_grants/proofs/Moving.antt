@@ -13,7 +13,7 @@ use Rattle.container_model.specs.declared.record.Frame.{Frame}
 use Rattle.container_model.specs.Record.{Record, is_object}
 use Rattle.container_steady.specs.Roles.{Holding, role_in, IsClaim}
 use Rattle.container_steady.specs.Steady.{SteadyLink, SteadyObject, Steady}
-use Rattle.container_steady.proofs.SteadyLookups.{each_found}
+use Rattle.container_queues.proofs.SteadyLookups.{each_found}
 use Rattle.container_steady.proofs.SteadyRecords.{some_and, if_at}
 use Rattle.world_model.specs.Safe.{link_at, links_of}
 use Rattle.world_grants.specs.Grants.{Names, Moves, RolesMove, NoClaim, NoTools, role_at, role_of, roles_of}

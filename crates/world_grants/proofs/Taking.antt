@@ -56,7 +56,7 @@ opened_passive last f (d ∷ ds) = (refl, opened_passive (last + 1) f ds)
 pub opened_moves : (r : Record) (name : List ℕ) (w h : ℕ) (given : Given) (t : Took) → Steady r → opened r name w h given ≡ Ok t → MovesBy r t.rec []
 opened_moves r name w h given t s e =
     let o = is_opened r name w h given t e in
-    subst (λ (x : Took). MovesBy r x.rec []) o.made (left_moves r (opened_made r name w h o.ds).rec s (more_stay r.objects _ (opened_passive r.last_object (length r.frames + 1) o.ds), more_move NoClaim NoTools r.frames _))
+    subst (λ (x : Took). MovesBy r x.rec []) o.made (left_moves r (opened_made r name w h o.d).rec s (more_stay r.objects _ (opened_passive r.last_object (length r.frames + 1) o.d.objects), more_move NoClaim NoTools r.frames _))
 
 -- a write
 module _ (r : Record) (inc act s w : ℕ) (content : Stored) (t : Took) where

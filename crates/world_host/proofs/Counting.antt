@@ -4,36 +4,37 @@ use Rattle.std.specs.Prelude.{IsOk}
 use Rattle.wire_msgs.specs.Found.{nth}
 use Rattle.file_model.specs.Refusals.{writable}
 use Rattle.file_model.specs.declared.fault.WriteFault.{WriteFault}
-use Rattle.container_model.specs.declared.answer.Part.{Part}
+use Rattle.container_model.specs.declared.answer.FrameDocument.{FrameDocument}
 use Rattle.container_model.specs.declared.fault.ContainerFault.{ContainerFault}
 use Rattle.container_model.specs.declared.fault.ContainerFault.TheVariants.{NoSuch, Busy, NotRunning, InDoubt, WrongLink, Stale, Full, NumbersSpent, WrongState, BadFile, BadAnswer, UnknownClass, NoMemory}
 use Rattle.container_model.specs.declared.record.Frame.{Frame}
 use Rattle.container_model.specs.Record.{Record, Refuses, Took}
-use Rattle.container_model.specs.Saves.{commit_at, commit_done, commit_failed, counted_at, counted_of, document, document_tree, done_entry, fitting, fitting_in, has_image, image, image_at, is_document, parts_in, failed_at, resolve, resolved_at}
+use Rattle.container_model.specs.Saves.{commit_at, commit_done, commit_failed, counted_at, counted_of, document_tree, done_entry, fitting, fitting_in, frame_document, has_image, held_parts, image, image_at, is_document, parts_in, failed_at, resolve, resolved_at}
 use Rattle.world_host.specs.Files.{is_committing_in, is_doubtful_in}
 
-fits_by : (ps parts : List Part) (b : Bool) (told : Result (Unit {0}) WriteFault) → ◌≡◌ {A = Result (List Part) ContainerFault} (if b then fitting_in ps told else Err Full) (Ok parts) → ps ≡ parts
-fits_by ps parts true (Ok t) e = cc
-fits_by ps parts true (Err fault) e = cc
-fits_by ps parts false told e = cc
+fits_by : (d saved : FrameDocument) (b : Bool) (told : Result (Unit {0}) WriteFault) → ◌≡◌ {A = Result FrameDocument ContainerFault} (if b then fitting_in d told else Err Full) (Ok saved) → d ≡ saved
+fits_by d saved true (Ok t) e = cc
+fits_by d saved true (Err fault) e = cc
+fits_by d saved false told e = cc
 
-image_by : (ps parts : List Part) (b : Bool) → ◌≡◌ {A = Result (List Part) ContainerFault} (if b then fitting ps else Err WrongState) (Ok parts) → ps ≡ parts
-image_by ps parts true e = fits_by ps parts (is_document (document ps)) (writable (document_tree ps)) e
-image_by ps parts false e = cc
+image_by : (d saved : FrameDocument) (b : Bool) → ◌≡◌ {A = Result FrameDocument ContainerFault} (if b then fitting d else Err WrongState) (Ok saved) → d ≡ saved
+image_by d saved true e = fits_by d saved (is_document (held_parts d.parts)) (writable (document_tree d)) e
+image_by d saved false e = cc
 
 -- a frame whose document is there is there
-pub no_image : (r : Record) (f : ℕ) (parts : List Part) → nth r.frames f ≡ None → image r f ≡ Ok parts → ⊥
-no_image r f parts none e = (let no : ◌≡◌ {A = Result (List Part) ContainerFault} (Err NoSuch) (Ok parts) = subst (λ (z : Option Frame). image_at r f z ≡ Ok parts) none e in cc)
+pub no_image : (r : Record) (f : ℕ) (saved : FrameDocument) → nth r.frames f ≡ None → image r f ≡ Ok saved → ⊥
+no_image r f saved none e = (let no : ◌≡◌ {A = Result FrameDocument ContainerFault} (Err NoSuch) (Ok saved) = subst (λ (z : Option Frame). image_at r f z ≡ Ok saved) none e in cc)
 
-pub counted_is : (r : Record) (f : ℕ) (frame : Frame) (parts : List Part) → nth r.frames f ≡ Some frame → image r f ≡ Ok parts → map (done_entry frame.k) parts ≡ counted_of r f
-counted_is r f frame parts there e =
-    let at : image_at r f (Some frame) ≡ Ok parts = subst (λ (z : Option Frame). image_at r f z ≡ Ok parts) there e in
-    let same : parts_in f r.objects ≡ parts = image_by (parts_in f r.objects) parts (has_image frame.phase) at in
-    ap (map (done_entry frame.k)) (sym same) ∙ ap (counted_at r f) (sym there)
+pub counted_is : (r : Record) (f : ℕ) (frame : Frame) (saved : FrameDocument) → nth r.frames f ≡ Some frame → image r f ≡ Ok saved → map (done_entry frame.k) saved.parts ≡ counted_of r f
+counted_is r f frame saved there e =
+    let at : image_at r f (Some frame) ≡ Ok saved = subst (λ (z : Option Frame). image_at r f z ≡ Ok saved) there e in
+    let mine : FrameDocument = frame_document frame (parts_in f r.objects) in
+    let same : mine ≡ saved = image_by mine saved (has_image frame.phase) at in
+    ap (λ (d : FrameDocument). map (done_entry frame.k) d.parts) (sym same) ∙ ap (counted_at r f) (sym there)
 
-commits_by : (r : Record) (f : ℕ) (frame : Option Frame) (parts : List Part) → is_committing_in frame ≡ true → image r f ≡ Ok parts → IsOk (commit_at r f frame)
-commits_by r f None parts c e = cc
-commits_by r f (Some frame) parts c e = rw (c, e) refl
+commits_by : (r : Record) (f : ℕ) (frame : Option Frame) (saved : FrameDocument) → is_committing_in frame ≡ true → image r f ≡ Ok saved → IsOk (commit_at r f frame)
+commits_by r f None saved c e = cc
+commits_by r f (Some frame) saved c e = rw (c, e) refl
 
 not_refused : (told : Result Took ContainerFault) (fault : ContainerFault) → IsOk told → told ≡ Err fault → ⊥
 not_refused told fault ok e = (let no : ◌≡◌ {A = Bool} false true = subst (λ (z : Result Took ContainerFault). IsOk z) e ok in cc)
@@ -54,8 +55,8 @@ only_memory told BadAnswer ok h = absurd (not_refused told BadAnswer ok h)
 only_memory told UnknownClass ok h = absurd (not_refused told UnknownClass ok h)
 
 -- so a commit that is asked for lacks nothing but memory
-pub lacks_memory : (r : Record) (f : ℕ) (parts : List Part) (fault : ContainerFault) → is_committing_in (nth r.frames f) ≡ true → image r f ≡ Ok parts → Refuses (commit_done r f) fault → fault ≡ NoMemory
-lacks_memory r f parts fault c e h = only_memory (commit_done r f) fault (commits_by r f (nth r.frames f) parts c e) h
+pub lacks_memory : (r : Record) (f : ℕ) (saved : FrameDocument) (fault : ContainerFault) → is_committing_in (nth r.frames f) ≡ true → image r f ≡ Ok saved → Refuses (commit_done r f) fault → fault ≡ NoMemory
+lacks_memory r f saved fault c e h = only_memory (commit_done r f) fault (commits_by r f (nth r.frames f) saved c e) h
 
 fails_by : (r : Record) (f : ℕ) (frame : Option Frame) → is_committing_in frame ≡ true → IsOk (failed_at r f frame)
 fails_by r f None c = cc
@@ -65,12 +66,12 @@ fails_by r f (Some frame) c = rw c refl
 pub failing_lacks_memory : (r : Record) (f : ℕ) (fault : ContainerFault) → is_committing_in (nth r.frames f) ≡ true → Refuses (commit_failed r f) fault → fault ≡ NoMemory
 failing_lacks_memory r f fault c h = only_memory (commit_failed r f) fault (fails_by r f (nth r.frames f) c) h
 
-keeps_by : (r : Record) (f : ℕ) (frame : Option Frame) (parts : List Part) → is_doubtful_in frame ≡ true → image r f ≡ Ok parts → IsOk (resolved_at r f true frame)
-keeps_by r f None parts c e = cc
-keeps_by r f (Some frame) parts c e = rw (c, e) refl
+keeps_by : (r : Record) (f : ℕ) (frame : Option Frame) (saved : FrameDocument) → is_doubtful_in frame ≡ true → image r f ≡ Ok saved → IsOk (resolved_at r f true frame)
+keeps_by r f None saved c e = cc
+keeps_by r f (Some frame) saved c e = rw (c, e) refl
 
-pub keeping_lacks_memory : (r : Record) (f : ℕ) (parts : List Part) (fault : ContainerFault) → is_doubtful_in (nth r.frames f) ≡ true → image r f ≡ Ok parts → Refuses (resolve r f true) fault → fault ≡ NoMemory
-keeping_lacks_memory r f parts fault c e h = only_memory (resolve r f true) fault (keeps_by r f (nth r.frames f) parts c e) h
+pub keeping_lacks_memory : (r : Record) (f : ℕ) (saved : FrameDocument) (fault : ContainerFault) → is_doubtful_in (nth r.frames f) ≡ true → image r f ≡ Ok saved → Refuses (resolve r f true) fault → fault ≡ NoMemory
+keeping_lacks_memory r f saved fault c e h = only_memory (resolve r f true) fault (keeps_by r f (nth r.frames f) saved c e) h
 
 drops_by : (r : Record) (f : ℕ) (frame : Option Frame) → is_doubtful_in frame ≡ true → IsOk (resolved_at r f false frame)
 drops_by r f None c = cc

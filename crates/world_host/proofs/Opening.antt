@@ -18,8 +18,8 @@ none_document false false false t e = e
 none_given : (r : Record) (name : List ℕ) (w h : ℕ) (given : Given) → ends_in (opened_given r name w h given) ≡ []
 none_given r name w h Given.Missing = refl
 none_given r name w h Given.Broken = refl
-none_given r name w h (Given.Holding ds) =
-    none_document (not (is_document ds)) (nat_le MOST_FRAMES (length r.frames)) (nat_le r.numbers (length r.frames) || nat_lt r.numbers (r.last_object + length ds)) (opened_made r name w h ds) refl
+none_given r name w h (Given.Holding d) =
+    none_document (not (is_document d.objects)) (nat_le MOST_FRAMES (length r.frames)) (nat_le r.numbers (length r.frames) || nat_lt r.numbers (r.last_object + length d.objects)) (opened_made r name w h d) refl
 
 none_looked : (a b : Bool) (next : Result Took ContainerFault) → ends_in next ≡ [] → ends_in (unless a Busy (unless b WrongState next)) ≡ []
 none_looked true b next e = refl

@@ -16,12 +16,11 @@ ghost use Rattle.world_host.specs.View.{bare, started};
 
 use crate::host::{Host, Room, Servers, add, add_all};
 use crate::opens::file_bytes;
-use container_model::answer::{Done, Part};
+use container_model::answer::{Done, FrameDocument, Part};
 use container_model::fault::ContainerFault;
 use container_model::record::{Frame, Phase};
 use std::alloc::{AllocError, Global};
 use stored_values::bytes::Bytes;
-use wire_msgs::items::Items;
 use world_model::event::Stop;
 use world_model::logs::{Document, File};
 
@@ -71,6 +70,17 @@ pub(crate) fn set_counted(counted: &mut Vec<Option<Document>>, frame: u32, docum
     let place = (frame - 1) as usize;
     if place < counted.len() {
         counted[place] = Some(document);
+    }
+}
+
+// The document that a save of this number counts.
+pub(crate) fn counted_document(k: u32, saved: FrameDocument) -> Document
+    ensures { result ≡ record { k = k; session = saved.session; parts = saved.parts } }
+{
+    Document {
+        k,
+        session: saved.session,
+        parts: saved.parts,
     }
 }
 
@@ -126,7 +136,7 @@ impl Host {
         &self,
         alloc: Global,
         f: u32,
-    ) -> Result<(Items<Part>, Vec<u8>), ContainerFault>
+    ) -> Result<(FrameDocument, Vec<u8>), ContainerFault>
         ensures document { IfOk result (λ w. image self.now.core f ≡ Ok w.0) }
         ensures denotes { IfOk result (λ w. ∥ Denotes w.1.items (document_tree w.0) ∥₁) }
         ensures holds { IfOk result (λ w. DocOf (document_tree w.0) (document w.0)) }
@@ -140,9 +150,9 @@ impl Host {
         &self,
         alloc: Global,
         f: u32,
-        parts: &[Part],
+        saved: &FrameDocument,
     ) -> Result<(u32, Vec<Done>), AllocError>
-        requires { image self.now.core f ≡ Ok parts.now }
+        requires { image self.now.core f ≡ Ok saved.now }
         ensures number { IfOk result (λ c. IfSome (nth self.now.core.frames f) (λ frame. c.0 ≡ frame.k)) }
         ensures counted { IfOk result (λ c. c.1.items ≡ counted_of self.now.core f) }
     {
@@ -150,7 +160,7 @@ impl Host {
             unreachable!()
         };
         let k = frame.k;
-        let counted = entries(alloc, k, parts)?;
+        let counted = entries(alloc, k, saved.parts.as_slice())?;
         Ok((k, counted))
     }
 
@@ -159,10 +169,10 @@ impl Host {
         &mut self,
         alloc: Global,
         f: u32,
-        parts: Items<Part>,
+        saved: FrameDocument,
         bytes: Vec<u8>,
     ) -> Result<Servers, AllocError>
-        requires image { image self.old.core f ≡ Ok parts }
+        requires image { image self.old.core f ≡ Ok saved }
         requires committing { is_committing_in (nth self.old.core.frames f) ≡ true }
         ensures taken { IfOk result (λ s. done (bare self.old) f bytes.items ≡ Ok (started (bare self.new) self.new.core.numbers s.starts.items)) }
         ensures ends { IfOk result (λ s. s.ends.items ≡ ends_in (commit_done self.old.core f)) }
@@ -173,7 +183,7 @@ impl Host {
             unreachable!()
         };
         let name = name_after(alloc, frame)?;
-        let (k, counted) = self.counted(alloc, f, parts.as_slice())?;
+        let (k, counted) = self.counted(alloc, f, &saved)?;
         let bytes = Bytes::from_vec(alloc, bytes)?;
         let room = self.make_room(alloc)?;
         self.files.reserve(1)?;
@@ -182,7 +192,7 @@ impl Host {
             Ok(answer) => {
                 put_file(&mut self.files, name, bytes);
                 add_all(&mut self.container_done, counted);
-                set_counted(&mut self.counted, f, Document { k, parts });
+                set_counted(&mut self.counted, f, counted_document(k, saved));
                 Ok(self.join(alloc, answer, room))
             }
             Err(fault) => Err(lacking(fault)),
@@ -205,14 +215,14 @@ impl Host {
             return Err(Stop::NotEnabled);
         }
         match self.image(alloc, f) {
-            Ok((parts, bytes)) => {
+            Ok((saved, bytes)) => {
                 if self.is_full() {
                     return Err(Stop::EventLimit);
                 }
                 if !room {
                     return Err(Stop::NoMemory);
                 }
-                match self.commit(alloc, f, parts, bytes) {
+                match self.commit(alloc, f, saved, bytes) {
                     Ok(servers) => Ok(servers),
                     Err(_) => Err(Stop::NoMemory),
                 }

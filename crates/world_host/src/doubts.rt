@@ -10,16 +10,14 @@ ghost use Rattle.world_host.specs.Rooms.{most};
 ghost use Rattle.world_host.specs.Servers.{ends_in};
 ghost use Rattle.world_host.specs.View.{bare, started};
 
-use crate::commits::{lacking, name_after, put_file, set_counted};
+use crate::commits::{counted_document, lacking, name_after, put_file, set_counted};
 use crate::host::{Host, Servers, add_all};
-use container_model::answer::Part;
+use container_model::answer::FrameDocument;
 use container_model::fault::ContainerFault;
 use container_model::record::Phase;
 use std::alloc::{AllocError, Global};
 use stored_values::bytes::Bytes;
-use wire_msgs::items::Items;
 use world_model::event::Stop;
-use world_model::logs::Document;
 
 impl Host {
     // Whether it is in doubt whether the frame's file was committed.
@@ -70,10 +68,10 @@ impl Host {
         &mut self,
         alloc: Global,
         f: u32,
-        parts: Items<Part>,
+        saved: FrameDocument,
         bytes: Vec<u8>,
     ) -> Result<Servers, AllocError>
-        requires image { image self.old.core f ≡ Ok parts }
+        requires image { image self.old.core f ≡ Ok saved }
         requires doubtful { is_doubtful_in (nth self.old.core.frames f) ≡ true }
         ensures taken { IfOk result (λ s. resolved (bare self.old) f true bytes.items ≡ Ok (started (bare self.new) self.new.core.numbers s.starts.items)) }
         ensures ends { IfOk result (λ s. s.ends.items ≡ ends_in (resolve self.old.core f true)) }
@@ -84,7 +82,7 @@ impl Host {
             unreachable!()
         };
         let name = name_after(alloc, frame)?;
-        let (k, counted) = self.counted(alloc, f, parts.as_slice())?;
+        let (k, counted) = self.counted(alloc, f, &saved)?;
         let bytes = Bytes::from_vec(alloc, bytes)?;
         let room = self.make_room(alloc)?;
         self.files.reserve(1)?;
@@ -93,7 +91,7 @@ impl Host {
             Ok(answer) => {
                 put_file(&mut self.files, name, bytes);
                 add_all(&mut self.container_done, counted);
-                set_counted(&mut self.counted, f, Document { k, parts });
+                set_counted(&mut self.counted, f, counted_document(k, saved));
                 Ok(self.join(alloc, answer, room))
             }
             Err(fault) => Err(lacking(fault)),
@@ -170,14 +168,14 @@ impl Host {
             return Err(Stop::NotEnabled);
         }
         match self.image(alloc, f) {
-            Ok((parts, bytes)) => {
+            Ok((saved, bytes)) => {
                 if self.is_full() {
                     return Err(Stop::EventLimit);
                 }
                 if !room {
                     return Err(Stop::NoMemory);
                 }
-                match self.keep(alloc, f, parts, bytes) {
+                match self.keep(alloc, f, saved, bytes) {
                     Ok(servers) => Ok(servers),
                     Err(_) => Err(Stop::NoMemory),
                 }

@@ -14,7 +14,7 @@ use Rattle.container_model.specs.Messages.{on_message, on_reap}
 use Rattle.container_model.specs.Opens.{opened}
 use Rattle.container_model.specs.Record.{Took}
 use Rattle.container_model.specs.Saves.{commit_done, commit_failed, image, resolve}
-use Rattle.container_model.specs.declared.answer.Part.{Part}
+use Rattle.container_model.specs.declared.answer.FrameDocument.{FrameDocument}
 use Rattle.container_model.specs.declared.command.Command.{Command}
 use Rattle.container_model.specs.declared.fault.ContainerFault.{ContainerFault}
 use Rattle.container_model.specs.declared.record.Frame.{Frame}
@@ -127,13 +127,13 @@ reap-taken : (w : World) (inc : ℕ) (i : Option Instance) → IfTaken w (reap w
 reap-taken w inc None = tt
 reap-taken w inc (Some i) = ended-taken w inc i i.life
 
-done_taken-taken : (w : World) (f : ℕ) (bytes : List ℕ) (frame : Frame) (parts : List Part) (r : Result Took ContainerFault) → IfTaken w (done_taken w f bytes frame parts r)
-done_taken-taken w f bytes frame parts (Err fault) = tt
-done_taken-taken w f bytes frame parts (Ok t) = more w.answers _
+done_taken-taken : (w : World) (f : ℕ) (bytes : List ℕ) (frame : Frame) (saved : FrameDocument) (r : Result Took ContainerFault) → IfTaken w (done_taken w f bytes frame saved r)
+done_taken-taken w f bytes frame saved (Err fault) = tt
+done_taken-taken w f bytes frame saved (Ok t) = more w.answers _
 
-done_imaged-taken : (w : World) (f : ℕ) (bytes : List ℕ) (frame : Frame) (counted : Result Took ContainerFault) (r : Result (List Part) ContainerFault) → IfTaken w (done_imaged w f bytes frame counted r)
+done_imaged-taken : (w : World) (f : ℕ) (bytes : List ℕ) (frame : Frame) (counted : Result Took ContainerFault) (r : Result FrameDocument ContainerFault) → IfTaken w (done_imaged w f bytes frame counted r)
 done_imaged-taken w f bytes frame counted (Err fault) = tt
-done_imaged-taken w f bytes frame counted (Ok parts) = done_taken-taken w f bytes frame parts counted
+done_imaged-taken w f bytes frame counted (Ok saved) = done_taken-taken w f bytes frame saved counted
 
 done_in-taken : (w : World) (f : ℕ) (bytes : List ℕ) (counted : Result Took ContainerFault) (frame : Option Frame) → IfTaken w (done_in w f bytes counted frame)
 done_in-taken w f bytes counted None = tt

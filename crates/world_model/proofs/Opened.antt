@@ -8,7 +8,7 @@ use Rattle.world_model.specs.OpenRuns.{IsOpened, IsOpenedBeside, IsUnopened}
 
 pub is_opened_beside : IsOpenedBeside
 unfolding digits by_index frame_line object_line done_line picture_of
-is_opened_beside = record { answers = refl; told = refl; run = refl; run_told = refl }
+is_opened_beside = record { answers = refl; session = refl; told = refl; run = refl; run_told = refl }
 
 pub is_unopened : IsUnopened
 unfolding picture_of

@@ -17,7 +17,7 @@ borne : opened_as (codes "b") Given.Missing ≡ renamed_answers ++ Refused Busy 
 unfolding picture_of
 borne = refl
 
-old : opened_as (codes "a") (Given.Holding (stored_note ∷ [])) ≡ renamed_answers ++ opened_again ∷ []
+old : opened_as (codes "a") (Given.Holding (record { session = 0; objects = stored_note ∷ [] })) ≡ renamed_answers ++ opened_again ∷ []
 unfolding picture_of
 old = refl
 

@@ -3,8 +3,10 @@ use Rattle.std.specs.Prelude.{◌≡◌, ◌++◌, ℕ, List, [], ◌∷◌, map
 use Rattle.std.specs.List.{range_with_len}
 use Rattle.embed_core.specs.Kinds.{Note, class_of, class_with}
 use Rattle.stored_streams.specs.declared.stored.Stored.{Stored}
+use Rattle.document_model.specs.Documents.{no_objects}
 use Rattle.document_model.specs.declared.object.DocObject.{DocObject}
 use Rattle.container_model.specs.Opens.{Given}
+use Rattle.container_model.specs.declared.record.Frame.{Frame}
 use Rattle.container_model.specs.declared.command.Command.TheVariants.{Run, Edit}
 use Rattle.container_model.specs.declared.fault.ContainerFault.TheVariants.{BadFile, Busy, Full, NoSuch, NumbersSpent, UnknownClass, WrongState}
 use Rattle.world_model.specs.declared.event.Event.{Event}
@@ -31,12 +33,13 @@ abbrev pub stranger : DocObject
 stranger = stored_object (class_with 9) (codes "Clock") (record { streams = []; picture = [] })
 
 abbrev pub both : Given
-both = Given.Holding (stored_note ∷ stranger ∷ [])
+both = Given.Holding (record { session = 7; objects = stored_note ∷ stranger ∷ [] })
 
 abbrev pub nothing_held : Given
-nothing_held = Given.Holding []
+nothing_held = Given.Holding (no_objects 0)
 
--- Beside a note that runs, a file with a note and an object of another class is opened as frame 2: its objects are passive,
+-- Beside a note that runs, a file of session 7 with a note and an object of another class is opened as frame 2, which holds the
+-- session: its objects are passive,
 -- with the next numbers. The note runs with what the file holds of it; the other one doesn't. Objects that are made
 -- afterwards have the numbers behind.
 abbrev pub opened_beside : Result World Stop
@@ -45,11 +48,17 @@ opened_beside = opens (codes "b") 40 10 both (from_two edited)
 abbrev pub run_then : List Event
 run_then = Command (Run 3 1) ∷ Command (Run 2 1) ∷ Deliver 5 ∷ Deliver 6 ∷ new_note ∷ []
 
+-- the sessions that the frames hold
+abbrev pub sessions : Result World Stop → List ℕ
+sessions (Err stop) = []
+sessions (Ok w) = map (λ (f : Frame). f.session) w.rec.frames
+
 abbrev pub opened_answer : EventAnswer
 opened_answer = Took (record quiet_outcome { frame = Some 2; objects = 2 ∷ 3 ∷ [] })
 
 pub record IsOpenedBeside : Type 0 where
   pub answers : answered opened_beside ≡ answered (from_two edited) ++ opened_answer ∷ []
+  pub session : sessions opened_beside ≡ 0 ∷ 7 ∷ []
   pub told : reported opened_beside ≡ lines (
       codes "frame 1 a Free k 0 none"
       ∷ codes "frame 2 b Free k 0 stored"
@@ -80,7 +89,7 @@ pub record IsUnopened : Type 0 where
   pub no_size : refused_with (opened_as (codes "b") 0 Given.Missing) (Refused WrongState)
   pub missing : refused_with (opened_as (codes "b") 40 Given.Missing) (Refused NoSuch)
   pub broken : refused_with (opened_as (codes "b") 40 Given.Broken) (Refused BadFile)
-  pub too_many : refused_with (opened_as (codes "b") 40 (Given.Holding (map (λ (i : ℕ). stranger) (range_with_len 1 65)))) (Refused BadFile)
+  pub too_many : refused_with (opened_as (codes "b") 40 (Given.Holding (record { session = 0; objects = map (λ (i : ℕ). stranger) (range_with_len 1 65) }))) (Refused BadFile)
   pub frames : answered (opens (codes "i") 40 10 nothing_held (ran (from_two []) (map frame_named (range_with_len 97 8)))) ≡ map frame (range_with_len 1 8) ++ Refused Full ∷ []
   pub two_frames : answered (opens (codes "b") 40 10 nothing_held (numbered 1 (frame_named 97 ∷ []))) ≡ frame 1 ∷ Refused NumbersSpent ∷ []
   pub three_objects : answered (opens (codes "b") 40 10 both (numbered 2 (frame_named 97 ∷ new_note ∷ []))) ≡ frame 1 ∷ object 1 ∷ Refused NumbersSpent ∷ []

@@ -56,7 +56,7 @@ opened_as name given = answered (opens name 40 10 given (from_start renamed))
 
 pub record IsReopened : Type 0 where
   pub borne : opened_as (codes "b") Given.Missing ≡ renamed_answers ++ Refused Busy ∷ []
-  pub old : opened_as (codes "a") (Given.Holding (stored_note ∷ [])) ≡ renamed_answers ++ opened_again ∷ []
+  pub old : opened_as (codes "a") (Given.Holding (record { session = 0; objects = stored_note ∷ [] })) ≡ renamed_answers ++ opened_again ∷ []
   pub missing : opened_as (codes "c") Given.Missing ≡ renamed_answers ++ Refused NoSuch ∷ []
   pub undelivered : ran (from_start renamed) (Deliver 99 ∷ []) ≡ Err NotEnabled
 

@@ -247,7 +247,7 @@ pub record IsClosed : Type 0 where
 -- What a report says of frames and contents that no run reaches yet: a frame in doubt, asked for its menus and border, with
 -- a space in its name; streams with a hidden character in their name, without bytes, with bytes that are no characters.
 abbrev pub granting : Frame
-granting = record { name = codes "b c"; asked = None; k = 12; ui = record { width = 40; height = 10; state = Granting (record { object = 3; act = 1; g = 1 }) }; stored = true; phase = InDoubt }
+granting = record { name = codes "b c"; asked = None; k = 12; ui = record { width = 40; height = 10; state = Granting (record { object = 3; act = 1; g = 1 }) }; stored = true; session = 0; phase = InDoubt }
 
 abbrev pub stream : List ℕ → List ℕ → NamedStream
 stream name bytes = record { name = name; bytes = bytes }

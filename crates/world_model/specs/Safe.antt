@@ -22,6 +22,7 @@ use Rattle.container_model.specs.Record.{is_doubtful, is_object}
 use Rattle.container_model.specs.Opens.{Given, IsReadAs}
 use Rattle.container_model.specs.Saves as saves
 use Rattle.container_model.specs.Saves.{document_tree}
+use Rattle.container_model.specs.declared.answer.FrameDocument.{FrameDocument}
 use Rattle.container_model.specs.declared.answer.Part.{Part}
 use Rattle.container_model.specs.declared.record.Link.{Link}
 use Rattle.container_model.specs.declared.record.Object.{Object}
@@ -148,17 +149,25 @@ pub record IsHolder (w : World) (inc act g f : ℕ) : Type 0 where
   pub unwaiting : (claim : Claim) → waiting frame.ui.state ≡ Some claim → claim.act ≢ act
   pub told : (holder : Claim) (tools : Tools) → frame.ui.state ≡ Held holder tools → WasAnswered w inc act g tools
 
--- A log of commits: the frame, the number of its save, and the parts of its document.
+-- A log of commits: the frame, the number of its save, and the session and the parts of its document.
 pub record Commit : Type 0 where
   pub frame : ℕ
   pub k : ℕ
+  pub session : ℕ
   pub parts : List Part
+
+-- what the file of a commit holds, and that of a document that was counted
+abbrev pub saved_in : Commit → FrameDocument
+saved_in c = record { session = c.session; parts = c.parts }
+
+abbrev pub saved_of : Document → FrameDocument
+saved_of d = record { session = d.session; parts = d.parts }
 
 abbrev pub entries_of : Commit → List Done
 entries_of c = map (done_entry c.k) c.parts
 
 abbrev pub committed : Commit → Document
-committed c = record { k = c.k; parts = c.parts }
+committed c = record { k = c.k; session = c.session; parts = c.parts }
 
 -- the document of the last commit of a frame
 abbrev pub or_else : {A : Type 0} → Option A → Option A → Option A
@@ -194,13 +203,13 @@ pub record IsCounted (w : World) (commits : List Commit) : Type 0 where
   pub owned : (c : Commit) (p : Part) (o : Object) → Among commits c → Among c.parts p → find (is_object p.object) w.rec.objects ≡ Some o → o.frame ≡ c.frame
 
 -- The file of a frame holds the document of its last counted commit, whose contents are those counted with it. Where it is
--- opened it gives that commit's objects again, and nothing else.
+-- opened it gives that commit's session and objects again, and nothing else.
 pub record IsKept (w : World) (f : ℕ) (document : Document) : Type 0 where
   pub bytes : List ℕ
   pub file : frame_file w f ≡ Some bytes
-  pub denotes : ∥ Denotes bytes (document_tree document.parts) ∥₁
+  pub denotes : ∥ Denotes bytes (document_tree (saved_of document)) ∥₁
   pub counted : (p : Part) → Among document.parts p → Among w.container_done (done_entry document.k p)
-  pub again : (given : Given) → IsReadAs (Some bytes) given → given ≡ Given.Holding (saves.document document.parts)
+  pub again : (given : Given) → IsReadAs (Some bytes) given → given ≡ Given.Holding (saves.document (saved_of document))
 
 -- A save that a server counted as complete: it is counted in one of these commits, with the same content. Where that is the
 -- last commit of its frame, which isn't in doubt, the frame's file has bytes that denote the tree of the commit's document.
@@ -211,14 +220,14 @@ pub record IsShared (w : World) (commits : List Commit) (e : ServerDone) : Type 
   pub holds : Among commit.parts part
   pub same : done_entry commit.k part ≡ record { object = e.object; k = e.k; content = e.content }
   pub denoted : (frame : Frame) (document : Document) → nth w.rec.frames commit.frame ≡ Some frame → is_doubtful frame.phase ≡ false → nth w.counted commit.frame ≡ Some (Some document) → document.k ≡ e.k
-      → (bytes : List ℕ) × (frame_file w commit.frame ≡ Some bytes) × ∥ Denotes bytes (document_tree commit.parts) ∥₁
+      → (bytes : List ℕ) × (frame_file w commit.frame ≡ Some bytes) × ∥ Denotes bytes (document_tree (saved_in commit)) ∥₁
 
--- What a file gives where it is opened: the objects of one of these commits, all of them and nothing else. It is never a bad
+-- What a file gives where it is opened: the session and the objects of one of these commits, all of them and nothing else. It is never a bad
 -- one.
 abbrev pub GivesCommit : List Commit → Given → Type 0
 GivesCommit commits Given.Missing = ⊤
 GivesCommit commits Given.Broken = ⊥
-GivesCommit commits (Given.Holding ds) = (c : Commit) × Among commits c × (ds ≡ saves.document c.parts)
+GivesCommit commits (Given.Holding d) = (c : Commit) × Among commits c × (d ≡ saves.document (saved_in c))
 
 pub record Safe (w : World) : Type 0 where
   -- a call acts at most once: delivered again once it is answered, it leaves every server as it is and counts nothing

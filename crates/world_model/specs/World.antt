@@ -23,7 +23,7 @@ use Rattle.container_model.specs.Saves.{commit_done, commit_failed, document, do
 use Rattle.container_model.specs.declared.answer.Action.{Action}
 use Rattle.container_model.specs.declared.answer.Action.TheVariants.{Send, Start, End, Commit}
 use Rattle.container_model.specs.declared.answer.Answer.{Answer}
-use Rattle.container_model.specs.declared.answer.Part.{Part}
+use Rattle.container_model.specs.declared.answer.FrameDocument.{FrameDocument}
 use Rattle.container_model.specs.declared.command.Command.{Command}
 use Rattle.container_model.specs.declared.command.Command.TheVariants as command
 use Rattle.container_model.specs.declared.record.Frame.{Frame}
@@ -327,20 +327,20 @@ abbrev pub put_file : List ℕ → List ℕ → List File → List File
 put_file name bytes [] = record { name = name; bytes = bytes } ∷ []
 put_file name bytes (file ∷ files) = if is_file name file then record { name = name; bytes = bytes } ∷ files else file ∷ put_file name bytes files
 
-abbrev pub kept_commit : World → ℕ → Frame → List Part → List Done → List ℕ → World
-kept_commit w f frame parts done bytes = record w {
+abbrev pub kept_commit : World → ℕ → Frame → FrameDocument → List Done → List ℕ → World
+kept_commit w f frame saved done bytes = record w {
   files = put_file (name_after frame.name frame.asked) bytes w.files;
   container_done = w.container_done ++ done;
-  counted = set_nth w.counted f (Some (record { k = frame.k; parts = parts }));
+  counted = set_nth w.counted f (Some (record { k = frame.k; session = saved.session; parts = saved.parts }));
 }
 
-abbrev pub done_taken : World → ℕ → List ℕ → Frame → List Part → Result Took ContainerFault → Result World Stop
-done_taken w f bytes frame parts (Err fault) = Err NotEnabled
-done_taken w f bytes frame parts (Ok t) = Ok (joined (kept_commit w f frame parts t.counted bytes) t)
+abbrev pub done_taken : World → ℕ → List ℕ → Frame → FrameDocument → Result Took ContainerFault → Result World Stop
+done_taken w f bytes frame saved (Err fault) = Err NotEnabled
+done_taken w f bytes frame saved (Ok t) = Ok (joined (kept_commit w f frame saved t.counted bytes) t)
 
-abbrev pub done_imaged : World → ℕ → List ℕ → Frame → Result Took ContainerFault → Result (List Part) ContainerFault → Result World Stop
+abbrev pub done_imaged : World → ℕ → List ℕ → Frame → Result Took ContainerFault → Result FrameDocument ContainerFault → Result World Stop
 done_imaged w f bytes frame counted (Err fault) = Err NotEnabled
-done_imaged w f bytes frame counted (Ok parts) = done_taken w f bytes frame parts counted
+done_imaged w f bytes frame counted (Ok saved) = done_taken w f bytes frame saved counted
 
 abbrev pub done_in : World → ℕ → List ℕ → Result Took ContainerFault → Option Frame → Result World Stop
 done_in w f bytes counted None = Err NotEnabled
@@ -412,7 +412,7 @@ file_of w name = file_bytes (find (is_file name) w.files)
 -- What may be chosen: the bytes that a commit makes the file denote the document, in a tree that holds it; a file gives what
 -- it is read as, where it is looked at: its name is no frame's, and the size is one.
 abbrev pub IsImageOf : World → ℕ → List ℕ → Type 0
-IsImageOf w f bytes = (parts : List Part) → image w.rec f ≡ Ok parts → ∥ Denotes bytes (document_tree parts) ∥₁ × DocOf (document_tree parts) (document parts)
+IsImageOf w f bytes = (saved : FrameDocument) → image w.rec f ≡ Ok saved → ∥ Denotes bytes (document_tree saved) ∥₁ × DocOf (document_tree saved) (document saved)
 
 abbrev pub IsImage : World → Choice → Event → Type 0
 IsImage w choice (event.Command c) = ⊤

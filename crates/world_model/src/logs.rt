@@ -72,6 +72,8 @@ pub struct ServerDone {
 pub struct Document {
     /// The number of the save.
     pub k: u32,
+    /// Its session.
+    pub session: u32,
     /// Its objects.
     pub parts: Items<Part>,
 }

@@ -32,8 +32,8 @@ use Rattle.container_model.specs.Record.{Record, is_object, is_unreaped}
 use Rattle.container_model.specs.Room.{HasRoom, IfLinked, IsRoomy, debt_in}
 use Rattle.container_steady.specs.Roles.{Role, Other, Getting, Holding, Giving, Waiting, IsClaim, Plays, queue_of, role_in, waits_as}
 use Rattle.container_steady.specs.Steady.{ended, EndsWell, IsTimely, SteadyLink, Steady}
-use Rattle.container_steady.proofs.SteadyLookups.{each_found, each_nth}
-use Rattle.container_steady.proofs.SteadyQueues.{goes_on, joined_ok, taken}
+use Rattle.container_queues.proofs.SteadyLookups.{each_found, each_nth}
+use Rattle.container_queues.proofs.SteadyQueues.{goes_on, joined_ok, taken}
 use Rattle.container_steady.proofs.SteadyRecords.{if_at}
 use Rattle.container_numbers.specs.Sound.{IsNumbered}
 use Rattle.container_numbers.proofs.SoundRooms.{IsSaved, each_of}

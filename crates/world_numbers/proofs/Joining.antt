@@ -6,7 +6,7 @@ use Rattle.wire_msgs.specs.declared.message.Message.{Message}
 use Rattle.container_model.specs.Record.{Record, Took}
 use Rattle.container_model.specs.declared.answer.Action.{Action}
 use Rattle.container_model.specs.declared.answer.Action.TheVariants.{Send, Start, End, Commit}
-use Rattle.container_steady.proofs.SteadyLookups.{each_nth, each_set}
+use Rattle.container_queues.proofs.SteadyLookups.{each_nth, each_set}
 use Rattle.container_numbers.specs.Sound.{IsNumbered}
 use Rattle.world_model.specs.declared.logs.Sent.{Sent}
 use Rattle.world_model.specs.World.{World, Instance, end_of, ended_at, ended_by, fresh, joined, messages_of, of_container, started_by}

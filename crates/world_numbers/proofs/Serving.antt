@@ -21,7 +21,7 @@ use Rattle.embed_core.specs.declared.fault.EmbedFault.{EmbedFault}
 use Rattle.server_model.specs.Server.{Activation, Server, Acted, Served, counts, refuses, edits, closes, does, acted, next_call, known_call, begun_class, begun_content, begins, after_known, after_begun, is_class, offered, unknown_call, called, is_act, on_call}
 use Rattle.server_model.specs.declared.fault.ServerFault.{ServerFault}
 use Rattle.server_model.specs.declared.fault.ServerFault.TheVariants.{WrongIncarnation, Ignored, NumbersSpent, WrongClass}
-use Rattle.container_steady.proofs.SteadyLookups.{each_append, each_found, each_put}
+use Rattle.container_queues.proofs.SteadyLookups.{each_append, each_found, each_put}
 use Rattle.world_model.specs.Safe.{CarriesWithin}
 use Rattle.world_numbers.specs.Numbers.{IsActivationWithin, IsServerWithin}
 

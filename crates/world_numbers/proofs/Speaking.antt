@@ -10,7 +10,7 @@ use Rattle.server_model.specs.Server.{Server, Activation, Told, is_act, stored_o
 use Rattle.server_model.specs.Server as server
 use Rattle.server_model.specs.declared.fault.ServerFault.{ServerFault}
 use Rattle.server_model.specs.declared.fault.ServerFault.TheVariants.{Ignored, NumbersSpent}
-use Rattle.container_steady.proofs.SteadyLookups.{each_found, each_put}
+use Rattle.container_queues.proofs.SteadyLookups.{each_found, each_put}
 use Rattle.world_model.specs.Safe.{IsWithin}
 use Rattle.world_numbers.specs.Numbers.{IsActivationWithin, IsServerWithin}
 

@@ -9,7 +9,7 @@ use Rattle.container_model.specs.Commands.{on_command}
 use Rattle.container_model.specs.Messages.{on_message, on_reap}
 use Rattle.container_model.specs.Opens.{Given, opened}
 use Rattle.container_model.specs.Saves.{image, commit_done, resolve}
-use Rattle.container_model.specs.declared.answer.Part.{Part}
+use Rattle.container_model.specs.declared.answer.FrameDocument.{FrameDocument}
 use Rattle.container_model.specs.declared.command.Command.{Command}
 use Rattle.container_model.specs.declared.record.Frame.{Frame}
 use Rattle.container_model.specs.declared.fault.ContainerFault.{ContainerFault}
@@ -76,15 +76,15 @@ limit_lifted : (w b u : World) (t : Took) (full : Bool) (numbers : ℕ) (ends st
 limit_lifted w b u t true numbers ends starts i s h e = cc
 limit_lifted w b u t false numbers ends starts i s h e = ap Ok (took_lifted u b (Ok t) numbers ends starts (ok_is _ _ h) e ∙ rw (i, s) refl)
 
-taken_lifted : (w b : World) (f : ℕ) (bytes : List ℕ) (frame : Frame) (parts : List Part) (told : Result Took ContainerFault) (numbers : ℕ) (ends starts : List ℕ)
-    → limited (emptied w) (done_taken (emptied w) f bytes frame parts told) ≡ Ok (started b numbers starts) → ends ≡ ends_in told → limited w (done_taken w f bytes frame parts told) ≡ Ok (finished w b numbers ends starts)
-taken_lifted w b f bytes frame parts (Err fault) numbers ends starts h e = cc
-taken_lifted w b f bytes frame parts (Ok t) numbers ends starts h e = limit_lifted w b (kept_commit w f frame parts t.counted bytes) t (nat_le MOST_EVENTS (length w.answers)) numbers ends starts refl refl h e
+taken_lifted : (w b : World) (f : ℕ) (bytes : List ℕ) (frame : Frame) (saved : FrameDocument) (told : Result Took ContainerFault) (numbers : ℕ) (ends starts : List ℕ)
+    → limited (emptied w) (done_taken (emptied w) f bytes frame saved told) ≡ Ok (started b numbers starts) → ends ≡ ends_in told → limited w (done_taken w f bytes frame saved told) ≡ Ok (finished w b numbers ends starts)
+taken_lifted w b f bytes frame saved (Err fault) numbers ends starts h e = cc
+taken_lifted w b f bytes frame saved (Ok t) numbers ends starts h e = limit_lifted w b (kept_commit w f frame saved t.counted bytes) t (nat_le MOST_EVENTS (length w.answers)) numbers ends starts refl refl h e
 
-imaged_lifted : (w b : World) (f : ℕ) (bytes : List ℕ) (frame : Frame) (told : Result Took ContainerFault) (parts : Result (List Part) ContainerFault) (numbers : ℕ) (ends starts : List ℕ)
-    → limited (emptied w) (done_imaged (emptied w) f bytes frame told parts) ≡ Ok (started b numbers starts) → ends ≡ ends_in told → limited w (done_imaged w f bytes frame told parts) ≡ Ok (finished w b numbers ends starts)
+imaged_lifted : (w b : World) (f : ℕ) (bytes : List ℕ) (frame : Frame) (told : Result Took ContainerFault) (saved : Result FrameDocument ContainerFault) (numbers : ℕ) (ends starts : List ℕ)
+    → limited (emptied w) (done_imaged (emptied w) f bytes frame told saved) ≡ Ok (started b numbers starts) → ends ≡ ends_in told → limited w (done_imaged w f bytes frame told saved) ≡ Ok (finished w b numbers ends starts)
 imaged_lifted w b f bytes frame told (Err fault) numbers ends starts h e = cc
-imaged_lifted w b f bytes frame told (Ok parts) numbers ends starts h e = taken_lifted w b f bytes frame parts told numbers ends starts h e
+imaged_lifted w b f bytes frame told (Ok saved) numbers ends starts h e = taken_lifted w b f bytes frame saved told numbers ends starts h e
 
 in_lifted : (w b : World) (f : ℕ) (bytes : List ℕ) (told : Result Took ContainerFault) (frame : Option Frame) (numbers : ℕ) (ends starts : List ℕ)
     → limited (emptied w) (done_in (emptied w) f bytes told frame) ≡ Ok (started b numbers starts) → ends ≡ ends_in told → limited w (done_in w f bytes told frame) ≡ Ok (finished w b numbers ends starts)

@@ -5,7 +5,7 @@ use Rattle.std.specs.Prelude.{nat_le}
 use Rattle.wire_msgs.specs.Found.{nth}
 use Rattle.container_model.specs.Record.{Took}
 use Rattle.container_model.specs.Saves.{image, commit_done, resolve}
-use Rattle.container_model.specs.declared.answer.Part.{Part}
+use Rattle.container_model.specs.declared.answer.FrameDocument.{FrameDocument}
 use Rattle.container_model.specs.declared.record.Frame.{Frame}
 use Rattle.container_model.specs.declared.fault.ContainerFault.{ContainerFault}
 use Rattle.world_model.specs.declared.event.Stop.{Stop}
@@ -22,15 +22,15 @@ limit_same false u v OutOfStock h = cc
 limit_same false u v EventLimit h = cc
 limit_same false u v NoMemory h = search rules
 
-taken_same : (w : World) (f : ℕ) (bytes : List ℕ) (frame : Frame) (parts : List Part) (told : Result Took ContainerFault) (stop : Stop)
-    → Refuses (limited (emptied w) (done_taken (emptied w) f bytes frame parts told)) stop → Refuses (limited w (done_taken w f bytes frame parts told)) stop
-taken_same w f bytes frame parts (Err fault) stop h = h
-taken_same w f bytes frame parts (Ok t) stop h = limit_same (nat_le MOST_EVENTS (length w.answers)) _ _ stop h
+taken_same : (w : World) (f : ℕ) (bytes : List ℕ) (frame : Frame) (saved : FrameDocument) (told : Result Took ContainerFault) (stop : Stop)
+    → Refuses (limited (emptied w) (done_taken (emptied w) f bytes frame saved told)) stop → Refuses (limited w (done_taken w f bytes frame saved told)) stop
+taken_same w f bytes frame saved (Err fault) stop h = h
+taken_same w f bytes frame saved (Ok t) stop h = limit_same (nat_le MOST_EVENTS (length w.answers)) _ _ stop h
 
-imaged_same : (w : World) (f : ℕ) (bytes : List ℕ) (frame : Frame) (told : Result Took ContainerFault) (parts : Result (List Part) ContainerFault) (stop : Stop)
-    → Refuses (limited (emptied w) (done_imaged (emptied w) f bytes frame told parts)) stop → Refuses (limited w (done_imaged w f bytes frame told parts)) stop
+imaged_same : (w : World) (f : ℕ) (bytes : List ℕ) (frame : Frame) (told : Result Took ContainerFault) (saved : Result FrameDocument ContainerFault) (stop : Stop)
+    → Refuses (limited (emptied w) (done_imaged (emptied w) f bytes frame told saved)) stop → Refuses (limited w (done_imaged w f bytes frame told saved)) stop
 imaged_same w f bytes frame told (Err fault) stop h = h
-imaged_same w f bytes frame told (Ok parts) stop h = taken_same w f bytes frame parts told stop h
+imaged_same w f bytes frame told (Ok saved) stop h = taken_same w f bytes frame saved told stop h
 
 in_same : (w : World) (f : ℕ) (bytes : List ℕ) (told : Result Took ContainerFault) (frame : Option Frame) (stop : Stop)
     → Refuses (limited (emptied w) (done_in (emptied w) f bytes told frame)) stop → Refuses (limited w (done_in w f bytes told frame)) stop

@@ -7,19 +7,19 @@ use Rattle.wire_msgs.specs.declared.message.Message.TheVariants.{Call, Reply, Wr
 use Rattle.container_model.specs.Record.{Took}
 use Rattle.container_model.specs.Inputs.{Input}
 use Rattle.container_model.specs.Opens.{Given, opened}
-use Rattle.container_model.specs.Saves.{image, image_at, parts_in, commit_done, commit_failed, commit_made, done_entry, resolve}
+use Rattle.container_model.specs.Saves.{frame_document, image, image_at, parts_in, commit_done, commit_failed, commit_made, done_entry, resolve}
 use Rattle.container_model.specs.Messages.{on_message, on_reap}
 use Rattle.container_model.specs.Commands.{on_command}
 use Rattle.container_model.specs.declared.command.Command.{Command}
 use Rattle.container_model.specs.declared.command.Command.TheVariants as command
 use Rattle.container_model.specs.declared.record.Frame.{Frame}
-use Rattle.container_model.specs.declared.answer.Part.{Part}
+use Rattle.container_model.specs.declared.answer.FrameDocument.{FrameDocument}
 use Rattle.container_model.specs.declared.answer.Done.{Done}
 use Rattle.container_model.specs.declared.fault.ContainerFault.{ContainerFault}
 use Rattle.container_steady.specs.Made.{run_by}
 use Rattle.container_steady.specs.Steady.{IsUnsettled, Steady}
 use Rattle.container_steady.proofs.Settling.{IsCommitOf, done_commits, kept_commits, not_idle}
-use Rattle.container_steps.proofs.SteadyCommands.{on_command_keeps}
+use Rattle.container_commands.proofs.SteadyCommands.{on_command_keeps}
 use Rattle.container_steps.proofs.SteadyMessages.{on_message_keeps}
 use Rattle.container_steps.proofs.SteadyReaps.{on_reap_keeps}
 use Rattle.container_steps.proofs.SteadyRuns.{on_input_keeps}
@@ -238,24 +238,24 @@ module _ (w : World) (k : Files w) (h : AgreesIn w) (f : ℕ) (frame : Frame) (a
 abbrev Keeps : Result Took ContainerFault → Type 0
 Keeps told = (t : Took) → told ≡ Ok t → Steady t.rec
 
-agrees_done_taken : (w : World) (f : ℕ) (bytes : List ℕ) (frame : Frame) (parts : List Part) (told : Result Took ContainerFault) (v : World) → Files w → AgreesIn w → nth w.rec.frames f ≡ Some frame
-    → image w.rec f ≡ Ok parts → IsCommitOf w.rec f frame told → Keeps told → done_taken w f bytes frame parts told ≡ Ok v → AgreesIn v
-agrees_done_taken w f bytes frame parts (Err fault) v k h at im commits keeps e = cc
-agrees_done_taken w f bytes frame parts (Ok t) v k h at im commits keeps e =
+agrees_done_taken : (w : World) (f : ℕ) (bytes : List ℕ) (frame : Frame) (saved : FrameDocument) (told : Result Took ContainerFault) (v : World) → Files w → AgreesIn w → nth w.rec.frames f ≡ Some frame
+    → image w.rec f ≡ Ok saved → IsCommitOf w.rec f frame told → Keeps told → done_taken w f bytes frame saved told ≡ Ok v → AgreesIn v
+agrees_done_taken w f bytes frame saved (Err fault) v k h at im commits keeps e = cc
+agrees_done_taken w f bytes frame saved (Ok t) v k h at im commits keeps e =
     let r = w.rec in
     let c = commits t refl in
-    let ps : parts_in f r.objects ≡ parts = image_is_at r f frame parts (ap (image_at r f) (sym at) ∙ im) in
+    let ps : frame_document frame (parts_in f r.objects) ≡ saved = image_is_at r f frame saved (ap (image_at r f) (sym at) ∙ im) in
     let made = commit_made r f frame in
     let steady : Steady made.rec = subst (λ (x : Took). Steady x.rec) (sym c.1) (keeps t refl) in
-    let one : AgreesIn (joined (kept_commit w f frame (parts_in f r.objects) made.counted bytes) made) = commit_agrees w k h f frame at c.0 steady in
-    let two : AgreesIn (joined (kept_commit w f frame parts made.counted bytes) made) = subst (λ x. AgreesIn (joined (kept_commit w f frame x made.counted bytes) made)) ps one in
-    let three : AgreesIn (joined (kept_commit w f frame parts t.counted bytes) t) = subst (λ x. AgreesIn (joined (kept_commit w f frame parts x.counted bytes) x)) c.1 two in
+    let one : AgreesIn (joined (kept_commit w f frame (frame_document frame (parts_in f r.objects)) made.counted bytes) made) = commit_agrees w k h f frame at c.0 steady in
+    let two : AgreesIn (joined (kept_commit w f frame saved made.counted bytes) made) = subst (λ x. AgreesIn (joined (kept_commit w f frame x made.counted bytes) made)) ps one in
+    let three : AgreesIn (joined (kept_commit w f frame saved t.counted bytes) t) = subst (λ x. AgreesIn (joined (kept_commit w f frame saved x.counted bytes) x)) c.1 two in
     subst AgreesIn (ok_is _ v e) three
 
-agrees_imaged : (w : World) (f : ℕ) (bytes : List ℕ) (frame : Frame) (counted : Result Took ContainerFault) (told : Result (List Part) ContainerFault) (v : World) → Files w → AgreesIn w → nth w.rec.frames f ≡ Some frame → image w.rec f ≡ told
+agrees_imaged : (w : World) (f : ℕ) (bytes : List ℕ) (frame : Frame) (counted : Result Took ContainerFault) (told : Result FrameDocument ContainerFault) (v : World) → Files w → AgreesIn w → nth w.rec.frames f ≡ Some frame → image w.rec f ≡ told
     → IsCommitOf w.rec f frame counted → Keeps counted → done_imaged w f bytes frame counted told ≡ Ok v → AgreesIn v
 agrees_imaged w f bytes frame counted (Err fault) v k h at im commits keeps e = cc
-agrees_imaged w f bytes frame counted (Ok parts) v k h at im commits keeps e = agrees_done_taken w f bytes frame parts counted v k h at im commits keeps e
+agrees_imaged w f bytes frame counted (Ok saved) v k h at im commits keeps e = agrees_done_taken w f bytes frame saved counted v k h at im commits keeps e
 
 agrees_done_in : (w : World) (f : ℕ) (bytes : List ℕ) (counted : Result Took ContainerFault) (frame : Option Frame) (v : World) → Files w → AgreesIn w → nth w.rec.frames f ≡ frame
     → ((x : Frame) → nth w.rec.frames f ≡ Some x → IsCommitOf w.rec f x counted) → Keeps counted → done_in w f bytes counted frame ≡ Ok v → AgreesIn v

@@ -20,7 +20,7 @@ use Rattle.container_model.specs.Saves.{image, commit_done, commit_failed, resol
 use Rattle.container_model.specs.Messages.{awaits_save, is_held_by, relieved, ask_framed, ask_found, on_message, on_reap}
 use Rattle.container_model.specs.Commands.{on_command}
 use Rattle.container_model.specs.Opens.{opened}
-use Rattle.container_model.specs.declared.answer.Part.{Part}
+use Rattle.container_model.specs.declared.answer.FrameDocument.{FrameDocument}
 use Rattle.container_model.specs.declared.command.Command.{Command}
 use Rattle.container_model.specs.declared.record.Frame.{Frame}
 use Rattle.container_model.specs.declared.record.Link.{Link}
@@ -136,13 +136,13 @@ grew_ask w inc act None v e = cc
 grew_ask w inc act (Some i) v e = grew_spoken w inc act i (server.ask_deactivate i.core act) i.life v e
 
 module _ (w : World) (f : ℕ) (bytes : List ℕ) where
-  grew_done_taken : (frame : Frame) (parts : List Part) (told : Result Took ContainerFault) (v : World) → done_taken w f bytes frame parts told ≡ Ok v → Grew w v
-  grew_done_taken frame parts (Err fault) v e = cc
-  grew_done_taken frame parts (Ok t) v e = subst (Grew w) (ok_is _ v e) (record { more = map of_container (messages_of t.answer.actions); sent = refl; taken = refl; hostile = refl })
+  grew_done_taken : (frame : Frame) (saved : FrameDocument) (told : Result Took ContainerFault) (v : World) → done_taken w f bytes frame saved told ≡ Ok v → Grew w v
+  grew_done_taken frame saved (Err fault) v e = cc
+  grew_done_taken frame saved (Ok t) v e = subst (Grew w) (ok_is _ v e) (record { more = map of_container (messages_of t.answer.actions); sent = refl; taken = refl; hostile = refl })
 
-  grew_imaged : (frame : Frame) (counted : Result Took ContainerFault) (told : Result (List Part) ContainerFault) (v : World) → done_imaged w f bytes frame counted told ≡ Ok v → Grew w v
+  grew_imaged : (frame : Frame) (counted : Result Took ContainerFault) (told : Result FrameDocument ContainerFault) (v : World) → done_imaged w f bytes frame counted told ≡ Ok v → Grew w v
   grew_imaged frame counted (Err fault) v e = cc
-  grew_imaged frame counted (Ok parts) v e = grew_done_taken frame parts counted v e
+  grew_imaged frame counted (Ok saved) v e = grew_done_taken frame saved counted v e
 
   grew_done : (counted : Result Took ContainerFault) (frame : Option Frame) (v : World) → done_in w f bytes counted frame ≡ Ok v → Grew w v
   grew_done counted None v e = cc

@@ -78,6 +78,7 @@ empty_agrees numbers stock = record {
     };
     calls = record { bounded = λ o inc n op l e h. absurd h; pending = λ o inc op asked l e q h. absurd h };
     in_step = λ o l e. absurd (no_link o l e);
+    one_ahead = λ inc act n op honest h. absurd h;
     unlinked = record { called = λ inc act n op honest runs h. absurd h; known = λ inc act a honest runs e. absurd (absent inc act a e) };
     replies = record { reply_numbered = λ inc act a e. absurd (absent inc act a e); replies_kept = λ inc act n r h. absurd h; one_reply = λ inc act n r q h. absurd h };
     saved_same = λ o l c e. absurd (no_link o l e);

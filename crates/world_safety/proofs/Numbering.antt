@@ -19,7 +19,7 @@ use Rattle.container_model.specs.Messages.{on_message, on_reap}
 use Rattle.container_model.specs.Commands.{on_command, start_made}
 use Rattle.container_model.specs.declared.command.Command.{Command}
 use Rattle.container_model.specs.declared.record.Frame.{Frame}
-use Rattle.container_model.specs.declared.answer.Part.{Part}
+use Rattle.container_model.specs.declared.answer.FrameDocument.{FrameDocument}
 use Rattle.container_model.specs.declared.fault.ContainerFault.{ContainerFault}
 use Rattle.container_steady.proofs.Settling.{IsCommitOf, done_commits, kept_commits}
 use Rattle.container_steady.specs.Made.{run_by}
@@ -260,15 +260,15 @@ module _ (limit : ℕ) (w : World) (h : AgreesIn w) (k : Numbers limit w) where
 
   -- commits
   module _ (files : Files w) (f : ℕ) (bytes : List ℕ) where
-    committed_follows : (frame : Frame) (parts : List Part) (told : Result Took ContainerFault) (v : World) → nth w.rec.frames f ≡ Some frame → IsCommitOf w.rec f frame told → ((t : Took) → told ≡ Ok t → IsNumbered limit t.rec) → done_taken w f bytes frame parts told ≡ Ok v → Follow limit v
-    committed_follows frame parts (Err fault) v at commits numbered e = cc
-    committed_follows frame parts (Ok t) v at commits numbered e =
-        let u : World = kept_commit w f frame parts t.counted bytes in
+    committed_follows : (frame : Frame) (saved : FrameDocument) (told : Result Took ContainerFault) (v : World) → nth w.rec.frames f ≡ Some frame → IsCommitOf w.rec f frame told → ((t : Took) → told ≡ Ok t → IsNumbered limit t.rec) → done_taken w f bytes frame saved told ≡ Ok v → Follow limit v
+    committed_follows frame saved (Err fault) v at commits numbered e = cc
+    committed_follows frame saved (Ok t) v at commits numbered e =
+        let u : World = kept_commit w f frame saved t.counted bytes in
         subst (Follow limit) (ok_is _ v e) (joined_follows limit u t (stays limit w u refl refl refl k) (commit_taken limit w h k f frame (Ok t) t files at commits (numbered t refl) refl))
 
-    imaged_follows : (frame : Frame) (counted : Result Took ContainerFault) (told : Result (List Part) ContainerFault) (v : World) → nth w.rec.frames f ≡ Some frame → IsCommitOf w.rec f frame counted → ((t : Took) → counted ≡ Ok t → IsNumbered limit t.rec) → done_imaged w f bytes frame counted told ≡ Ok v → Follow limit v
+    imaged_follows : (frame : Frame) (counted : Result Took ContainerFault) (told : Result FrameDocument ContainerFault) (v : World) → nth w.rec.frames f ≡ Some frame → IsCommitOf w.rec f frame counted → ((t : Took) → counted ≡ Ok t → IsNumbered limit t.rec) → done_imaged w f bytes frame counted told ≡ Ok v → Follow limit v
     imaged_follows frame counted (Err fault) v at commits numbered e = cc
-    imaged_follows frame counted (Ok parts) v at commits numbered e = committed_follows frame parts counted v at commits numbered e
+    imaged_follows frame counted (Ok saved) v at commits numbered e = committed_follows frame saved counted v at commits numbered e
 
     done_follows : (counted : Result Took ContainerFault) (frame : Option Frame) (v : World) → nth w.rec.frames f ≡ frame → ((x : Frame) → nth w.rec.frames f ≡ Some x → IsCommitOf w.rec f x counted) → ((t : Took) → counted ≡ Ok t → IsNumbered limit t.rec) → done_in w f bytes counted frame ≡ Ok v → Follow limit v
     done_follows counted None v at commits numbered e = cc

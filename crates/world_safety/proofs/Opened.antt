@@ -12,7 +12,7 @@ use Rattle.world_model.specs.declared.logs.Document.{Document}
 use Rattle.world_model.specs.declared.logs.File.{File}
 use Rattle.world_model.specs.declared.logs.ServerDone.{ServerDone}
 use Rattle.world_model.specs.World.{World, document_in, done_entry, file_bytes, file_of, frame_file_in, is_file}
-use Rattle.world_model.specs.Safe.{Among, Commit, committed, GivesCommit, IsKept, IsShared}
+use Rattle.world_model.specs.Safe.{Among, Commit, committed, GivesCommit, IsKept, IsShared, saved_in, saved_of}
 use Rattle.world_files.specs.Files.{Files, IsOfCommit}
 use Rattle.world_files.proofs.InTurn.{entry_from, last_is, one_commit}
 use Rattle.world_facts.proofs.Lookups.{find_among}
@@ -24,13 +24,13 @@ file_known w frame file sure stored found = rw (sure, stored, found) refl
 pub files_kept : (w : World) → Files w → (f : ℕ) (frame : Frame) (document : Document) → nth w.rec.frames f ≡ Some frame → is_doubtful frame.phase ≡ false → nth w.counted f ≡ Some (Some document) → IsKept w f document
 files_kept w k f frame document at sure c =
     let s = k.filed.file_counted f document frame c at in
-    let of : IsFileOf s.file.bytes document.parts = record { denotes = s.denotes; holds = s.holds } in
+    let of : IsFileOf s.file.bytes (saved_of document) = record { denotes = s.denotes; holds = s.holds } in
     record {
       bytes = s.file.bytes;
       file = ap (frame_file_in w) at ∙ file_known w frame s.file sure s.stored s.found;
       denotes = s.denotes;
       counted = s.counted_with;
-      again = λ given read. files-give_theirs s.file.bytes document.parts given of read;
+      again = λ given read. files-give_theirs s.file.bytes (saved_of document) given of read;
     }
 
 -- a save that both sides counted: the document of its commit is in the frame's file, where it is the frame's last one
@@ -58,8 +58,8 @@ shared_kept w k e g =
 -- any file of the world
 gives_one : (commits : List Commit) (file : File) (given : Given) → IsOfCommit file commits → IsReadAs (Some file.bytes) given → GivesCommit commits given
 gives_one commits file given h read =
-    let of : IsFileOf file.bytes h.commit.parts = record { denotes = h.denotes; holds = h.holds } in
-    subst (GivesCommit commits) (sym (files-give_theirs file.bytes h.commit.parts given of read)) (h.commit, h.counted, refl)
+    let of : IsFileOf file.bytes (saved_in h.commit) = record { denotes = h.denotes; holds = h.holds } in
+    subst (GivesCommit commits) (sym (files-give_theirs file.bytes (saved_in h.commit) given of read)) (h.commit, h.counted, refl)
 
 gives_found : (commits : List Commit) (file : Option File) (given : Given) → ((x : File) → file ≡ Some x → IsOfCommit x commits) → IsReadAs (file_bytes file) given → GivesCommit commits given
 gives_found commits None Given.Missing h read = tt

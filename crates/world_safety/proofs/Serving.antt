@@ -61,7 +61,7 @@ module _ (w : World) (h : AgreesIn w) (inc act n : ℕ) (op : Operation) (call :
     views_served : Views w.hostile (links_of w.rec.objects) (acts_of (set_nth w.instances inc (record i { core = told.server }))) (w.sent ++ record { message = Reply inc act n told.answer; view = view_in i.core act } ∷ [])
     views_served = subst (λ y. Views w.hostile (links_of w.rec.objects) (acts_of (set_nth w.instances inc (record i { core = told.server }))) (w.sent ++ y ∷ [])) reply_seen
         (views_acted (links_of w.rec.objects) (acts_of w.instances) (acts_of (set_nth w.instances inc (record i { core = told.server }))) (lives_of w.instances) (messages w.sent) w.owners w.rec.last_act w.container_done w.server_done inc act n op taken.after told.answer told.counted
-        h.facts (ready w.rec h.steady) call (ap life_at at ∙ ap Some runs) taken.changed taken.how w.sent h.views)
+        h.facts (ready w.rec h.steady) call taken.changed taken.how w.sent h.views)
 
     pub served_agrees : Agrees w.hostile w.rec (set_nth w.instances inc (record i { core = told.server })) (w.sent ++ record { message = Reply inc act n told.answer; view = view_in i.core act } ∷ []) w.owners w.container_done (w.server_done ++ counted_by w inc told.counted)
     served_agrees =
@@ -73,7 +73,7 @@ module _ (w : World) (h : AgreesIn w) (inc act n : ℕ) (op : Operation) (call :
         let es : entries_of inc act w.owners told.counted ≡ counted_by w inc told.counted = entries_same w inc act told.counted taken.of in
         let f : Facts w.hostile links (acts_of js) (lives_of w.instances) more w.owners w.rec.last_act w.container_done (w.server_done ++ entries_of inc act w.owners told.counted) =
         acted links (acts_of w.instances) (acts_of js) (lives_of w.instances) (messages w.sent) w.owners w.rec.last_act w.container_done w.server_done inc act n op taken.after told.answer told.counted
-        h.facts (ready w.rec h.steady) call (ap life_at at ∙ ap Some runs) taken.changed taken.how in
+        h.facts (ready w.rec h.steady) call taken.changed taken.how in
         let g : Facts w.hostile links (acts_of js) (lives_of js) more w.owners w.rec.last_act w.container_done (w.server_done ++ entries_of inc act w.owners told.counted) =
         started links (acts_of js) (acts_of js) (lives_of w.instances) (lives_of js) more w.owners w.rec.last_act w.container_done (w.server_done ++ entries_of inc act w.owners told.counted)
         (record { same = λ y z. refl; there = λ y life q. (life, lives_same y ∙ q); runs = λ y life q r. sym (lives_same y) ∙ r; hosted = hosted_still }) f in

@@ -14,7 +14,7 @@ use Rattle.container_model.specs.declared.record.Link.{Link}
 use Rattle.container_model.specs.declared.record.Object.{Object}
 use Rattle.container_steady.specs.Roles.{role_in}
 use Rattle.container_steady.specs.Steady.{EachPair, InOrder, SteadyLink, SteadyObject, Steady, WaitsBehind}
-use Rattle.container_steady.proofs.SteadyLookups.{each_found}
+use Rattle.container_queues.proofs.SteadyLookups.{each_found}
 use Rattle.container_steady.proofs.SteadyRecords.{if_at, some_and}
 use Rattle.container_steady.proofs.SteadyFinds.{found_by_number, put_by_number, find-put_same, find-put_other, find-map}
 use Rattle.world_model.specs.World.{Instance, messages_of, of_container, started_by, ended_by}

@@ -19,8 +19,8 @@ use Rattle.container_model.specs.declared.record.Phase.TheVariants.{Idle, Saving
 use Rattle.container_model.specs.Record.{Record}
 use Rattle.container_steady.specs.Roles.{Role, role_in}
 use Rattle.container_steady.specs.Steady.{queue_of, ended, EndsWell, HasStorage, IsTimely, SteadyLink, Steady}
-use Rattle.container_steady.proofs.SteadyLookups.{each_nth}
-use Rattle.container_steady.proofs.SteadyQueues.{taken}
+use Rattle.container_queues.proofs.SteadyLookups.{each_nth}
+use Rattle.container_queues.proofs.SteadyQueues.{taken}
 use Rattle.world_model.specs.Safe.{links_of}
 use Rattle.world_facts.specs.Shapes.{IsFirst, IsReady}
 use Rattle.world_steps.proofs.Objects.{link_held}

@@ -11,10 +11,10 @@ returns-then-not-has_image-clause-refused c =
 
 pub returns-then-not-fits-clause-refused : goal.returns-then-not-fits-clause-refused
 returns-then-not-fits-clause-refused c =
-    full_image _ c.args.state.now c.args.f c.in-Some.place _ _ c.index.result.now c.state.view_is refl c.as_slice.ensures.value c.in-Some.ensures c.index.ensures (sym c.has_image.ensures ∙ c.if-not-has_image.false)
+    full_image _ c.args.state.now c.args.f c.in-Some.place c.session.session _ _ c.index.result.now c.state.view_is refl c.as_slice.ensures.value c.session.is c.in-Some.ensures c.index.ensures (sym c.has_image.ensures ∙ c.if-not-has_image.false)
     (sym c.fits.ensures ∙ c.if-not-fits.true)
 
 pub returns-clause-fine : goal.returns-clause-fine
 returns-clause-fine c =
-    fine_image _ c.args.state.now c.args.f c.in-Some.place _ _ c.index.result.now c.state.view_is refl c.as_slice.ensures.value c.in-Some.ensures c.index.ensures (sym c.has_image.ensures ∙ c.if-not-has_image.false)
+    fine_image _ c.args.state.now c.args.f c.in-Some.place c.session.session _ _ c.index.result.now c.state.view_is refl c.as_slice.ensures.value c.session.is c.in-Some.ensures c.index.ensures (sym c.has_image.ensures ∙ c.if-not-has_image.false)
     (sym c.fits.ensures ∙ c.if-not-fits.false)

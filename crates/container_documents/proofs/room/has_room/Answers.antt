@@ -3,27 +3,28 @@ use Rattle.std.proofs.lemmas.Bool.{eqb-true}
 use Rattle.std.proofs.lemmas.List.{drop_all, length-map}
 use Rattle.ole_parts.proofs.Again.{and_right}
 use Rattle.document_model.specs.DocOf.{is_object}
+use Rattle.document_model.specs.Documents.{Doc}
 use Rattle.document_model.specs.DocTree.{doc_tree}
 use Rattle.document_model.specs.Layouts.{layout_bytes}
 use Rattle.document_model.specs.declared.object.DocObject.{DocObject}
-use Rattle.container_model.specs.Saves.{are_objects, document, document_tree, held_part, part_of, parts_in}
+use Rattle.container_model.specs.Saves.{are_objects, document_tree, held_part, held_parts, part_of, parts_in}
 use Rattle.file_model.specs.Limits.{MANY}
 use Rattle.file_model.specs.Need.{long_pieces, short_pieces}
 use Rattle.container_documents.specs.declared.room.Room.{Room}
-use Rattle.container_documents.specs.Sums.{AreTyped, long_of, objects_sum, one, short_of}
+use Rattle.container_documents.specs.Sums.{AreTyped, long_of, objects_sum, one, one_of, session_of, session_sum, short_of}
 use Rattle.container_documents.proofs.DocumentSums.{sum, sum-document, over-sum, entries-sum}
 use Rattle.container_documents.proofs.DocumentsRoom.{fits_told, layout-long}
-use Rattle.container_documents.proofs.RoomSteps.{next_sum, passed, same_sum, last_sum, taken}
+use Rattle.container_documents.proofs.RoomSteps.{next_sum, passed, same_sum, last_sum, session_step, taken}
 use Rattle.container_documents.proofs.room.has_room.Goals.{then-object-f, else-object-f}
 use Rattle.container_documents.proofs.room.has_room.Goals as goal
 
 -- the objects of the frame that are left, before this one and behind it
 module _ (c : goal.Joined-object-f) where
   abbrev left : List DocObject
-  left = document (parts_in c.args.f (drop c.loop-object.object-index c.args.objects.now))
+  left = held_parts (parts_in c.args.f (drop c.loop-object.object-index c.args.objects.now))
 
   abbrev behind : List DocObject
-  behind = document (parts_in c.args.f (drop (c.loop-object.object-index + 1) c.args.objects.now))
+  behind = held_parts (parts_in c.args.f (drop (c.loop-object.object-index + 1) c.args.objects.now))
 
   abbrev this : DocObject
   this = held_part (part_of c.object-item.result)
@@ -60,16 +61,16 @@ loop-object-preserved c = elim c.if-object-f.branch [
       }
 ]
 
--- once all objects are reckoned, the layout is the last stream
+-- once all objects are reckoned, the session and the layout are left
 module _ (c : goal.After-fits) where
   abbrev whole : List DocObject
-  whole = document (parts_in c.args.f c.args.objects.now)
+  whole = held_parts (parts_in c.args.f c.args.objects.now)
 
   abbrev rest : List DocObject
-  rest = document (parts_in c.args.f (drop c.loop-object.object-index c.args.objects.now))
+  rest = held_parts (parts_in c.args.f (drop c.loop-object.object-index c.args.objects.now))
 
   none_left : rest ≡ []
-  none_left = ap (λ os. document (parts_in c.args.f os)) (drop_all c.loop-object.object-index c.args.objects.now (omega (arith, c.loop-object-test.false)))
+  none_left = ap (λ os. held_parts (parts_in c.args.f os)) (drop_all c.loop-object.object-index c.args.objects.now (omega (arith, c.loop-object-test.false)))
 
   typed : AreTyped whole
   typed = c.loop-object.invariant.typed (subst AreTyped (sym none_left) tt)
@@ -82,15 +83,19 @@ module _ (c : goal.After-fits) where
       let m : length (map (λ (o : DocObject). o.area) whole) ≡ length whole = length-map whole (λ (o : DocObject). o.area) in
       omega (arith, counted, layout-long (map (λ (o : DocObject). o.area) whole), m)
 
-  summed : (g : List ℕ → ℕ) (z r r' x : ℕ) → min MANY (r + objects_sum g z rest) ≡ min MANY (objects_sum g z whole) → min MANY r' ≡ min MANY (r + x) → x ≡ g (layout_bytes (map (λ (o : DocObject). o.area) whole))
-      → min MANY r' ≡ min MANY (sum g z (doc_tree whole))
-  summed g z r r' x h k e =
-      last_sum MANY r r' x (objects_sum g z whole) (objects_sum g z rest) h (ap (objects_sum g z) none_left) k
-      ∙ ap (λ y. min MANY (y + objects_sum g z whole)) e
-      ∙ ap (min MANY) (sym (sum-document g z whole c.requires typed))
+  made : Doc
+  made = record { session = c.args.session; objects = whole }
+
+  summed : (g : List ℕ → ℕ) (of : ℕ → ℕ) (z r s r' x : ℕ) → ((b : List ℕ) → g b ≡ of (length b)) → min MANY (r + objects_sum g z rest) ≡ min MANY (objects_sum g z whole)
+      → min MANY s ≡ min MANY (r + session_of of c.args.session) → min MANY r' ≡ min MANY (s + x) → x ≡ g (layout_bytes (map (λ (o : DocObject). o.area) whole))
+      → min MANY r' ≡ min MANY (sum g z (doc_tree made))
+  summed g of z r s r' x same h j k e =
+      last_sum MANY r s r' (session_sum g c.args.session) x (objects_sum g z whole) (objects_sum g z rest) h (ap (objects_sum g z) none_left) (session_step MANY s r c.args.session g of same j) k
+      ∙ ap (λ y. min MANY (y + (session_sum g c.args.session + objects_sum g z whole))) e
+      ∙ ap (min MANY) (sym (sum-document g z made c.requires typed))
 
 pub returns : goal.returns
-returns c = c.fits.ensures ∙ fits_told (document_tree (parts_in c.args.f c.args.objects.now)) c.stream.result.entries c.stream.result.minis c.stream.result.longs
-    (summed c one 1 c.loop-object.room.entries c.stream.result.entries 1 c.loop-object.invariant.entries c.stream.ensures.entries refl ∙ ap (min MANY) (sym (entries-sum (doc_tree (whole c)))))
-    (summed c short_pieces 0 c.loop-object.room.minis c.stream.result.minis (short_of (8 + 8 * c.loop-object.count)) c.loop-object.invariant.minis c.stream.ensures.minis (ap short_of (layout c)) ∙ ap (min MANY) (sym (over-sum short_pieces (doc_tree (whole c)))))
-    (summed c long_pieces 0 c.loop-object.room.longs c.stream.result.longs (long_of (8 + 8 * c.loop-object.count)) c.loop-object.invariant.longs c.stream.ensures.longs (ap long_of (layout c)) ∙ ap (min MANY) (sym (over-sum long_pieces (doc_tree (whole c)))))
+returns c = c.fits.ensures ∙ fits_told (doc_tree (made c)) c.stream.result.entries c.stream.result.minis c.stream.result.longs
+    (summed c one one_of 1 c.loop-object.room.entries c.session.result.entries c.stream.result.entries 1 (λ b. refl) c.loop-object.invariant.entries c.session.ensures.entries c.stream.ensures.entries refl ∙ ap (min MANY) (sym (entries-sum (doc_tree (made c)))))
+    (summed c short_pieces short_of 0 c.loop-object.room.minis c.session.result.minis c.stream.result.minis (short_of (8 + 8 * c.loop-object.count)) (λ b. refl) c.loop-object.invariant.minis c.session.ensures.minis c.stream.ensures.minis (ap short_of (layout c)) ∙ ap (min MANY) (sym (over-sum short_pieces (doc_tree (made c)))))
+    (summed c long_pieces long_of 0 c.loop-object.room.longs c.session.result.longs c.stream.result.longs (long_of (8 + 8 * c.loop-object.count)) (λ b. refl) c.loop-object.invariant.longs c.session.ensures.longs c.stream.ensures.longs (ap long_of (layout c)) ∙ ap (min MANY) (sym (over-sum long_pieces (doc_tree (made c)))))

@@ -24,4 +24,4 @@ returns-clause-sent c =
     let rest : List Operation = map (operation_of c.args.g) c.in-Some.rest.now in
     let all : List Operation = map (operation_of c.args.g) c.args.steps.now in
     let first : all ≡ c.operation_of-2.result ∷ rest = search rules in
-    sym (ap sends (begins_sent c.args.link.now c.operation_of-2.result rest all (sym c.is_some.ensures ∙ c.if-is_some.false) first))
+    rw c.call.ensures (sym (ap sends (begins_sent c.args.link.now c.operation_of-2.result rest all (sym c.is_some.ensures ∙ c.if-is_some.false) first)))

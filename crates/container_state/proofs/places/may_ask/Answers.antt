@@ -1,6 +1,6 @@
 use Rattle.std.proofs.Common.{◌≡◌, ◌∙◌, true, false, sym, ap}
 use Rattle.container_model.specs.Record.{is_busy}
-use Rattle.container_steps.proofs.LocatedSteps.{busy, fine, in_doubt, saving}
+use Rattle.container_commands.proofs.LocatedSteps.{busy, fine, in_doubt, saving}
 use Rattle.container_state.proofs.places.may_ask.Goals as goal
 
 pub returns-then-is_doubtful-clause-refused : goal.returns-then-is_doubtful-clause-refused

@@ -3,7 +3,7 @@ use Rattle.container_model.specs.Commands.{any_busy}
 use Rattle.container_model.specs.Record.{is_moving}
 use Rattle.container_model.specs.declared.record.Object.{Object}
 use Rattle.container_steady.proofs.SteadyTests.{idle_of}
-use Rattle.container_steps.proofs.SavesMade.{busy, fine, in_doubt, moving, saving}
+use Rattle.container_commands.proofs.SavesMade.{busy, fine, in_doubt, moving, saving}
 use Rattle.container_state.proofs.saves.may_save.Goals as goal
 
 pub returns-then-is_doubtful-clause-refused : goal.returns-then-is_doubtful-clause-refused

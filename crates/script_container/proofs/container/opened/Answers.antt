@@ -2,7 +2,7 @@ use Rattle.std.proofs.Common.{◌≤◌, ◌≡◌, ◌∷◌, ℕ, List, IfOk, 
 use Rattle.container_model.specs.Opens.{Given as Read, IsReadAs}
 use Rattle.container_model.specs.declared.answer.Answer.{Answer}
 use Rattle.container_model.specs.declared.fault.ContainerFault.{ContainerFault}
-use Rattle.document_model.specs.declared.object.DocObject.{DocObject}
+use Rattle.document_model.specs.Documents.{Doc}
 use Rattle.script_model.specs.Events.{Stepped}
 use Rattle.script_model.specs.Saved.{IsOpened}
 use Rattle.script_model.specs.declared.step.Step.TheVariants as step
@@ -11,13 +11,14 @@ use Rattle.script_container.proofs.container.opened.Goals as goal
 
 pub returns-clause-told : goal.returns-clause-told
 returns-clause-told g c =
-    let same : c.args.document ≡ c.from_vec.result = sym (c.from_vec.ensures ∙ c.into_vec.ensures.objects) in
-    let gives = subst (λ (ds : List DocObject). IsReadAs (Some c.args.file.now) (Read.Holding ds)) same c.requires.gives in
-    let named : c.in-Some.name ≡ c.args.name = one_name c.name_of.result c.args.name c.in-Some.name (c.name_of.ensures c.args.name c.args.width c.args.height c.from_vec.result refl) c.in-Some.is in
-    let read : g.H.Disk.Disk.follows_model → IsOpened g.H.Disk.Disk (g.H.Host.told c.args.host.now) c.in-Some.name c.from_vec.result =
-    λ m. subst (λ (name : List ℕ). IsOpened g.H.Disk.Disk (g.H.Host.told c.args.host.now) name c.from_vec.result) (sym named) (opened_by g.H.Disk.Disk (g.H.Host.told c.args.host.now) c.args.name c.args.file.now c.from_vec.result (c.requires.read m) gives) in
-    let noted = c.note.ensures ∙ ap (λ (name : List ℕ). Stepped (step.Open name c.args.width c.args.height c.from_vec.result) ∷ g.H.Host.told c.args.host.now) (sym named) in
-    file_told c.files_give_one.ensures c.in-Some.name c.args.width c.args.height c.from_vec.result (Some c.args.file.now) c.open_file-told.result _ _ _ _ _ read gives noted c.noted.ensures.noted c.open_file-told.ensures.taken c.open_file-told.ensures.refused c.open_file-told.ensures.kept c.requires.told
+    let made : Doc = record { session = c.session.result; objects = c.from_vec-objects.result } in
+    let same : c.args.document ≡ made = λ i. record { session = sym c.session.ensures i; objects = sym (c.from_vec-objects.ensures ∙ c.into_vec.ensures.objects) i } in
+    let gives = subst (λ (d : Doc). IsReadAs (Some c.args.file.now) (Read.Holding d)) same c.requires.gives in
+    let named : c.in-Some.name ≡ c.args.name = one_name c.name_of.result c.args.name c.in-Some.name (c.name_of.ensures c.args.name c.args.width c.args.height c.session.result c.from_vec-objects.result refl) c.in-Some.is in
+    let read : g.H.Disk.Disk.follows_model → IsOpened g.H.Disk.Disk (g.H.Host.told c.args.host.now) c.in-Some.name made =
+    λ m. subst (λ (name : List ℕ). IsOpened g.H.Disk.Disk (g.H.Host.told c.args.host.now) name made) (sym named) (opened_by g.H.Disk.Disk (g.H.Host.told c.args.host.now) c.args.name c.args.file.now made (c.requires.read m) gives) in
+    let noted = c.note.ensures ∙ ap (λ (name : List ℕ). Stepped (step.Open name c.args.width c.args.height c.session.result c.from_vec-objects.result) ∷ g.H.Host.told c.args.host.now) (sym named) in
+    file_told c.files_give_one.ensures c.in-Some.name c.args.width c.args.height made (Some c.args.file.now) c.open_file-told.result _ _ _ _ _ read gives noted c.noted.ensures.noted c.open_file-told.ensures.taken c.open_file-told.ensures.refused c.open_file-told.ensures.kept c.requires.told
 
 pub returns-clause-few : goal.returns-clause-few
 returns-clause-few g c =

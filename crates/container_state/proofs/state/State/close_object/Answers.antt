@@ -4,7 +4,7 @@ use Rattle.container_model.specs.Record.{Record, Refuses, acts, counts_none, wit
 use Rattle.container_model.specs.Verbs.{close_linked}
 use Rattle.container_model.specs.declared.record.Frame.{Frame}
 use Rattle.container_model.specs.declared.record.Object.{Object}
-use Rattle.container_steps.proofs.VerbsPlaced.{both_changed, both_here, both_taken, frame_here, in_frame, object_here, own_here}
+use Rattle.container_commands.proofs.VerbsPlaced.{both_changed, both_here, both_taken, frame_here, in_frame, object_here, own_here}
 use Rattle.container_checks.proofs.Numbers.{one_kept}
 use Rattle.container_state.proofs.state.State.close_object.Goals as goal
 

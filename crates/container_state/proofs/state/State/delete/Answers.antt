@@ -6,7 +6,7 @@ use Rattle.container_model.specs.Record.{Record, Refuses, Took, counts_none, unl
 use Rattle.container_model.specs.declared.fault.ContainerFault.{ContainerFault}
 use Rattle.container_model.specs.declared.record.Frame.{Frame}
 use Rattle.container_model.specs.declared.record.Object.{Object}
-use Rattle.container_steps.proofs.LocatedSteps.{by_object, stood}
+use Rattle.container_commands.proofs.LocatedSteps.{by_object, stood}
 use Rattle.container_model.specs.declared.fault.ContainerFault.TheVariants.{WrongState}
 use Rattle.container_state.proofs.state.State.delete.Goals as goal
 

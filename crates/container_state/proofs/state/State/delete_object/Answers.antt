@@ -3,7 +3,7 @@ use Rattle.std.specs.Prelude.{is_some}
 use Rattle.container_model.specs.Commands.{delete_made}
 use Rattle.container_model.specs.Record.{Record, counts_none, unless}
 use Rattle.container_model.specs.declared.fault.ContainerFault.TheVariants.{WrongState}
-use Rattle.container_steps.proofs.CommandsRun.{at_object, delete_linked, deleted_is}
+use Rattle.container_commands.proofs.CommandsRun.{at_object, delete_linked, deleted_is}
 use Rattle.container_state.proofs.state.State.delete_object.Goals as goal
 
 pub returns-then-is_some-clause-refused : goal.returns-then-is_some-clause-refused

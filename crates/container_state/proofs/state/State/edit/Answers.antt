@@ -5,7 +5,7 @@ use Rattle.container_model.specs.Record.{Record, Refuses, Took, counts_none}
 use Rattle.container_model.specs.declared.fault.ContainerFault.{ContainerFault}
 use Rattle.container_model.specs.declared.record.Frame.{Frame}
 use Rattle.container_model.specs.declared.record.Object.{Object}
-use Rattle.container_steps.proofs.LocatedSteps.{by_object, stood}
+use Rattle.container_commands.proofs.LocatedSteps.{by_object, stood}
 use Rattle.container_state.proofs.state.State.edit.Goals as goal
 
 pub returns-in-Ok-clause-taken : goal.returns-in-Ok-clause-taken

@@ -1,6 +1,6 @@
 use Rattle.std.proofs.Common.{refl}
 use Rattle.container_model.specs.Commands.{edit_linked}
-use Rattle.container_steps.proofs.CommandsEdit.{object_refused, object_taken}
+use Rattle.container_commands.proofs.CommandsEdit.{object_refused, object_taken}
 use Rattle.container_checks.proofs.Numbers.{one_kept}
 use Rattle.container_state.proofs.state.State.edit_object.Goals as goal
 

@@ -2,7 +2,7 @@ use Rattle.std.proofs.Common.{◌≡◌, ◌∙◌, refl, subst, sym}
 use Rattle.std.proofs.lemmas.Result.{IfErr-weaker, IfOk-weaker}
 use Rattle.container_model.specs.Commands.{insert, insert_at, insert_into, kind_of}
 use Rattle.container_model.specs.Record.{Record, Refuses}
-use Rattle.container_steps.proofs.InsertsMade.{no_such, such}
+use Rattle.container_commands.proofs.InsertsMade.{no_such, such}
 use Rattle.container_state.proofs.state.State.insert.Goals as goal
 
 pub returns-in_default-clause-refused : goal.returns-in_default-clause-refused

@@ -3,8 +3,8 @@ use Rattle.wire_msgs.specs.Found.{IsPlace}
 use Rattle.container_model.specs.Record.{Record, is_object}
 use Rattle.container_model.specs.declared.record.Object.{Object}
 use Rattle.container_model.specs.Located.{located_at, located_in}
-use Rattle.container_steps.proofs.LocatedSteps.{framed, stands}
-use Rattle.container_steps.proofs.Missing.{no_object, no_frame}
+use Rattle.container_commands.proofs.LocatedSteps.{framed, stands}
+use Rattle.container_commands.proofs.Missing.{no_object, no_frame}
 use Rattle.container_state.proofs.state.State.place_both.Goals as goal
 
 pub returns-in_default-clause-refused : goal.returns-in_default-clause-refused

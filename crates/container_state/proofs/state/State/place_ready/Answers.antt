@@ -4,7 +4,7 @@ use Rattle.container_model.specs.declared.fault.ContainerFault.{ContainerFault}
 use Rattle.container_model.specs.declared.record.Frame.{Frame}
 use Rattle.container_model.specs.declared.record.Object.{Object}
 use Rattle.container_model.specs.Located.{located, ready}
-use Rattle.container_steps.proofs.LocatedSteps.{at_there, to_there}
+use Rattle.container_commands.proofs.LocatedSteps.{at_there, to_there}
 use Rattle.container_state.proofs.state.State.place_ready.Goals as goal
 
 pub returns-in-Err-clause-refused : goal.returns-in-Err-clause-refused

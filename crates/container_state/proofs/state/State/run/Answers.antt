@@ -6,8 +6,8 @@ use Rattle.container_model.specs.declared.fault.ContainerFault.{ContainerFault}
 use Rattle.container_model.specs.declared.record.Frame.{Frame}
 use Rattle.container_model.specs.declared.record.Object.{Object}
 use Rattle.container_model.specs.Located.{located, ready}
-use Rattle.container_steps.proofs.LocatedSteps.{by_object, stood}
-use Rattle.container_steps.proofs.CommandsRun.{run_alive, run_dead}
+use Rattle.container_commands.proofs.LocatedSteps.{by_object, stood}
+use Rattle.container_commands.proofs.CommandsRun.{run_alive, run_dead}
 use Rattle.container_state.proofs.state.State.run.Goals as goal
 
 pub returns-in-Ok-clause-taken : goal.returns-in-Ok-clause-taken

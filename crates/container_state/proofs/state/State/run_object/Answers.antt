@@ -4,7 +4,7 @@ use Rattle.container_model.specs.Commands.{is_known_class, run_object}
 use Rattle.container_model.specs.Record.{Record, counts_none}
 use Rattle.container_model.specs.declared.fault.ContainerFault.TheVariants.{NumbersSpent, UnknownClass, WrongState}
 use Rattle.container_model.specs.declared.record.Object.{Object}
-use Rattle.container_steps.proofs.CommandsRun.{at_object, few_spent, last_spent, not_spent, run_fine, run_is, run_linked, run_spent, run_unknown}
+use Rattle.container_commands.proofs.CommandsRun.{at_object, few_spent, last_spent, not_spent, run_fine, run_is, run_linked, run_spent, run_unknown}
 use Rattle.container_checks.proofs.Numbers.{one_kept}
 use Rattle.container_state.proofs.state.State.run_object.Goals as goal
 use Rattle.container_state.proofs.state.State.run_object.Goals.{then-self-lt-MARGIN-via-then-self-lt-MARGIN, then-self-lt-MARGIN-via-else-self-lt-MARGIN+then-self}

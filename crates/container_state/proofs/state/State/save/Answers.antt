@@ -3,8 +3,8 @@ use Rattle.std.proofs.lemmas.Result.{IfErr-weaker, IfOk-weaker}
 use Rattle.container_model.specs.Commands.{save, save_at, save_numbered}
 use Rattle.container_model.specs.Numbered.{IsNth}
 use Rattle.container_model.specs.Record.{Record, Refuses, counts_none}
-use Rattle.container_steps.proofs.VerbsPlaced.{frame_here}
-use Rattle.container_steps.proofs.InsertsMade.{no_such}
+use Rattle.container_commands.proofs.VerbsPlaced.{frame_here}
+use Rattle.container_commands.proofs.InsertsMade.{no_such}
 use Rattle.container_state.proofs.state.State.save.Goals as goal
 
 pub returns-in_default-clause-refused : goal.returns-in_default-clause-refused

@@ -2,10 +2,10 @@ use Rattle.std.proofs.Common.{◌≡◌, ◌∙◌, ℕ, List, Some, ap, refl, s
 use Rattle.container_model.specs.Commands.{save_as, save_as_at}
 use Rattle.container_model.specs.Numbered.{IsNth}
 use Rattle.container_model.specs.Record.{Record, Refuses}
-use Rattle.container_steps.specs.Saving.{named}
-use Rattle.container_steps.proofs.SavesMade.{save_as_is}
-use Rattle.container_steps.proofs.VerbsPlaced.{frame_here}
-use Rattle.container_steps.proofs.InsertsMade.{no_such}
+use Rattle.container_commands.specs.Saving.{named}
+use Rattle.container_commands.proofs.SavesMade.{save_as_is}
+use Rattle.container_commands.proofs.VerbsPlaced.{frame_here}
+use Rattle.container_commands.proofs.InsertsMade.{no_such}
 use Rattle.container_state.proofs.state.State.save_as.Goals as goal
 
 pub returns-in_default-clause-refused : goal.returns-in_default-clause-refused

@@ -12,7 +12,7 @@ use Rattle.container_model.specs.Numbered.{IsNth}
 use Rattle.container_model.specs.Record.{Record, acts, asked_object}
 use Rattle.container_model.specs.declared.record.Frame.{Frame}
 use Rattle.container_model.specs.declared.record.Object.{Object}
-use Rattle.container_steps.proofs.CommandsSave.{saved_is, saved_taken}
+use Rattle.container_commands.proofs.CommandsSave.{saved_is, saved_taken}
 use Rattle.container_checks.proofs.Numbers.{numbers, still}
 use Rattle.container_state.proofs.NumbersKept.{asked_kept}
 use Rattle.container_state.proofs.state.State.save_numbered.Goals as goal

@@ -10,7 +10,7 @@ use Rattle.container_model.specs.Numbered.{IsNth}
 use Rattle.container_model.specs.Record.{Record, is_object, sends}
 use Rattle.container_model.specs.Verbs.{claim_of, holder_of, stepped_link, steps_now, taking_made}
 use Rattle.container_objects.specs.Stepping.{told_objects, told_sent}
-use Rattle.container_steps.proofs.VerbsPlaced.{in_frame}
+use Rattle.container_commands.proofs.VerbsPlaced.{in_frame}
 use Rattle.container_objects.proofs.VerbsTaken.{read_as, taken_made}
 use Rattle.container_state.proofs.state.State.take_numbered.Goals as goal
 

@@ -6,7 +6,7 @@ use Rattle.object_state.specs.declared.verbs.Verb.{Verb}
 use Rattle.container_model.specs.Record.{Record, Refuses, counts_none}
 use Rattle.container_model.specs.Verbs.{verb, verb_framed}
 use Rattle.container_model.specs.Located.{located, ready}
-use Rattle.container_steps.proofs.LocatedSteps.{by_both, stood}
+use Rattle.container_commands.proofs.LocatedSteps.{by_both, stood}
 use Rattle.container_state.proofs.state.State.verb.Goals as goal
 
 pub returns-in-Ok-clause-taken : goal.returns-in-Ok-clause-taken

@@ -9,8 +9,8 @@ use Rattle.container_model.specs.Record.{Record, Refuses, counts_none, quiet_ans
 use Rattle.container_model.specs.Verbs.{holder_of, steps_of, verb_linked}
 use Rattle.container_objects.proofs.VerbsTake.{item_at}
 use Rattle.container_checks.specs.Went.{verb_went}
-use Rattle.container_steps.proofs.VerbsApart.{apart}
-use Rattle.container_steps.proofs.VerbsPlaced.{both_here, both_taken, in_frame, object_here}
+use Rattle.container_commands.proofs.VerbsApart.{apart}
+use Rattle.container_commands.proofs.VerbsPlaced.{both_here, both_taken, in_frame, object_here}
 use Rattle.container_objects.proofs.VerbsTaken.{no_items, some_and, some_items, went_leaving, went_quiet, went_taking}
 use Rattle.container_state.proofs.state.State.verb_object.Goals as goal
 

@@ -6,7 +6,7 @@ use Rattle.container_model.specs.Numbered.{IsNth}
 use Rattle.container_model.specs.Record.{Record, Refuses, counts_none}
 use Rattle.container_model.specs.Verbs.{verb_framed, verb_linked}
 use Rattle.container_objects.proofs.VerbsTake.{item_at}
-use Rattle.container_steps.proofs.VerbsPlaced.{both_here, each_both, frame_here, in_frame}
+use Rattle.container_commands.proofs.VerbsPlaced.{both_here, each_both, frame_here, in_frame}
 use Rattle.container_state.proofs.state.State.verb_ready.Goals as goal
 
 pub returns-in-Ok-clause-taken : goal.returns-in-Ok-clause-taken

@@ -2,7 +2,7 @@ use Rattle.std.proofs.Common.{◌≡◌, Some, slice_get, ap, subst, sym, ◌∙
 use Rattle.std.proofs.lemmas.Option.{slice_get-get_or}
 use Rattle.wire_msgs.specs.Found.{IsPlace}
 use Rattle.container_model.specs.Record.{Record, is_linked}
-use Rattle.container_steps.proofs.WritesMade.{write_made, write_refused}
+use Rattle.container_commands.proofs.WritesMade.{write_made, write_refused}
 use Rattle.container_checks.proofs.Numbers.{one_kept}
 use Rattle.container_state.proofs.state.State.write_at.Goals as goal
 

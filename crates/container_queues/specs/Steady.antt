@@ -27,10 +27,10 @@ use Rattle.container_model.specs.declared.record.Phase.{Phase}
 use Rattle.container_model.specs.declared.record.Phase.TheVariants.{Idle, Saving, HandingOff, Committing, InDoubt}
 use Rattle.container_model.specs.declared.fault.ContainerFault.TheVariants.{Full}
 use Rattle.container_model.specs.Record.{Record, MOST_OBJECTS, count_objects, empty, is_object, is_unreaped}
-use Rattle.container_model.specs.Saves.{document, document_tree, image, is_document, kept, parts_in}
+use Rattle.container_model.specs.Saves.{document_tree, frame_document, held_parts, image, is_document, kept, parts_in}
 use Rattle.container_model.specs.Messages.{awaits_save}
-pub use Rattle.container_steady.specs.Roles.{queue, queue_of}
-use Rattle.container_steady.specs.Roles.{Role, Waiting, IsShown, Plays, SteadyGrant, role_in}
+pub use Rattle.container_queues.specs.Roles.{queue, queue_of}
+use Rattle.container_queues.specs.Roles.{Role, Waiting, IsShown, Plays, SteadyGrant, role_in}
 
 -- the states at the end of a queue, by both tables
 abbrev pub stepped : Result States StateFault → Operation → Result States StateFault
@@ -214,8 +214,9 @@ ClosesAreOpen = (r : Record) (test : Object → Bool) (o : Object) (l : Link) (o
 
 -- what a frame has is a document
 abbrev pub DocumentsHold : Type 0
-DocumentsHold = (r : Record) (f : ℕ) → Steady r → is_document (document (parts_in f r.objects)) ≡ true
+DocumentsHold = (r : Record) (f : ℕ) → Steady r → is_document (held_parts (parts_in f r.objects)) ≡ true
 
 -- so there is no room for a document only where its tree is past what a file holds
 abbrev pub FullByTheFileAlone : Type 0
-FullByTheFileAlone = (r : Record) (f : ℕ) → Steady r → image r f ≡ Err Full → writable (document_tree (parts_in f r.objects)) ≡ Err TooBig
+FullByTheFileAlone = (r : Record) (f : ℕ) → Steady r → image r f ≡ Err Full
+    → (frame : Frame) × (nth r.frames f ≡ Some frame) × (writable (document_tree (frame_document frame (parts_in f r.objects))) ≡ Err TooBig)

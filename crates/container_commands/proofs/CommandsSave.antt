@@ -24,9 +24,9 @@ use Rattle.container_model.specs.Record.{Record, Took, acts, ask, ask_at, asked_
 use Rattle.container_model.specs.Saves.{awaits, is_awaited_link, settle, settle_actions, settled_actions, settled_frames}
 use Rattle.container_steady.specs.Roles.{role_in}
 use Rattle.container_steady.specs.Steady.{IsSavedIn, Steady, SteadyLink, SteadyObject}
-use Rattle.container_steady.proofs.SteadyLookups.{none_awaited, nth-set_same}
+use Rattle.container_queues.proofs.SteadyLookups.{none_awaited, nth-set_same}
 use Rattle.container_steady.proofs.SteadyRecords.{Held, at_some, if_told, if_weaker}
-use Rattle.container_steps.proofs.SteadyHandOffs.{asked_took, handing_at}
+use Rattle.container_commands.proofs.SteadyHandOffs.{asked_took, handing_at}
 
 -- an activation that is asked has the content that it had
 ask_saved : (l : Link) (op : Operation) (p : Option Operation) → (ask_at l op p).link.saved ≡ l.saved

@@ -16,8 +16,8 @@ use Rattle.grant_core.specs.declared.grant_states.GrantState.{GrantState}
 use Rattle.grant_core.specs.declared.grant_states.GrantState.TheVariants as state
 use Rattle.grant_core.specs.Grants.{waiting}
 use Rattle.container_model.specs.Record.{is_claim}
-use Rattle.container_steady.specs.Roles.{Role, Other, Getting, Holding, Giving, Waiting, IsShown, IsPlain, Plays, PlaysGetting, PlaysGiving, role_in, waits_as}
-use Rattle.container_steady.proofs.SteadyLookups.{each_append}
+use Rattle.container_queues.specs.Roles.{Role, Other, Getting, Holding, Giving, Waiting, IsShown, IsPlain, Plays, PlaysGetting, PlaysGiving, role_in, waits_as}
+use Rattle.container_queues.proofs.SteadyLookups.{each_append}
 
 if_both : {A : Type 0} (P : A → Type 0) (b : Bool) (x y : A) → (b ≡ true → P x) → (b ≡ false → P y) → P (if b then x else y)
 if_both P true x y p q = p refl

@@ -24,9 +24,9 @@ use Rattle.container_model.specs.declared.record.Link.{Link}
 use Rattle.container_model.specs.declared.record.Phase.{Phase}
 use Rattle.container_model.specs.Saves.{is_some_name}
 use Rattle.container_model.specs.declared.record.Phase.TheVariants.{Idle, Saving, HandingOff, Committing}
-use Rattle.container_steady.specs.Roles.{Role, Other, Getting, Holding, Giving, Waiting, IsPlain, IsShown, Plays}
-use Rattle.container_steady.specs.Steady.{queue_of, stepped, ended, IsRunning, HasStorage, storage_by, storage_in, IsOfSave, EndsAs, EndsFor, EndsWell, IsBeginning, AtFirstCall, PastFirstCall, IsTimely, SteadyLink}
-use Rattle.container_steady.proofs.SteadyRoles.{is_ui, plain_shown}
+use Rattle.container_queues.specs.Roles.{Role, Other, Getting, Holding, Giving, Waiting, IsPlain, IsShown, Plays}
+use Rattle.container_queues.specs.Steady.{queue_of, stepped, ended, IsRunning, HasStorage, storage_by, storage_in, IsOfSave, EndsAs, EndsFor, EndsWell, IsBeginning, AtFirstCall, PastFirstCall, IsTimely, SteadyLink}
+use Rattle.container_queues.proofs.SteadyRoles.{is_ui, plain_shown}
 
 -- runs of a queue
 pub ended_append : (r : Result States StateFault) (ops : List Operation) (op : Operation) → ended r (ops ++ op ∷ []) ≡ stepped (ended r ops) op

@@ -9,7 +9,7 @@ use Rattle.container_model.specs.declared.record.Frame.{Frame}
 use Rattle.container_model.specs.Record.{is_busy}
 use Rattle.container_model.specs.Saves.{awaits, is_awaited_link, is_keeping_link, keeps, settled_frame, settled_frames}
 use Rattle.container_model.specs.Commands.{any_busy}
-use Rattle.container_steady.specs.Steady.{EachPair}
+use Rattle.container_queues.specs.Steady.{EachPair}
 
 -- each item
 pub each_found : {A : Type 0} (P : A → Type 0) (test : A → Bool) (xs : List A) (x : A) → AllByRecursion P xs → find test xs ≡ Some x → P x

@@ -11,8 +11,8 @@ use Rattle.container_model.specs.Record.{Record, is_object, is_asked, with_objec
 use Rattle.container_steady.specs.Roles.{Role, role_in}
 use Rattle.container_steady.specs.Steady.{SteadyLink, SteadyObject, Steady}
 use Rattle.container_steady.specs.Taken.{edited}
-use Rattle.container_steady.proofs.SteadyLookups.{each_found}
-use Rattle.container_steady.proofs.SteadyLinks.{asked_once, edit_asked}
+use Rattle.container_queues.proofs.SteadyLookups.{each_found}
+use Rattle.container_queues.proofs.SteadyLinks.{asked_once, edit_asked}
 use Rattle.container_steady.proofs.SteadyRecords.{and_some, at_some, if_at, Held, put_steady}
 use Rattle.container_steady.proofs.SteadyTests.{none_of}
 

@@ -7,7 +7,7 @@ use Rattle.container_model.specs.declared.record.Frame.{Frame}
 use Rattle.container_model.specs.declared.record.Object.{Object}
 use Rattle.container_model.specs.Numbered.{IsNth}
 use Rattle.container_model.specs.Record.{Record, Took, is_busy, is_doubtful, is_object, is_saving, unless}
-use Rattle.container_steps.proofs.VerbsPlaced.{frame_here, in_frame, object_here}
+use Rattle.container_commands.proofs.VerbsPlaced.{frame_here, in_frame, object_here}
 use Rattle.container_model.specs.Located.{located, located_at, located_in, ready}
 
 -- what stands at a place

@@ -24,18 +24,18 @@ use Rattle.grant_core.specs.Grants.{waiting}
 use Rattle.container_model.specs.Commands
 use Rattle.container_steady.specs.Roles.{IsClaim, IsPlain, Other, Role, SteadyGrant, role_in}
 use Rattle.container_steady.specs.Steady.{SteadyLink, SteadyObject, SteadyFrame, InOrder, Steady, IsBeginning, IsTimely, EndsWell, ended}
-use Rattle.container_steady.proofs.SteadyLookups.{each_found, each_weaker, each_both, each_put, each_map, each_append, each_set, pairs_put, pairs_map, pairs_append, nth_append, none_busy}
+use Rattle.container_queues.proofs.SteadyLookups.{each_found, each_weaker, each_both, each_put, each_map, each_append, each_set, pairs_put, pairs_map, pairs_append, nth_append, none_busy}
 use Rattle.container_steady.proofs.SteadyCounts.{count_put, count_map, count_more, count_without, each_without, pairs_without}
-use Rattle.container_steady.proofs.SteadyLinks.{link_moved, save_asked}
+use Rattle.container_queues.proofs.SteadyLinks.{link_moved, save_asked}
 use Rattle.container_steady.proofs.SteadyRecords.{if_told, or_false, some_and, and_some, if_weaker, Held as HeldIn, Apart, apart_none, IsOut, order_both, settle_steady}
 use Rattle.container_steady.proofs.SteadyTests.{none_of}
 use Rattle.container_steady.proofs.SteadyMoves.{set_object, unset_object}
 use Rattle.container_steady.proofs.SteadyClaims.{KeepsLink, append_back, claim_kept, grant_kept, keeps_append, keeps_map, keeps_put, keeps_refl, keeps_without, set_back}
 use Rattle.container_steady.specs.Made.{IsMade, makes_activation, makes_edit, makes_end, makes_fewer, makes_frame, makes_nothing, makes_object, makes_save, makes_server, makes_steps, makes_taking, run_by}
 use Rattle.container_steady.proofs.Taken.{command_made}
-use Rattle.container_steps.proofs.SteadyAsks.{edit_keeps}
-use Rattle.container_steps.proofs.SteadyHandOffs.{asked_stays, asked_took, hand_off_in_steady}
-use Rattle.container_steps.proofs.SteadyVerbs.{claiming_keeps, row_keeps}
+use Rattle.container_commands.proofs.SteadyAsks.{edit_keeps}
+use Rattle.container_commands.proofs.SteadyHandOffs.{asked_stays, asked_took, hand_off_in_steady}
+use Rattle.container_commands.proofs.SteadyVerbs.{claiming_keeps, row_keeps}
 
 -- a new frame
 framed : (r : Record) (frame : Frame) (o : Object) → SteadyObject r o → SteadyObject (record r { frames = r.frames ++ frame ∷ [] }) o

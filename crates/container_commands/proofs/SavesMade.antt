@@ -6,7 +6,7 @@ use Rattle.container_model.specs.declared.fault.ContainerFault.TheVariants.{InDo
 use Rattle.container_model.specs.declared.record.Frame.{Frame}
 use Rattle.container_model.specs.Commands.{any_busy, is_named_beside, save_as_at, save_numbered}
 use Rattle.container_model.specs.Record.{Record, Took, is_doubtful, is_moving, is_saving, unless}
-use Rattle.container_steps.specs.Saving.{named, unready}
+use Rattle.container_commands.specs.Saving.{named, unready}
 
 module _ (r : Record) (f : ℕ) (frame : Frame) (next : Result Took ContainerFault) where
   pub in_doubt : is_doubtful frame.phase ≡ true → unready r f frame next ≡ Err InDoubt

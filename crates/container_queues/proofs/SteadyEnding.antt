@@ -24,9 +24,9 @@ use Rattle.stored_streams.specs.declared.stored.Stored.{Stored}
 use Rattle.container_model.specs.declared.record.Link.{Link}
 use Rattle.container_model.specs.declared.record.Phase.TheVariants.{Idle}
 use Rattle.container_model.specs.Messages.{has_save, is_save_pending}
-use Rattle.container_steady.specs.Roles.{Role, Other, Getting, Holding, Giving, Waiting, IsShown, Plays}
-use Rattle.container_steady.specs.Steady.{queue_of, ended, IsRunning, EndsFor, EndsWell, IsTimely, SteadyLink, IsOpenWhileClosing}
-use Rattle.container_steady.proofs.SteadyQueues.{joined_ok, taken}
+use Rattle.container_queues.specs.Roles.{Role, Other, Getting, Holding, Giving, Waiting, IsShown, Plays}
+use Rattle.container_queues.specs.Steady.{queue_of, ended, IsRunning, EndsFor, EndsWell, IsTimely, SteadyLink, IsOpenWhileClosing}
+use Rattle.container_queues.proofs.SteadyQueues.{joined_ok, taken}
 
 -- a passive object takes no operation that may stand in a queue
 passive_refuses : (saved : Option Stored) (x : Operation) → IsTimely Idle saved x → object.table (op_of x) Passive ≡ Err WrongState

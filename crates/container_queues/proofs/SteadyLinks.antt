@@ -20,11 +20,11 @@ use Rattle.container_model.specs.declared.record.Phase.{Phase}
 use Rattle.container_model.specs.declared.record.Phase.TheVariants.{Idle, Saving, HandingOff, Committing, InDoubt}
 use Rattle.container_model.specs.Record.{is_unreaped, ask_at, ask, ask_each}
 use Rattle.container_model.specs.Saves.{is_some_name}
-use Rattle.container_steady.specs.Roles.{Role, Getting, Holding, Giving, Waiting, IsShown, Plays}
-use Rattle.container_steady.specs.Steady.{queue_of, queue, stepped, storage_by, ended, EndsFor, EndsWell, PastFirstCall, WaitsBehind, IsTimely, IsSavedIn, MayBeStored, SteadyLink}
-use Rattle.container_steady.proofs.SteadyLookups.{each_weaker, each_append}
-use Rattle.container_steady.proofs.SteadyQueues.{ended_join, all_away, edit_taken, ends_set, ends_well, hand_off_ends, plain_ended, save_begins, drop_ends, save_ends, past_if_part, past_if_saving, past_if_quiet, window_step}
-use Rattle.container_steady.proofs.SteadyRoles.{getting_last, giving_last, is_ui, plays_append, ui_active}
+use Rattle.container_queues.specs.Roles.{Role, Getting, Holding, Giving, Waiting, IsShown, Plays}
+use Rattle.container_queues.specs.Steady.{queue_of, queue, stepped, storage_by, ended, EndsFor, EndsWell, PastFirstCall, WaitsBehind, IsTimely, IsSavedIn, MayBeStored, SteadyLink}
+use Rattle.container_queues.proofs.SteadyLookups.{each_weaker, each_append}
+use Rattle.container_queues.proofs.SteadyQueues.{ended_join, all_away, edit_taken, ends_set, ends_well, hand_off_ends, plain_ended, save_begins, drop_ends, save_ends, past_if_part, past_if_saving, past_if_quiet, window_step}
+use Rattle.container_queues.proofs.SteadyRoles.{getting_last, giving_last, is_ui, plays_append, ui_active}
 
 -- in another record
 pub link_moved : (servers servers' : List Bool) (last_act last_act' : ℕ) (phase : Phase) (asked : Option (List ℕ)) (k : ℕ) (role : Role) (l : Link) → l.act ≤ last_act' → is_unreaped (nth servers' l.inc) ≡ true → SteadyLink servers last_act phase asked k role l → SteadyLink servers' last_act' phase asked k role l

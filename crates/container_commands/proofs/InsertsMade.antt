@@ -5,7 +5,7 @@ use Rattle.container_model.specs.declared.fault.ContainerFault.{ContainerFault}
 use Rattle.container_model.specs.declared.record.Frame.{Frame}
 use Rattle.container_model.specs.Numbered.{IsNth}
 use Rattle.container_model.specs.Record.{Record, Took}
-use Rattle.container_steps.proofs.VerbsPlaced.{frame_here}
+use Rattle.container_commands.proofs.VerbsPlaced.{frame_here}
 
 -- what a step says of a frame that isn't there, and of one that is
 pub no_such : (s r : Record) (step : Option Frame → Result Took ContainerFault) (f : ℕ) (fs : List Frame) → s ≡ r → fs ≡ s.frames → nth fs f ≡ None → step (nth r.frames f) ≡ step None

@@ -5,7 +5,7 @@ use Rattle.container_model.specs.declared.fault.ContainerFault.{ContainerFault}
 use Rattle.container_model.specs.declared.record.Frame.{Frame}
 use Rattle.container_model.specs.declared.record.Object.{Object}
 use Rattle.container_model.specs.Record.{Record, Took, is_object}
-use Rattle.container_steps.proofs.VerbsPlaced.{object_here}
+use Rattle.container_commands.proofs.VerbsPlaced.{object_here}
 
 -- what a step says of an object that isn't there
 pub no_object : (s r : Record) (step : Option Object → Result Took ContainerFault) (n : ℕ) (os : List Object) → s ≡ r → os ≡ s.objects → find (is_object n) os ≡ None

@@ -14,7 +14,7 @@ use Rattle.container_model.specs.Commands.{begun_link, delete_made, first_operat
 use Rattle.container_model.specs.Located.{located, ready}
 use Rattle.container_model.specs.Numbered.{IsObjectAt}
 use Rattle.container_model.specs.Record.{MARGIN, Record, acts, counts_none, is_alive, is_object, quiet_answer, sends, unless, without_first}
-use Rattle.container_steps.proofs.VerbsPlaced.{object_here, own_here}
+use Rattle.container_commands.proofs.VerbsPlaced.{object_here, own_here}
 
 -- what holds of the object that stands there
 pub at_object : (P : Object → Type 0) (s r : Record) (i : ℕ) (x : Object) → s ≡ r → i < length r.objects → x ≡ get_or s.objects i x → P x → IfSome (slice_get r.objects i) P

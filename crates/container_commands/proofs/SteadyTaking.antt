@@ -31,13 +31,13 @@ use Rattle.container_model.specs.Record.{Record, ask, ask_each, asked_link, is_a
 use Rattle.container_model.specs.Verbs.{before_taking, claim_of, claimed, holder_of, operation_of, revoked_at, stepped_link, steps_now, taking_made}
 use Rattle.container_steady.specs.Roles.{IsClaim, IsPlain, IsShown, Getting, Giving, Holding, Plays, Role, SteadyGrant, Waiting, role_in}
 use Rattle.container_steady.specs.Steady.{ended, EndsWell, IsTimely, SteadyLink, SteadyObject, Steady}
-use Rattle.container_steps.proofs.SteadyAsks.{held_idle, free, was}
+use Rattle.container_commands.proofs.SteadyAsks.{held_idle, free, was}
 use Rattle.container_steady.proofs.SteadyFinds.{acts_differ, find-put_other}
-use Rattle.container_steady.proofs.SteadyLinks.{asked_each, end_asked, quiet_asked, quiet_ends}
-use Rattle.container_steady.proofs.SteadyLookups.{each_found}
+use Rattle.container_queues.proofs.SteadyLinks.{asked_each, end_asked, quiet_asked, quiet_ends}
+use Rattle.container_queues.proofs.SteadyLookups.{each_found}
 use Rattle.container_steady.proofs.SteadyMoves.{But, SteadyBut, all_steady, gets_it, gives_it, has_it, move_but, moved_to, parts_asked, parts_waited, put_but, set_object, waits_for_it}
-use Rattle.container_steady.proofs.SteadyRoles.{AtHeld}
-use Rattle.container_steps.proofs.SteadySteps.{TakesFrom, hidden, placed, steps_timely}
+use Rattle.container_queues.proofs.SteadyRoles.{AtHeld}
+use Rattle.container_commands.proofs.SteadySteps.{TakesFrom, hidden, placed, steps_timely}
 use Rattle.container_steady.proofs.SteadyTests.{asked_follows, find_passes, found_numbered, link_asked}
 
 -- an object that is asked, and has another part then

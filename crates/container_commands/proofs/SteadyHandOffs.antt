@@ -19,8 +19,8 @@ use Rattle.container_steady.specs.Roles.{Role, SteadyGrant, role_in}
 use Rattle.container_steady.specs.Steady.{SteadyLink, SteadyObject, SteadyFrame, InOrder, Steady}
 use Rattle.container_steady.proofs.SteadyClaims.{LinkStays, claim_kept, grant_kept, keeps_map, set_back}
 use Rattle.container_steady.proofs.SteadyCounts.{count_map}
-use Rattle.container_steady.proofs.SteadyLinks.{hand_off_asked}
-use Rattle.container_steady.proofs.SteadyLookups.{each_both, each_map, each_set, pairs_map}
+use Rattle.container_queues.proofs.SteadyLinks.{hand_off_asked}
+use Rattle.container_queues.proofs.SteadyLookups.{each_both, each_map, each_set, pairs_map}
 use Rattle.container_steady.proofs.SteadyMoves.{set_object, unset_object}
 use Rattle.container_steady.proofs.SteadyRecords.{Answered, TookPlace, all_answered, answered_link, if_told, order_both}
 use Rattle.container_steady.proofs.SteadyTests.{asked_follows, link_asked}

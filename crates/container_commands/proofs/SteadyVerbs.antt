@@ -34,12 +34,12 @@ use Rattle.container_model.specs.Verbs.{claim_of, gives_up, leaving_made, operat
 use Rattle.container_steady.specs.Roles.{IsClaim, IsPlain, IsShown, Other, Giving, Role, SteadyGrant, role_in}
 use Rattle.container_steady.specs.Steady.{ended, EndsAs, EndsWell, SteadyLink, Steady}
 use Rattle.container_steady.specs.Made.{IsRow, IsTaking, row_of_close, row_of_verb}
-use Rattle.container_steps.proofs.SteadyAsks.{held_idle, free, linked_keeps, was}
-use Rattle.container_steady.proofs.SteadyLinks.{asked_each, quiet_asked, quiet_ends, quiet_plays}
+use Rattle.container_commands.proofs.SteadyAsks.{held_idle, free, linked_keeps, was}
+use Rattle.container_queues.proofs.SteadyLinks.{asked_each, quiet_asked, quiet_ends, quiet_plays}
 use Rattle.container_steady.proofs.SteadyMoves.{But, SteadyBut, all_steady, gives_it, has_it, move_but, moved_to, parts_ended, put_but, set_object}
-use Rattle.container_steady.proofs.SteadyRoles.{AtHeld, AtRest, holds, rests, at_rest, is_ui}
-use Rattle.container_steps.proofs.SteadySteps.{LeavesFrom, TakesFrom, hidden, placed, leaves_nothing, leaves_frame, leaves_plain, closing_from, close_runs, leaving_from, steps_timely, taking_from, verb_runs}
-use Rattle.container_steps.proofs.SteadyTaking.{still_at, taking_keeps}
+use Rattle.container_queues.proofs.SteadyRoles.{AtHeld, AtRest, holds, rests, at_rest, is_ui}
+use Rattle.container_commands.proofs.SteadySteps.{LeavesFrom, TakesFrom, hidden, placed, leaves_nothing, leaves_frame, leaves_plain, closing_from, close_runs, leaving_from, steps_timely, taking_from, verb_runs}
+use Rattle.container_commands.proofs.SteadyTaking.{still_at, taking_keeps}
 
 -- where an object's own claim is, its activation has it
 pub claim_act : (r : Record) (f : ℕ) (c : Claim) (x : Object) (l : Link) → IsClaim r f c → c.object ≡ x.number → find (is_object x.number) r.objects ≡ Some x → x.link ≡ Some l → l.act ≡ c.act

@@ -23,7 +23,7 @@ use Rattle.container_model.specs.declared.record.Phase.TheVariants.{Idle}
 use Rattle.container_model.specs.Verbs.{operation_of, takes, gives_up}
 use Rattle.container_steady.specs.Roles.{IsPlain}
 use Rattle.container_steady.specs.Steady.{ended, IsTimely}
-use Rattle.container_steady.proofs.SteadyRoles.{is_ui}
+use Rattle.container_queues.proofs.SteadyRoles.{is_ui}
 
 -- what both tables make of steps, where the storage may be written into
 steps_run : (g : ℕ) (ts : List Step) (last : Option ℕ) (r : Result ObjectState StateFault) (t : ObjectState) → then_run (map (op_of g) ts) r ≡ Ok t

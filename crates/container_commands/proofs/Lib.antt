@@ -1,0 +1,16 @@
+pub mod SteadyAsks
+pub mod SteadyHandOffs
+pub mod SteadyCommands
+pub mod SteadySteps
+pub mod SteadyTaking
+pub mod SteadyVerbs
+pub mod CommandsEdit
+pub mod CommandsSave
+pub mod VerbsApart
+pub mod VerbsPlaced
+pub mod LocatedSteps
+pub mod SavesMade
+pub mod InsertsMade
+pub mod Missing
+pub mod CommandsRun
+pub mod WritesMade

@@ -1,0 +1,20 @@
+//! Calls of activations.
+
+ghost use Rattle.std.specs.Prelude.{◌≡◌};
+ghost use Rattle.container_model.specs.Record.{call};
+
+use container_model::record::Link;
+use wire_msgs::message::Message;
+use wire_msgs::operation::Operation;
+
+/// The call of this number that asks an activation for an operation. Every call is made by it.
+pub fn call(link: &Link, n: u32, operation: Operation) -> Message
+    ensures { result ≡ call link.now n operation }
+{
+    Message::Call {
+        inc: link.inc,
+        act: link.act,
+        n,
+        operation,
+    }
+}

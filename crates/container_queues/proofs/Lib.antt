@@ -1,0 +1,5 @@
+pub mod SteadyLookups
+pub mod SteadyRoles
+pub mod SteadyQueues
+pub mod SteadyLinks
+pub mod SteadyEnding
