@@ -83,7 +83,7 @@ module _ (c : goal.After-fits) where
       let m : length (map (λ (o : DocObject). o.area) whole) ≡ length whole = length-map whole (λ (o : DocObject). o.area) in
       omega (arith, counted, layout-long (map (λ (o : DocObject). o.area) whole), m)
 
-  made : Doc
+  abbrev made : Doc
   made = record { session = c.args.session; objects = whole }
 
   summed : (g : List ℕ → ℕ) (of : ℕ → ℕ) (z r s r' x : ℕ) → ((b : List ℕ) → g b ≡ of (length b)) → min MANY (r + objects_sum g z rest) ≡ min MANY (objects_sum g z whole)
