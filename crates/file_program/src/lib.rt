@@ -5,5 +5,4 @@ pub mod command_lines;
 pub mod running;
 pub mod tasks;
 
-pub use program_ends::ends;
-pub use program_ends::usage;
+pub use program_ends::{ends, usage};
