@@ -35,7 +35,7 @@ impl<D: Disk> Store<D> {
     ghost use Rattle.doc_store.specs.Resolved.{IsEither, LeavesEither};
     ghost use Rattle.store_model.specs.Store.{CommitRefuses, CurrentRefuses, HoldsRefuses, IsBeforeOrAfter, OpenRefuses, StandsAsOneOf, StandsFor, UnlessDevice};
     ghost use Rattle.store_model.specs.declared.fault.StoreFault.TheVariants.{TooBig};
-    ghost use Rattle.std.specs.Prelude.{◌↔◌, ◌≤◌, ◌<◌, true, Err, IfErr, IfOk, IsTrue, OnErr, OnOk, length, List, ℕ};
+    ghost use Rattle.std.specs.Prelude.{◌↔◌, ◌≢◌, ◌≤◌, ◌<◌, true, Err, IfErr, IfOk, IsTrue, OnErr, OnOk, length, List, ℕ};
 
     /// Opens the store on a disk that a crash may have left, with writes pending too. Its document is that of an open
     /// journal, which is then written and the journal closed, else the document area's.
@@ -131,6 +131,7 @@ impl<D: Disk> Store<D> {
         ensures any_moment { D.follows_model → needs_reopen_of self.old ≡ false
             → StaysIn D.may_leave D.moment D.left_since (disk_of self.old) (disk_of self.new) (StandsFor (D.reads (disk_of self.old)).document) }
         ensures ready { OnOk result ((needs_reopen_of self.old ≡ false) × (needs_reopen_of self.new ≡ false)) }
+        ensures count { OnOk result (D.failed (disk_of self.new) ≡ D.failed (disk_of self.old)) }
         ensures refuses { IfErr result (HoldsRefuses (needs_reopen_of self.old) (needs_reopen_of self.new) (D.failed (disk_of self.old)) (D.failed (disk_of self.new))) }
         ensures untouched { needs_reopen_of self.old ≡ true → self.new ≡ self.old }
     {
@@ -148,7 +149,7 @@ impl<D: Disk> Store<D> {
 
     /// The document, as `current` gives it, where it has no more than so many bytes. That is asked before memory is.
     ///
-    /// `TooBig` where it has more, which changes nothing. Refused else as `current` is.
+    /// `TooBig` where it has more, which changes nothing. Else refused as `current` is.
     pub fn current_within(&mut self, most: u64) -> Result<Vec<u8>, StoreFault>
         ensures document { D.follows_model → IfOk result (λ bytes. bytes.items ≡ (D.reads (disk_of self.old)).document) }
         ensures within { D.follows_model → OnOk result (length (D.reads (disk_of self.old)).document ≤ most) }
@@ -157,6 +158,7 @@ impl<D: Disk> Store<D> {
             → StaysIn D.may_leave D.moment D.left_since (disk_of self.old) (disk_of self.new) (StandsFor (D.reads (disk_of self.old)).document) }
         ensures ready { OnOk result ((needs_reopen_of self.old ≡ false) × (needs_reopen_of self.new ≡ false)) }
         ensures too_big { D.follows_model → result ≡ Err TooBig → most < length (D.reads (disk_of self.old)).document }
+        ensures refuses { IfErr result (λ fault. fault ≢ TooBig → CurrentRefuses (needs_reopen_of self.old) (needs_reopen_of self.new) (D.failed (disk_of self.old)) (D.failed (disk_of self.new)) fault) }
         ensures untouched { needs_reopen_of self.old ≡ true → self.new ≡ self.old }
     {
         if self.length()? > most {
