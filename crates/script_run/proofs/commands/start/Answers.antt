@@ -2,8 +2,6 @@ use Rattle.std.proofs.Common.{◌≡◌, ◌++◌, ◌∷◌, [], ap, sym, ◌�
 use Rattle.script_links.specs.Links.{links_of}
 use Rattle.script_links.proofs.Linked.{started_linked}
 use Rattle.script_links.proofs.Served.{started_served, unstarted_served}
-use Rattle.script_container.proofs.Shown.{memory_on}
-use Rattle.script_run.proofs.Held.{hold_with}
 use Rattle.script_run.proofs.commands.start.Goals as goal
 
 pub returns-in-Ok-clause-linked : goal.returns-in-Ok-clause-linked
@@ -17,16 +15,8 @@ returns-in-Ok-clause-served g c =
     let none : links_of c.args.inc c.args.links.now.items ≡ 0 = ap (links_of c.args.inc) (sym c.deref.ensures.value) ∙ c.is_linked.ensures c.if-is_linked.false in
     started_served (g.H.Host.told c.args.host.now) (g.H.Host.told c.start.new.self) c.args.links.now.items c.add.new.list.items c.args.inc c.new.result none c.new.ensures.server c.new.ensures.served c.in-Ok.ensures with_one c.requires.served
 
-pub returns-in-Err-clause-served : goal.returns-in-Err-clause-served
-returns-in-Err-clause-served g c = unstarted_served (g.H.Host.told c.args.host.now) (g.H.Host.told c.start.new.self) c.args.links.now.items c.reserve.new.self.items c.args.inc c.in-Err.ensures c.in_ok-reserve.ensures.items c.requires.served
+pub returns-in-Err-NoMemory-clause-served : goal.returns-in-Err-NoMemory-clause-served
+returns-in-Err-NoMemory-clause-served g c = unstarted_served (g.H.Host.told c.args.host.now) (g.H.Host.told c.start.new.self) c.args.links.now.items c.reserve.new.self.items c.args.inc c.in-Err-NoMemory.ensures c.in_ok-reserve.ensures.items c.requires.served
 
-pub returns-in-Ok-clause-holding : goal.returns-in-Ok-clause-holding
-returns-in-Ok-clause-holding g c =
-    let with_one : c.add.new.list.items ≡ c.args.links.now.items ++ c.new.result ∷ [] = search rules in
-    λ f hold. hold_with f c.args.links.now.items c.add.new.list.items c.new.result c.new.ensures.free with_one hold
-
-pub returns-in_err-reserve-clause-shown : goal.returns-in_err-reserve-clause-shown
-returns-in_err-reserve-clause-shown g c = memory_on g.H.Disk.Disk c.from_residual.result (g.H.Host.told c.args.host.now) c.from_residual.ensures.1
-
-pub returns-in-Err-clause-shown : goal.returns-in-Err-clause-shown
-returns-in-Err-clause-shown g c = (g.H.Host.told c.args.host.now, c.in-Err.ensures)
+pub returns-in-Err-Failed-clause-served : goal.returns-in-Err-Failed-clause-served
+returns-in-Err-Failed-clause-served g c = unstarted_served (g.H.Host.told c.args.host.now) (g.H.Host.told c.start.new.self) c.args.links.now.items c.reserve.new.self.items c.args.inc c.in-Err-Failed.ensures c.in_ok-reserve.ensures.items c.requires.served
