@@ -35,29 +35,29 @@ const BOTH: &str = "\
 ";
 
 #[test]
-fn an_end_is_its_users() {
-    assert!(owner_of(TABLE, 40_000, 8080) == Some(1000));
-    assert!(owner_of(TABLE, 40_001, 8080) == Some(1001));
+fn an_end_is_its_users(rt: HostRuntime) {
+    assert!(rt; owner_of(TABLE, 40_000, 8080) == Some(1000));
+    assert!(rt; owner_of(TABLE, 40_001, 8080) == Some(1001));
     // Nobody has accepted it, there is none, and it is closed.
-    assert!(owner_of(TABLE, 8080, 40_001).is_none());
-    assert!(owner_of(TABLE, 8080, 40_002).is_none());
-    assert!(owner_of(LATER, 40_004, 8080).is_none());
-    assert!(owner_of("", 8080, 40_000).is_none());
+    assert!(rt; owner_of(TABLE, 8080, 40_001).is_none());
+    assert!(rt; owner_of(TABLE, 8080, 40_002).is_none());
+    assert!(rt; owner_of(LATER, 40_004, 8080).is_none());
+    assert!(rt; owner_of("", 8080, 40_000).is_none());
 }
 
 #[test]
-fn somebody_elses_connection_is_refused() {
-    assert!(is_own_client(TABLE, 8080, 40_000));
-    assert!(!is_own_client(LATER, 8080, 40_001));
-    assert!(!is_own_client(LATER, 8080, 40_004));
+fn somebody_elses_connection_is_refused(rt: HostRuntime) {
+    assert!(rt; is_own_client(TABLE, 8080, 40_000));
+    assert!(rt; !is_own_client(LATER, 8080, 40_001));
+    assert!(rt; !is_own_client(LATER, 8080, 40_004));
 }
 
 #[test]
-fn somebody_elses_server_is_refused() {
-    assert!(is_own_server(TABLE, 40_000, 8080));
-    assert!(is_own_server(LATER, 40_003, 8080));
-    assert!(is_own_server(BOTH, 40_000, 8080));
-    assert!(!is_own_server(TABLE, 40_001, 8080));
-    assert!(!is_own_server(TABLE, 40_002, 8081));
-    assert!(!is_own_server(TABLE, 40_002, 8080));
+fn somebody_elses_server_is_refused(rt: HostRuntime) {
+    assert!(rt; is_own_server(TABLE, 40_000, 8080));
+    assert!(rt; is_own_server(LATER, 40_003, 8080));
+    assert!(rt; is_own_server(BOTH, 40_000, 8080));
+    assert!(rt; !is_own_server(TABLE, 40_001, 8080));
+    assert!(rt; !is_own_server(TABLE, 40_002, 8081));
+    assert!(rt; !is_own_server(TABLE, 40_002, 8080));
 }
