@@ -25,7 +25,11 @@ def frame(kind, *numbers, rest=b""):
 def receive(link, count):
     got = b""
     while len(got) < count:
-        piece = link.recv(count - len(got))
+        try:
+            piece = link.recv(count - len(got))
+        except ConnectionResetError:
+            # the container dropped the link with bytes on it that it didn't read
+            return None
         if not piece:
             return None
         got += piece
