@@ -197,14 +197,15 @@ impl ContainerCore {
     pub fn on_message(
         &mut self,
         alloc: Global,
-        link: u32,
+        link: ServerLink,
         message: Message,
     ) -> Result<Answer, ContainerFault>
         ensures taken { IfOk result (λ a. on_message self.old link message ≡ Ok (counts_none self.new a)) }
         ensures few { IfOk result (λ a. length a.actions ≤ length self.old.objects + length self.old.frames + 1) }
         ensures refused { IfErr result (Refuses (on_message self.old link message)) }
         ensures kept { OnErr result (self.new ≡ self.old) }
-        ensures others { StaysApart link self.old self.new }
+        ensures session { OnOk result ((link.session ≡ self.old.session) × (message.session ≡ self.old.session)) }
+        ensures others { StaysApart link.inc self.old self.new }
         ensures steady { Steady self.new }
         ensures sound { IsSound self.new }
     {

@@ -2,7 +2,7 @@
 use Rattle.std.proofs.Common.{◌≡◌, ◌==◌, ℕ, Bool, true, false, Option, Some, None, Ok, Err, Result, refl, ap, sym, if◌then◌else◌, eq-eqb}
 use Rattle.std.proofs.lemmas.Bool.{eqb-true}
 use Rattle.wire_msgs.specs.Found.{find, put}
-use Rattle.wire_msgs.specs.declared.message.Message.TheVariants.{Write}
+use Rattle.wire_msgs.specs.declared.message.Said.TheVariants.{Write}
 use Rattle.object_parts.specs.Limits.{is_within}
 use Rattle.stored_streams.specs.declared.stored.Stored.{Stored}
 use Rattle.container_model.specs.declared.record.Link.{Link}

@@ -122,13 +122,13 @@ abbrev pub first_operation : Object → List NamedStream → Operation
 first_operation o [] = InitNew o.class
 first_operation o (s ∷ ss) = Load o.class o.work
 
-abbrev pub begun_link : ℕ → ℕ → Operation → Link
-begun_link inc act op = record { inc = inc; act = act; last = 1; pending = Some op; waiting = []; states = loaded; s = 0; w = 0; saved = None }
+abbrev pub begun_link : ℕ → ℕ → ℕ → Operation → Link
+begun_link session inc act op = record { session = session; inc = inc; act = act; last = 1; pending = Some op; waiting = []; states = loaded; s = 0; w = 0; saved = None }
 
 abbrev pub run_made : Record → Object → ℕ → Took
 run_made r o inc =
     let op = first_operation o o.work.streams in
-    let link = begun_link inc (r.last_act + 1) op in
+    let link = begun_link r.session inc (r.last_act + 1) op in
     record {
       rec = record r { objects = put (is_object o.number) (record o { link = Some link }) r.objects; last_act = r.last_act + 1 };
       answer = acts (sends (call link 1 op ∷ []));

@@ -2,6 +2,7 @@
 use Rattle.std.specs.Prelude.{◌≡◌, ℕ, Bool, List, [], ◌∷◌, Result, Ok}
 use Rattle.wire_msgs.specs.declared.message.Message.{Message}
 use Rattle.container_model.specs.declared.command.Command.{Command}
+use Rattle.container_model.specs.declared.server_link.ServerLink.{ServerLink}
 use Rattle.container_model.specs.declared.fault.ContainerFault.{ContainerFault}
 use Rattle.container_model.specs.Record.{Record, Took}
 use Rattle.container_model.specs.Commands.{on_command}
@@ -13,7 +14,7 @@ use Rattle.container_model.specs.Saves.{commit_done, commit_failed, resolve}
 -- failed was kept after all; a file that is opened, with what it gave
 pub data Input : Type 0 where
   Ordered : Command → Input
-  Told : ℕ → Message → Input
+  Told : ServerLink → Message → Input
   Reaped : ℕ → Input
   Committed : ℕ → Input
   Failed : ℕ → Input

@@ -3,7 +3,8 @@ use Rattle.std.specs.Prelude.{◌+◌, ◌==◌, ◌&&◌, ◌||◌, ◌++◌, �
 use Rattle.wire_msgs.specs.Found.{find, put, nth, set_nth}
 use Rattle.wire_msgs.specs.Operations.{op_of}
 use Rattle.wire_msgs.specs.declared.message.Message.{Message}
-use Rattle.wire_msgs.specs.declared.message.Message.TheVariants.{Call, Reply, Write, Ask}
+use Rattle.wire_msgs.specs.declared.message.Said.{Said}
+use Rattle.wire_msgs.specs.declared.message.Said.TheVariants.{Call, Reply, Write, Ask}
 use Rattle.wire_msgs.specs.declared.operation.Operation.{Operation}
 use Rattle.wire_msgs.specs.declared.operation.Operation.TheVariants.{InitNew, Load, InPlace, UiActivate, UiDeactivate, InPlaceDeactivate, OpenWindow, Edit, Save, HandsOff, SaveCompleted, SaveDropped, Close}
 use Rattle.wire_msgs.specs.declared.answer.Answer.{Answer}
@@ -21,11 +22,12 @@ use Rattle.grant_core.specs.declared.grant_states.GrantState.{GrantState}
 use Rattle.grant_core.specs.declared.grant_states.GrantState.TheVariants.{Held}
 use Rattle.grant_core.specs.Grants as grant
 use Rattle.container_model.specs.declared.record.Link.{Link}
+use Rattle.container_model.specs.declared.server_link.ServerLink.{ServerLink}
 use Rattle.container_model.specs.declared.record.Object.{Object}
 use Rattle.container_model.specs.declared.record.Frame.{Frame}
 use Rattle.container_model.specs.declared.fault.ContainerFault.{ContainerFault}
 use Rattle.container_model.specs.declared.fault.ContainerFault.TheVariants.{NoSuch, WrongLink, Stale, BadAnswer}
-use Rattle.container_model.specs.Record.{Record, Took, counts_none, quiet_answer, acts, call, sends, is_linked, is_alive, with_frame}
+use Rattle.container_model.specs.Record.{Record, Took, counts_none, quiet_answer, acts, call, sends, is_linked, is_alive, unless, with_frame}
 use Rattle.container_model.specs.declared.grants.Tells.{Tells}
 use Rattle.container_model.specs.declared.grants.Tells.TheVariants.{Gets, GivesUp}
 use Rattle.container_model.specs.Grants.{Regranted, Requested, free_grants, moved, regranted, request}
@@ -239,12 +241,27 @@ ask_found r act g (Some o) = ask_framed r o act g (nth r.frames o.frame)
 abbrev pub on_ask : Record → ℕ → ℕ → ℕ → Result Took ContainerFault
 on_ask r inc act g = if is_alive r inc then ask_found r act g (find (is_linked inc act) r.objects) else Err Stale
 
--- A message on the link of an incarnation.
-abbrev pub on_message : Record → ℕ → Message → Result Took ContainerFault
-on_message r link (Call inc act n op) = Err WrongLink
-on_message r link (Reply inc act n answer) = if inc == link then on_reply r inc act n answer else Err WrongLink
-on_message r link (Write inc act s w content) = if inc == link then on_write r inc act s w content else Err WrongLink
-on_message r link (Ask inc act g) = if inc == link then on_ask r inc act g else Err WrongLink
+-- what a server says: a call is the container's
+abbrev pub said_to : Record → Said → Result Took ContainerFault
+said_to r (Call inc act n op) = Err WrongLink
+said_to r (Reply inc act n answer) = on_reply r inc act n answer
+said_to r (Write inc act s w content) = on_write r inc act s w content
+said_to r (Ask inc act g) = on_ask r inc act g
+
+-- whether a server of this incarnation may say it: a call is never a server's
+abbrev pub is_said_by : ℕ → Said → Bool
+is_said_by link (Call inc act n op) = false
+is_said_by link (Reply inc act n answer) = inc == link
+is_said_by link (Write inc act s w content) = inc == link
+is_said_by link (Ask inc act g) = inc == link
+
+-- a message is of the server whose link it is on, by session and incarnation
+abbrev pub is_on : ServerLink → Message → Bool
+is_on link m = (m.session == link.session) && is_said_by link.inc m.said
+
+-- A message on the link of a server. One of another session than the container's changes nothing, whatever it says.
+abbrev pub on_message : Record → ServerLink → Message → Result Took ContainerFault
+on_message r link m = unless (not (is_on link m)) WrongLink (unless (not (link.session == r.session)) Stale (said_to r m.said))
 
 -- The end of a server: its objects are passive, each with the content that it answered in the present save, if any. Then
 -- their frames are freed, and granted to whoever waits on. Then saves go on.

@@ -2,7 +2,7 @@
 use Rattle.std.specs.Prelude.{◌≡◌, ◌+◌, ◌==◌, ◌&&◌, ◌||◌, ℕ, Bool, true, false, not, List, [], ◌∷◌, ◌++◌, length, map, Option, Some, None, is_some, Result, Err, IsOk, if◌then◌else◌, nat_lt}
 use Rattle.wire_msgs.specs.Found.{put, nth, set_nth}
 use Rattle.wire_msgs.specs.declared.message.Message.{Message}
-use Rattle.wire_msgs.specs.declared.message.Message.TheVariants.{Call}
+use Rattle.wire_msgs.specs.declared.message.Said.TheVariants.{Call}
 use Rattle.wire_msgs.specs.declared.operation.Operation.{Operation}
 use Rattle.grant_core.specs.declared.grant_states.GrantState.{GrantState}
 use Rattle.grant_core.specs.declared.grant_states.GrantState.TheVariants.{Granting, Revoking}
@@ -21,9 +21,10 @@ use Rattle.container_model.specs.declared.answer.Done.{Done}
 use Rattle.container_model.specs.declared.fault.ContainerFault.{ContainerFault}
 use Rattle.container_model.specs.declared.fault.ContainerFault.TheVariants.{NoMemory}
 
--- The frames stand by their numbers, from 1, and so do the servers, each reaped or not. Objects have numbers of their
--- own. The last numbers of objects, of activations and of grants, and the greatest number that may be drawn.
+-- The session. The frames stand by their numbers, from 1, and so do the servers, each reaped or not. Objects have numbers of
+-- their own. The last numbers of objects, of activations and of grants, and the greatest number that may be drawn.
 pub record Record : Type 0 where
+  pub session : ℕ
   pub frames : List Frame
   pub objects : List Object
   pub servers : List Bool
@@ -32,8 +33,9 @@ pub record Record : Type 0 where
   pub last_g : ℕ
   pub numbers : ℕ
 
+-- a container begins without frames, objects and servers
 abbrev pub empty : ℕ → Record
-empty numbers = record { frames = []; objects = []; servers = []; last_object = 0; last_act = 0; last_g = 0; numbers = numbers }
+empty numbers = record { session = 1; frames = []; objects = []; servers = []; last_object = 0; last_act = 0; last_g = 0; numbers = numbers }
 
 -- how many frames there may be, and how many servers that aren't reaped; a frame has as many objects as a document may
 abbrev pub MOST_FRAMES : ℕ
@@ -140,9 +142,9 @@ abbrev pub link_has_numbers : ℕ → Option Link → Bool
 link_has_numbers numbers None = true
 link_has_numbers numbers (Some l) = has_numbers numbers l
 
--- the call of this number that asks an activation for an operation
+-- the call of this number that asks an activation for an operation, in the session of its server
 abbrev pub call : Link → ℕ → Operation → Message
-call l n op = Call l.inc l.act n op
+call l n op = record { session = l.session; said = Call l.inc l.act n op }
 
 -- An operation is asked: at once where none is pending, else behind those that wait.
 pub record Asked : Type 0 where

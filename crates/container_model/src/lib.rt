@@ -7,3 +7,4 @@ pub mod command;
 pub mod fault;
 pub mod grants;
 pub mod record;
+pub mod server_link;

@@ -12,6 +12,8 @@ use wire_msgs::operation::Operation;
 /// The activation of an object that isn't passive.
 #[derive(Drop)]
 pub struct Link {
+    /// The session of its server.
+    pub session: u32,
     /// The incarnation of its server.
     pub inc: u32,
     /// The number of the activation.

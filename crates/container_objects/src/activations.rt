@@ -4,7 +4,7 @@ ghost use Rattle.std.specs.Prelude.{◌≡◌, IfOk, [], ◌∷◌, Some};
 ghost use Rattle.container_model.specs.Commands.{begun_link, first_operation, kind_of, new_object, user_type};
 ghost use Rattle.container_model.specs.declared.answer.Action.TheVariants.{Send};
 ghost use Rattle.embed_core.specs.Kinds.{class_of};
-ghost use Rattle.wire_msgs.specs.declared.message.Message.TheVariants.{Call};
+ghost use Rattle.wire_msgs.specs.declared.message.Said.TheVariants.{Call};
 
 use container_links::calling::call;
 use container_model::answer::Action;
@@ -84,15 +84,17 @@ fn first_operation(alloc: Global, object: &Object) -> Result<Operation, AllocErr
 pub fn begun(
     alloc: Global,
     object: &Object,
+    session: u32,
     inc: u32,
     act: u32,
 ) -> Result<(Link, Items<Action>), AllocError>
-    ensures link { IfOk result (λ b. b.0 ≡ begun_link inc act (first_operation object.now object.now.work.streams)) }
-    ensures sent { IfOk result (λ b. b.1 ≡ Send (Call inc act 1 (first_operation object.now object.now.work.streams)) ∷ []) }
+    ensures link { IfOk result (λ b. b.0 ≡ begun_link session inc act (first_operation object.now object.now.work.streams)) }
+    ensures sent { IfOk result (λ b. b.1 ≡ Send (record { session = session; said = Call inc act 1 (first_operation object.now object.now.work.streams) }) ∷ []) }
 {
     let operation = first_operation(alloc, object)?;
     let asked = operation.copy(alloc)?;
     let link = Link {
+        session,
         inc,
         act,
         last: 1,

@@ -3,7 +3,7 @@
 ghost use Rattle.std.specs.Prelude.{◌+◌, ◌≡◌, ◌≤◌, IfErr, IfOk, Ok, OnErr, length, true};
 ghost use Rattle.container_steady.specs.Steady.{Steady};
 ghost use Rattle.container_model.specs.Record.{Refuses, counts_none, is_linked, quiet_answer};
-ghost use Rattle.container_model.specs.Messages.{on_message, on_reply, on_write, reply_found, write_found};
+ghost use Rattle.container_model.specs.Messages.{is_said_by, on_message, on_reply, on_write, reply_found, said_to, write_found};
 ghost use Rattle.container_model.specs.Room.{IsSound};
 ghost use Rattle.wire_msgs.specs.Found.{find, IsPlace};
 
@@ -15,12 +15,13 @@ use container_links::replies::gives_up;
 use container_links::settling::settle_into;
 use container_model::answer::Answer;
 use container_model::fault::ContainerFault;
+use container_model::server_link::ServerLink;
 use container_objects::replies::{Told, answered, told_object};
 use container_objects::writes::write_one;
 use std::alloc::Global;
 use stored_streams::stored::Stored;
 use wire_msgs::answer as reply;
-use wire_msgs::message::Message;
+use wire_msgs::message::{Message, Said};
 
 // The answer to a write that was taken.
 fn content_taken(alloc: Global) -> Answer
@@ -31,6 +32,16 @@ fn content_taken(alloc: Global) -> Answer
     answer
 }
 
+// Whether a server of this incarnation may say it.
+fn is_said_by(link: u32, said: &Said) -> bool
+    ensures { result ≡ is_said_by link said.now }
+{
+    match said {
+        Said::Call { .. } => false,
+        Said::Reply { inc, .. } | Said::Write { inc, .. } | Said::Ask { inc, .. } => *inc == link,
+    }
+}
+
 impl State {
     /// A message on the link of a server. The answer has what came of it, what is sent and which files are to be committed.
     ///
@@ -38,7 +49,7 @@ impl State {
     pub fn on_message(
         &mut self,
         alloc: Global,
-        link: u32,
+        link: ServerLink,
         message: Message,
     ) -> Result<Answer, ContainerFault>
         requires steady { Steady self.old }
@@ -48,40 +59,42 @@ impl State {
         ensures refused { IfErr result (Refuses (on_message self.old link message)) }
         ensures kept { OnErr result (self.new ≡ self.old) }
     {
-        match message {
-            Message::Call { .. } => Err(ContainerFault::WrongLink),
-            Message::Reply {
+        if message.session != link.session || !is_said_by(link.inc, &message.said) {
+            drop(message);
+            return Err(ContainerFault::WrongLink);
+        }
+        if link.session != self.session {
+            drop(message);
+            return Err(ContainerFault::Stale);
+        }
+        self.on_said(alloc, message.said)
+    }
+
+    // What a server says.
+    fn on_said(&mut self, alloc: Global, said: Said) -> Result<Answer, ContainerFault>
+        requires steady { Steady self.old }
+        requires sound { IsSound self.old }
+        ensures taken { IfOk result (λ a. said_to self.old said ≡ Ok (counts_none self.new a)) }
+        ensures few { IfOk result (λ a. length a.actions ≤ length self.old.objects + length self.old.frames + 1) }
+        ensures refused { IfErr result (Refuses (said_to self.old said)) }
+        ensures kept { OnErr result (self.new ≡ self.old) }
+    {
+        match said {
+            Said::Call { .. } => Err(ContainerFault::WrongLink),
+            Said::Reply {
                 inc,
                 act,
                 n,
                 answer,
-            } => {
-                if inc == link {
-                    self.on_reply(alloc, inc, act, n, answer)
-                } else {
-                    Err(ContainerFault::WrongLink)
-                }
-            }
-            Message::Write {
+            } => self.on_reply(alloc, inc, act, n, answer),
+            Said::Write {
                 inc,
                 act,
                 s,
                 w,
                 content,
-            } => {
-                if inc == link {
-                    self.on_write(alloc, inc, act, s, w, content)
-                } else {
-                    Err(ContainerFault::WrongLink)
-                }
-            }
-            Message::Ask { inc, act, g } => {
-                if inc != link {
-                    Err(ContainerFault::WrongLink)
-                } else {
-                    self.on_ask(alloc, inc, act, g)
-                }
-            }
+            } => self.on_write(alloc, inc, act, s, w, content),
+            Said::Ask { inc, act, g } => self.on_ask(alloc, inc, act, g),
         }
     }
 

@@ -53,7 +53,7 @@ impl State {
             return Err(ContainerFault::NumbersSpent);
         }
         let act = self.last_act + 1;
-        let Ok((link, actions)) = begun(alloc, object, inc, act) else {
+        let Ok((link, actions)) = begun(alloc, object, self.session, inc, act) else {
             return Err(ContainerFault::NoMemory);
         };
         self.last_act = act;

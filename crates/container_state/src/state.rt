@@ -12,6 +12,7 @@ use std::marker::Model;
 /// what stays true of a record, and its methods ask for that where they need it.
 #[derive(Drop)]
 pub struct State {
+    pub session: u32,
     pub frames: Frames,
     pub objects: Objects,
     pub servers: Servers,
@@ -26,7 +27,7 @@ impl Model for State {
 
     ghost Value = { Record };
 
-    ghost view = { λ c. record { frames = c.frames; objects = c.objects.list.items; servers = c.servers; last_object = c.last_object; last_act = c.last_act; last_g = c.last_g; numbers = c.numbers } };
+    ghost view = { λ c. record { session = c.session; frames = c.frames; objects = c.objects.list.items; servers = c.servers; last_object = c.last_object; last_act = c.last_act; last_g = c.last_g; numbers = c.numbers } };
 }
 
 impl State {
@@ -39,6 +40,7 @@ impl State {
         ensures { result ≡ empty numbers }
     {
         State {
+            session: 1,
             frames: Frames::new(alloc),
             objects: Objects::new(alloc),
             servers: Servers::new(alloc),
@@ -47,6 +49,13 @@ impl State {
             last_g: 0,
             numbers,
         }
+    }
+
+    /// The session.
+    pub fn session(&self) -> u32
+        ensures { result ≡ self.now.session }
+    {
+        self.session
     }
 
     /// The frames, by their numbers from 1.

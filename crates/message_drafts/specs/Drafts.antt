@@ -12,7 +12,7 @@ use Rattle.message_drafts.specs.declared.draft.Opening.TheVariants as opening
 use Rattle.wire_msgs.specs.declared.operation.Operation.{Operation}
 use Rattle.wire_msgs.specs.declared.operation.Operation.TheVariants as op
 use Rattle.wire_msgs.specs.declared.answer.Answer.TheVariants as ans
-use Rattle.wire_msgs.specs.declared.message.Message.TheVariants.{Call, Reply, Write}
+use Rattle.wire_msgs.specs.declared.message.Said.TheVariants.{Call, Reply, Write}
 use Rattle.message_model.specs.declared.frame.Frame.{Frame}
 use Rattle.message_model.specs.declared.frame.Frame.TheVariants.{Message}
 use Rattle.message_model.specs.Reading.{Reader, bad, blob, more, name, sized, whole}

@@ -12,7 +12,7 @@ use Rattle.wire_msgs.specs.declared.operation.Operation.{Operation}
 use Rattle.wire_msgs.specs.declared.operation.Operation.TheVariants.{InitNew, Load, InPlace, UiActivate, UiDeactivate, InPlaceDeactivate, OpenWindow, Edit, Save, HandsOff, SaveCompleted, SaveDropped, Close}
 use Rattle.wire_msgs.specs.declared.answer.Answer.{Answer}
 use Rattle.wire_msgs.specs.declared.answer.Answer.TheVariants.{Done, Refused, Content, Tools}
-use Rattle.wire_msgs.specs.declared.message.Message.TheVariants.{Call, Reply, Write, Ask}
+use Rattle.wire_msgs.specs.declared.message.Said.TheVariants.{Call, Reply, Write, Ask}
 use Rattle.message_model.specs.declared.frame.Frame.{Frame}
 use Rattle.message_model.specs.declared.frame.Frame.TheVariants.{Message, Turn}
 

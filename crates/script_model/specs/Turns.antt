@@ -1,7 +1,7 @@
 -- What a link is sent: the calls that are pending for its server, and a Turn.
 use Rattle.std.specs.Prelude.{◌≡◌, ◌==◌, ◌++◌, ℕ, List, [], ◌∷◌, if◌then◌else◌}
 use Rattle.wire_msgs.specs.declared.message.Message.{Message}
-use Rattle.wire_msgs.specs.declared.message.Message.TheVariants.{Call, Reply, Write, Ask}
+use Rattle.wire_msgs.specs.declared.message.Said.TheVariants.{Call, Reply, Write, Ask}
 use Rattle.container_model.specs.Record.{Record}
 use Rattle.container_model.specs.Replies.{pending_calls}
 use Rattle.message_model.specs.declared.frame.Frame.TheVariants as frame

@@ -6,7 +6,7 @@ use Rattle.wire_msgs.specs.Found.{find, put, IsPlace}
 use Rattle.wire_msgs.specs.declared.operation.Operation.{Operation}
 use Rattle.wire_msgs.specs.declared.answer.Answer.{Answer}
 use Rattle.wire_msgs.specs.declared.message.Message.{Message}
-use Rattle.wire_msgs.specs.declared.message.Message.TheVariants.{Ask}
+use Rattle.wire_msgs.specs.declared.message.Said.TheVariants.{Ask}
 use Rattle.embed_core.specs.Content.{Content}
 use Rattle.embed_core.specs.Kinds.{Kind}
 use Rattle.server_model.specs.declared.activation_view.ActivationView.{ActivationView}

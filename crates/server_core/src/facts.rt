@@ -3,7 +3,7 @@
 ghost use Rattle.std.specs.Prelude.{◌≡◌, ◌+◌, ◌<◌, ◌^◌, Some, None, IfOk, option_map, IsTrue, ◌↔◌};
 ghost use Rattle.object_state.specs.Both as both;
 ghost use Rattle.wire_msgs.specs.declared.answer.Answer.TheVariants as answer;
-ghost use Rattle.wire_msgs.specs.declared.message.Message.TheVariants as message;
+ghost use Rattle.wire_msgs.specs.declared.message.Said.TheVariants as message;
 ghost use Rattle.object_state.specs.Persists.{may_write};
 
 use object_state::{Menus, Op, StateFault, States};

@@ -7,7 +7,7 @@ use Rattle.embed_core.specs.Kinds.{Kind}
 use Rattle.wire_msgs.specs.Found.{find}
 use Rattle.wire_msgs.specs.declared.operation.Operation.{Operation}
 use Rattle.wire_msgs.specs.declared.message.Message.{Message}
-use Rattle.wire_msgs.specs.declared.message.Message.TheVariants.{Call, Reply, Write, Ask}
+use Rattle.wire_msgs.specs.declared.message.Said.TheVariants.{Call, Reply, Write, Ask}
 use Rattle.message_model.specs.declared.frame.Frame.{Frame}
 use Rattle.message_model.specs.declared.frame.Frame.TheVariants as frame
 use Rattle.server_model.specs.Server.{Activation, Server, after_begun, begins, begun_class, begun_content, called, is_act, is_class, offered, unknown_call, wanted, wanted_unknown}

@@ -2,7 +2,7 @@
 use Rattle.std.proofs.Common.{◌≡◌, ℕ, Bool, true, false, cond, List, length, refl, ap, sym, ◌∙◌, Option, Some, None, Result, Ok, Err, nat_le, is_some}
 use Rattle.wire_msgs.specs.declared.operation.Operation.{Operation}
 use Rattle.wire_msgs.specs.declared.answer.Answer.{Answer}
-use Rattle.wire_msgs.specs.declared.message.Message.TheVariants.{Reply}
+use Rattle.wire_msgs.specs.declared.message.Said.TheVariants.{Reply}
 use Rattle.embed_core.specs.Kinds.{Kind}
 use Rattle.server_model.specs.declared.fault.ServerFault.{ServerFault}
 use Rattle.server_model.specs.declared.fault.ServerFault.TheVariants.{NumbersSpent}

@@ -4,7 +4,7 @@ use Rattle.std.proofs.lemmas.Slice.Eq.{bytes_eq-Decides}
 use Rattle.embed_core.specs.Kinds.{Kind, class_of}
 use Rattle.wire_msgs.specs.Found.{find}
 use Rattle.wire_msgs.specs.declared.operation.Operation.{Operation}
-use Rattle.wire_msgs.specs.declared.message.Message.TheVariants.{Call, Reply, Write, Ask}
+use Rattle.wire_msgs.specs.declared.message.Said.TheVariants.{Call, Reply, Write, Ask}
 use Rattle.server_model.specs.declared.fault.ServerFault.{ServerFault}
 use Rattle.server_model.specs.declared.fault.ServerFault.TheVariants.{WrongIncarnation, Ignored, NumbersSpent, WrongClass}
 use Rattle.server_model.specs.Server.{Activation, Server, Acted, Served, after_known, after_begun, begins, begun_class, begun_content, called, is_act, is_class, known_call, offered, unknown_call, wanted_unknown}

@@ -6,7 +6,7 @@ use Rattle.object_state.specs.Persists.{may_write}
 use Rattle.embed_core.specs.Content.{Content}
 use Rattle.wire_msgs.specs.Found.{find, put, IsPlace}
 use Rattle.wire_msgs.specs.declared.message.Message.{Message}
-use Rattle.wire_msgs.specs.declared.message.Message.TheVariants as message
+use Rattle.wire_msgs.specs.declared.message.Said.TheVariants as message
 use Rattle.server_model.specs.declared.fault.ServerFault.{ServerFault}
 use Rattle.server_model.specs.declared.fault.ServerFault.TheVariants.{WrongIncarnation, Ignored, NumbersSpent, NeedObject, WrongClass, NoMemory}
 use Rattle.server_model.specs.Server.{Activation, Server, Told, Refuses, Tells, is_act, scribbled, scribbled_open, stored_of}

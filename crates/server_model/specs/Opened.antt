@@ -10,7 +10,7 @@ use Rattle.server_model.specs.declared.counted.Counted.{Counted}
 use Rattle.server_model.specs.declared.fault.ServerFault.{ServerFault}
 use Rattle.server_model.specs.declared.fault.ServerFault.TheVariants.{Ignored, NumbersSpent}
 use Rattle.wire_msgs.specs.declared.message.Message.{Message}
-use Rattle.wire_msgs.specs.declared.message.Message.TheVariants.{Reply, Write}
+use Rattle.wire_msgs.specs.declared.message.Said.TheVariants.{Reply, Write}
 use Rattle.embed_core.specs.Kinds.{Kind}
 use Rattle.server_model.specs.Server.{Activation, Acted, Server, called, begun_class, does, stored_of, wanted_unknown}
 

@@ -1,5 +1,5 @@
 -- What a server does with a call.
-use Rattle.std.specs.Prelude.{◌≡◌, ◌+◌, ℕ, Bool, true, false, List, [], ◌∷◌, ◌++◌, length, Option, Some, None, option_map, is_some, Result, Ok, Err, IsOk, cond, nat_eq, nat_le}
+use Rattle.std.specs.Prelude.{◌≡◌, ◌+◌, ℕ, Bool, true, false, List, [], ◌∷◌, ◌++◌, length, Option, Some, None, option_map, is_some, ◌&&◌, Result, Ok, Err, IsOk, cond, nat_eq, nat_le}
 use Rattle.std.specs.Str.{bytes_eq}
 use Rattle.object_state.specs.Both as both
 use Rattle.object_state.specs.declared.both_states.States.{States}
@@ -22,7 +22,8 @@ use Rattle.wire_msgs.specs.declared.refusal.Refusal.TheVariants.{BadEdit, BadCon
 use Rattle.wire_msgs.specs.declared.answer.Answer.{Answer}
 use Rattle.wire_msgs.specs.declared.answer.Answer.TheVariants as answer
 use Rattle.wire_msgs.specs.declared.message.Message.{Message}
-use Rattle.wire_msgs.specs.declared.message.Message.TheVariants.{Call, Reply, Write, Ask}
+use Rattle.wire_msgs.specs.declared.message.Said.{Said}
+use Rattle.wire_msgs.specs.declared.message.Said.TheVariants.{Call, Reply, Write, Ask}
 use Rattle.wire_msgs.specs.Found.{find, put}
 use Rattle.server_model.specs.Pictures.{picture_of}
 use Rattle.server_model.specs.declared.activation_view.ActivationView.{ActivationView}
@@ -44,8 +45,9 @@ pub record Activation : Type 0 where
   pub w : ℕ
   pub g : Option ℕ
 
--- A server: its incarnation, the limit of its numbers, its activations in the order in which they were made.
+-- A server: its session and its incarnation, the limit of its numbers, its activations in the order in which they were made.
 pub record Server : Type 0 where
+  pub session : ℕ
   pub inc : ℕ
   pub numbers : ℕ
   pub acts : List Activation
@@ -173,10 +175,21 @@ abbrev pub called : Server → ℕ → ℕ → Operation → Option Kind → Opt
 called v act n op box None = unknown_call v act op box (begun_class n op)
 called v act n op box (Some a) = after_known v act (known_call a n op)
 
+-- it is this server's, by session and incarnation
+abbrev pub is_for : Server → ℕ → ℕ → Bool
+is_for v session inc = nat_eq session v.session && nat_eq inc v.inc
+
+abbrev pub on_said : Server → ℕ → Said → Option Kind → Result Served ServerFault
+on_said v session (Call inc act n op) box = cond (is_for v session inc) (called v act n op box (find (is_act act) v.acts)) (Err WrongIncarnation)
+on_said v session said box = Err Ignored
+
 -- The server's step: what a message does, with an object handed in or none.
 abbrev pub on_call : Server → Message → Option Kind → Result Served ServerFault
-on_call v (Call inc act n op) box = cond (nat_eq inc v.inc) (called v act n op box (find (is_act act) v.acts)) (Err WrongIncarnation)
-on_call v m box = Err Ignored
+on_call v m box = on_said v m.session m.said box
+
+-- what a server says, in its session
+abbrev pub from_server : Server → Said → Message
+from_server v said = record { session = v.session; said = said }
 
 -- What a server sends of its own accord: a message, and the server after it.
 pub record Told : Type 0 where
@@ -187,7 +200,7 @@ abbrev pub writes : Server → Activation → Content → Result Told ServerFaul
 writes v a c = cond (nat_le v.numbers a.w) (Err NumbersSpent)
     (Ok (record {
       server = record v { acts = put (is_act a.act) (record a { w = a.w + 1 }) v.acts };
-      message = Write v.inc a.act a.s (a.w + 1) (stored_of c);
+      message = from_server v (Write v.inc a.act a.s (a.w + 1) (stored_of c));
     }))
 
 abbrev pub scribbled_open : Server → Activation → Option Content → Result Told ServerFault
@@ -204,7 +217,7 @@ scribble v act = scribbled v (find (is_act act) v.acts)
 
 abbrev pub asks : Server → Activation → Option ℕ → Result Told ServerFault
 asks v a None = Err Ignored
-asks v a (Some g) = Ok (record { server = v; message = Ask v.inc a.act g })
+asks v a (Some g) = Ok (record { server = v; message = from_server v (Ask v.inc a.act g) })
 
 abbrev pub asked : Server → Option Activation → Result Told ServerFault
 asked v None = Err Ignored
@@ -224,14 +237,20 @@ abbrev pub wanted_unknown : Server → Option (List ℕ) → Option Activation �
 wanted_unknown v class (Some a) = None
 wanted_unknown v class None = cond (nat_le v.numbers (length v.acts)) None class
 
-abbrev pub wanted : Server → Message → Option (List ℕ)
-wanted v (Call inc act n op) = cond (nat_eq inc v.inc) (wanted_unknown v (begun_class n op) (find (is_act act) v.acts)) None
-wanted v m = None
+abbrev pub wanted_by : Server → ℕ → Said → Option (List ℕ)
+wanted_by v session (Call inc act n op) = cond (is_for v session inc) (wanted_unknown v (begun_class n op) (find (is_act act) v.acts)) None
+wanted_by v session said = None
 
--- The reply to a call.
+abbrev pub wanted : Server → Message → Option (List ℕ)
+wanted v m = wanted_by v m.session m.said
+
+-- The reply to a call, in its session.
+abbrev pub said_back : Said → Answer → Said
+said_back (Call inc act n op) told = Reply inc act n told
+said_back said told = said
+
 abbrev pub reply_to : Message → Answer → Message
-reply_to (Call inc act n op) told = Reply inc act n told
-reply_to m told = m
+reply_to m told = record { session = m.session; said = said_back m.said told }
 
 -- A call was taken: the server after it, the reply, and the save that it counted.
 abbrev pub Takes : Server → Message → Option Kind → Server → Message → Option Counted → Type 0
@@ -249,7 +268,7 @@ Tells told after message = told ≡ Ok (record { server = after; message = messa
 
 -- the reply that is kept of an activation
 abbrev pub kept_reply : Server → Activation → Message
-kept_reply v a = Reply v.inc a.act a.last a.reply
+kept_reply v a = from_server v (Reply v.inc a.act a.last a.reply)
 
 abbrev pub last_reply : Server → ℕ → Option Message
 last_reply v act = option_map (kept_reply v) (find (is_act act) v.acts)

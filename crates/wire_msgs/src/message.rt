@@ -7,9 +7,9 @@ use crate::operation::Operation;
 use std::alloc::{AllocError, Global};
 use stored_streams::stored::Stored;
 
-/// A message. Every number in it is at least 1.
+/// What a message says. Every number in it is at least 1.
 #[derive(Drop)]
-pub enum Message {
+pub enum Said {
     /// The container asks an activation of a server for an operation.
     Call {
         /// The server's incarnation.
@@ -56,6 +56,67 @@ pub enum Message {
     },
 }
 
+impl Said {
+    /// The same said again.
+    ///
+    /// Refused for want of memory alone.
+    pub fn copy(&self, alloc: Global) -> Result<Said, AllocError>
+        ensures { IfOk result (λ m. m ≡ self.now) }
+    {
+        match self {
+            Said::Call {
+                inc,
+                act,
+                n,
+                operation,
+            } => Ok(Said::Call {
+                inc: *inc,
+                act: *act,
+                n: *n,
+                operation: operation.copy(alloc)?,
+            }),
+            Said::Reply {
+                inc,
+                act,
+                n,
+                answer,
+            } => Ok(Said::Reply {
+                inc: *inc,
+                act: *act,
+                n: *n,
+                answer: answer.copy(alloc)?,
+            }),
+            Said::Write {
+                inc,
+                act,
+                s,
+                w,
+                content,
+            } => Ok(Said::Write {
+                inc: *inc,
+                act: *act,
+                s: *s,
+                w: *w,
+                content: content.copy(alloc)?,
+            }),
+            Said::Ask { inc, act, g } => Ok(Said::Ask {
+                inc: *inc,
+                act: *act,
+                g: *g,
+            }),
+        }
+    }
+}
+
+/// A message: what is said, in a session of the container. A server is known by the session and its incarnation.
+#[derive(Drop)]
+pub struct Message {
+    /// The session, at least 1.
+    pub session: u32,
+    /// What is said.
+    pub said: Said,
+}
+
 impl Message {
     /// An equal message.
     ///
@@ -63,47 +124,9 @@ impl Message {
     pub fn copy(&self, alloc: Global) -> Result<Message, AllocError>
         ensures { IfOk result (λ m. m ≡ self.now) }
     {
-        match self {
-            Message::Call {
-                inc,
-                act,
-                n,
-                operation,
-            } => Ok(Message::Call {
-                inc: *inc,
-                act: *act,
-                n: *n,
-                operation: operation.copy(alloc)?,
-            }),
-            Message::Reply {
-                inc,
-                act,
-                n,
-                answer,
-            } => Ok(Message::Reply {
-                inc: *inc,
-                act: *act,
-                n: *n,
-                answer: answer.copy(alloc)?,
-            }),
-            Message::Write {
-                inc,
-                act,
-                s,
-                w,
-                content,
-            } => Ok(Message::Write {
-                inc: *inc,
-                act: *act,
-                s: *s,
-                w: *w,
-                content: content.copy(alloc)?,
-            }),
-            Message::Ask { inc, act, g } => Ok(Message::Ask {
-                inc: *inc,
-                act: *act,
-                g: *g,
-            }),
-        }
+        Ok(Message {
+            session: self.session,
+            said: self.said.copy(alloc)?,
+        })
     }
 }

@@ -1,7 +1,7 @@
 -- An activation wrote, or asked: each fact stays.
 use Rattle.std.proofs.Common.{◌≡◌, ℕ, List, ◌++◌, inl, inr}
 use Rattle.wire_msgs.specs.declared.message.Message.{Message}
-use Rattle.wire_msgs.specs.declared.message.Message.TheVariants.{Call, Reply}
+use Rattle.wire_msgs.specs.declared.message.Said.TheVariants.{Call, Reply}
 use Rattle.wire_msgs.specs.declared.operation.Operation.{Operation}
 use Rattle.wire_msgs.specs.declared.operation.Operation.TheVariants.{SaveCompleted}
 use Rattle.container_model.specs.declared.answer.Done.{Done}

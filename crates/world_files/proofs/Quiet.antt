@@ -2,8 +2,8 @@
 use Rattle.std.proofs.Common.{◌≡◌, ◌≢◌, ◌==◌, ℕ, ◌+◌, Bool, true, false, List, map, Option, Some, None, Result, Ok, Err, refl, sym, ap, ◌∙◌, subst, if◌then◌else◌}
 use Rattle.wire_msgs.specs.Found.{find, nth, put}
 use Rattle.wire_msgs.specs.declared.message.Message.{Message}
-use Rattle.wire_msgs.specs.declared.message.Message.TheVariants.{Call, Reply, Write}
-use Rattle.wire_msgs.specs.declared.message.Message.TheVariants as message
+use Rattle.wire_msgs.specs.declared.message.Said.TheVariants.{Call, Reply, Write}
+use Rattle.wire_msgs.specs.declared.message.Said.TheVariants as message
 use Rattle.wire_msgs.specs.declared.operation.Operation.TheVariants.{Save, SaveDropped, UiDeactivate}
 use Rattle.wire_msgs.specs.declared.answer.Answer.{Answer}
 use Rattle.object_parts.specs.Limits.{is_within}

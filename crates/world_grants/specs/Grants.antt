@@ -3,7 +3,7 @@
 use Rattle.std.specs.Prelude.{◌≡◌, ◌⊎◌, ℕ, List, Option, Some, None}
 use Rattle.wire_msgs.specs.Found.{find, nth}
 use Rattle.wire_msgs.specs.declared.message.Message.{Message}
-use Rattle.wire_msgs.specs.declared.message.Message.TheVariants.{Call, Reply}
+use Rattle.wire_msgs.specs.declared.message.Said.TheVariants.{Call, Reply}
 use Rattle.wire_msgs.specs.declared.operation.Operation.{Operation}
 use Rattle.wire_msgs.specs.declared.operation.Operation.TheVariants.{UiActivate, UiDeactivate}
 use Rattle.wire_msgs.specs.declared.answer.Answer.{Answer}

@@ -1,7 +1,7 @@
 -- Whatever a step sends is pending once it is taken.
 use Rattle.std.proofs.Common.{◌≡◌, ◌+◌, ℕ, List, [], ◌∷◌, Some, None, refl, sym, ◌∙◌, ap, inl, inr, subst}
 use Rattle.wire_msgs.specs.declared.message.Message.{Message}
-use Rattle.wire_msgs.specs.declared.message.Message.TheVariants.{Call}
+use Rattle.wire_msgs.specs.declared.message.Said.TheVariants.{Call}
 use Rattle.wire_msgs.specs.declared.operation.Operation.{Operation}
 use Rattle.container_model.specs.Commands.{begun_link}
 use Rattle.container_model.specs.declared.record.Link.{Link}

@@ -3,7 +3,7 @@ use Rattle.std.proofs.Common.{◌≡◌, ◌≤◌, ◌<◌, ◌+◌, ℕ, Bool,
 use Rattle.std.proofs.lemmas.Bool.{leb-false}
 use Rattle.std.specs.Prelude.{cond}
 use Rattle.wire_msgs.specs.Found.{find, put}
-use Rattle.wire_msgs.specs.declared.message.Message.TheVariants.{Write, Ask}
+use Rattle.wire_msgs.specs.declared.message.Said.TheVariants.{Write, Ask}
 use Rattle.object_state.specs.Persists.{may_write}
 use Rattle.embed_core.specs.Content.{Content}
 use Rattle.server_model.specs.Server.{Server, Activation, Told, is_act, stored_of, writes, scribbled_open, asks, asked}

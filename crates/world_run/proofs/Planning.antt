@@ -3,7 +3,7 @@ use Rattle.std.proofs.Common.{◌≡◌, ◌<◌, ℕ, zero, suc, List, [], ◌�
 use Rattle.std.specs.Prelude.{slice_get}
 use Rattle.wire_msgs.specs.Found.{find, nth}
 use Rattle.wire_msgs.specs.declared.message.Message.{Message}
-use Rattle.wire_msgs.specs.declared.message.Message.TheVariants.{Call, Reply, Write, Ask}
+use Rattle.wire_msgs.specs.declared.message.Said.TheVariants.{Call, Reply, Write, Ask}
 use Rattle.wire_msgs.specs.declared.operation.Operation.{Operation}
 use Rattle.server_model.specs.Server.{wanted}
 use Rattle.container_model.specs.Numbered.{IsNth}

@@ -5,7 +5,7 @@ use Rattle.std.proofs.lemmas.Option.{slice_get-get_or}
 use Rattle.embed_core.specs.Kinds.{Kind}
 use Rattle.wire_msgs.specs.Found.{set_nth}
 use Rattle.wire_msgs.specs.declared.message.Message.{Message}
-use Rattle.wire_msgs.specs.declared.message.Message.TheVariants.{Call}
+use Rattle.wire_msgs.specs.declared.message.Said.TheVariants.{Call}
 use Rattle.wire_msgs.specs.declared.operation.Operation.{Operation}
 use Rattle.server_model.specs.Server.{Server, Takes, Refuses, on_call}
 use Rattle.server_model.specs.declared.fault.ServerFault.TheVariants.{WrongIncarnation, Ignored, NumbersSpent, NeedObject, WrongClass, NoMemory}

@@ -2,7 +2,7 @@
 use Rattle.std.proofs.Common.{◌≡◌, ℕ, List, [], ◌∷◌, ◌++◌, Option, Some, None, option_map, Result, Ok, Err, refl, sym, ap, ◌∙◌, inl, inr, subst}
 use Rattle.std.proofs.lemmas.Bool.Decides.{eqb_tells}
 use Rattle.wire_msgs.specs.Found.{find, nth, set_nth}
-use Rattle.wire_msgs.specs.declared.message.Message.TheVariants.{Call, Reply}
+use Rattle.wire_msgs.specs.declared.message.Said.TheVariants.{Call, Reply}
 use Rattle.wire_msgs.specs.declared.operation.Operation.{Operation}
 use Rattle.embed_core.specs.Kinds.{Kind}
 use Rattle.server_model.specs.Server.{Activation, Served, on_call, wanted}

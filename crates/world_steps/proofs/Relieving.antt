@@ -1,7 +1,7 @@
 -- An object that holds its frame asks to be relieved of it: it is asked to give it up.
 use Rattle.std.proofs.Common.{◌≡◌, ◌==◌, ℕ, Bool, true, false, Option, Some, None, Result, Ok, Err, sym, ap, subst, length, if◌then◌else◌}
 use Rattle.wire_msgs.specs.Found.{find, nth}
-use Rattle.wire_msgs.specs.declared.message.Message.TheVariants.{Ask}
+use Rattle.wire_msgs.specs.declared.message.Said.TheVariants.{Ask}
 use Rattle.wire_msgs.specs.declared.operation.Operation.TheVariants.{UiDeactivate}
 use Rattle.grant_core.specs.Grants as grant
 use Rattle.container_model.specs.declared.record.Object.{Object}

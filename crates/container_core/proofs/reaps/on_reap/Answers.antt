@@ -15,7 +15,7 @@ use Rattle.container_core.proofs.reaps.on_reap.Goals as goal
 
 pub hand_off_all-requires-clause-places : goal.hand_off_all-requires-clause-places
 hand_off_all-requires-clause-places c =
-    let r : Record = record { frames = c.state.inside.frames; objects = c.state.inside.objects.list.items; servers = c.state.inside.servers; last_object = c.state.inside.last_object; last_act = c.state.inside.last_act; last_g = c.state.inside.last_g; numbers = c.state.inside.numbers } in
+    let r : Record = record { session = c.state.inside.session; frames = c.state.inside.frames; objects = c.state.inside.objects.list.items; servers = c.state.inside.servers; last_object = c.state.inside.last_object; last_act = c.state.inside.last_act; last_g = c.state.inside.last_g; numbers = c.state.inside.numbers } in
     let v : c.args.state.now ≡ r = sym c.state.view_is in
     let steady : Steady r = subst Steady v c.requires.steady in
     let ready_is : c.in-Ok.grants.items ≡ map (ready r.objects) (freed_claims c.args.inc r.objects r.frames) =
@@ -32,7 +32,7 @@ hand_off_all-requires-clause-places c =
 
 pub hand_off_all-requires-clause-room : goal.hand_off_all-requires-clause-room
 hand_off_all-requires-clause-room c =
-    let r : Record = record { frames = c.state.inside.frames; objects = c.state.inside.objects.list.items; servers = c.state.inside.servers; last_object = c.state.inside.last_object; last_act = c.state.inside.last_act; last_g = c.state.inside.last_g; numbers = c.state.inside.numbers } in
+    let r : Record = record { session = c.state.inside.session; frames = c.state.inside.frames; objects = c.state.inside.objects.list.items; servers = c.state.inside.servers; last_object = c.state.inside.last_object; last_act = c.state.inside.last_act; last_g = c.state.inside.last_g; numbers = c.state.inside.numbers } in
     let v : c.args.state.now ≡ r = sym c.state.view_is in
     let steady : Steady r = subst Steady v c.requires.steady in
     let ready_is : c.in-Ok.grants.items ≡ map (ready r.objects) (freed_claims c.args.inc r.objects r.frames) =
@@ -51,7 +51,7 @@ hand_off_all-requires-clause-room c =
 
 pub settle_into-requires-clause-room : goal.settle_into-requires-clause-room
 settle_into-requires-clause-room c =
-    let r : Record = record { frames = c.state.inside.frames; objects = c.state.inside.objects.list.items; servers = c.state.inside.servers; last_object = c.state.inside.last_object; last_act = c.state.inside.last_act; last_g = c.state.inside.last_g; numbers = c.state.inside.numbers } in
+    let r : Record = record { session = c.state.inside.session; frames = c.state.inside.frames; objects = c.state.inside.objects.list.items; servers = c.state.inside.servers; last_object = c.state.inside.last_object; last_act = c.state.inside.last_act; last_g = c.state.inside.last_g; numbers = c.state.inside.numbers } in
     let v : c.args.state.now ≡ r = sym c.state.view_is in
     let steady : Steady r = subst Steady v c.requires.steady in
     let ready_is : c.in-Ok.grants.items ≡ map (ready r.objects) (freed_claims c.args.inc r.objects r.frames) =
@@ -70,7 +70,7 @@ settle_into-requires-clause-room c =
 
 pub returns-clause-taken : goal.returns-clause-taken
 returns-clause-taken c =
-    let r : Record = record { frames = c.state.inside.frames; objects = c.state.inside.objects.list.items; servers = c.state.inside.servers; last_object = c.state.inside.last_object; last_act = c.state.inside.last_act; last_g = c.state.inside.last_g; numbers = c.state.inside.numbers } in
+    let r : Record = record { session = c.state.inside.session; frames = c.state.inside.frames; objects = c.state.inside.objects.list.items; servers = c.state.inside.servers; last_object = c.state.inside.last_object; last_act = c.state.inside.last_act; last_g = c.state.inside.last_g; numbers = c.state.inside.numbers } in
     let v : c.args.state.now ≡ r = sym c.state.view_is in
     let steady : Steady r = subst Steady v c.requires.steady in
     let ready_is : c.in-Ok.grants.items ≡ map (ready r.objects) (freed_claims c.args.inc r.objects r.frames) =
@@ -90,7 +90,7 @@ returns-clause-taken c =
 
 pub returns-clause-few : goal.returns-clause-few
 returns-clause-few c =
-    let r : Record = record { frames = c.state.inside.frames; objects = c.state.inside.objects.list.items; servers = c.state.inside.servers; last_object = c.state.inside.last_object; last_act = c.state.inside.last_act; last_g = c.state.inside.last_g; numbers = c.state.inside.numbers } in
+    let r : Record = record { session = c.state.inside.session; frames = c.state.inside.frames; objects = c.state.inside.objects.list.items; servers = c.state.inside.servers; last_object = c.state.inside.last_object; last_act = c.state.inside.last_act; last_g = c.state.inside.last_g; numbers = c.state.inside.numbers } in
     let v : c.args.state.now ≡ r = sym c.state.view_is in
     let steady : Steady r = subst Steady v c.requires.steady in
     let ready_is : c.in-Ok.grants.items ≡ map (ready r.objects) (freed_claims c.args.inc r.objects r.frames) =
@@ -116,5 +116,5 @@ invariant_of-state-inside c = record { rising = still c.state.inside.objects.ris
 
 pub invariant_of-state-inside-2 : goal.invariant_of-state-inside-2
 invariant_of-state-inside-2 c =
-    let q : Record = record { frames = c.free_frames.new.frames; objects = c.take_grants.new.objects.list.items; servers = c.reap.new.self; last_object = c.state.inside.last_object; last_act = c.state.inside.last_act; last_g = c.state.inside.last_g; numbers = c.state.inside.numbers } in
+    let q : Record = record { session = c.state.inside.session; frames = c.free_frames.new.frames; objects = c.take_grants.new.objects.list.items; servers = c.reap.new.self; last_object = c.state.inside.last_object; last_act = c.state.inside.last_act; last_g = c.state.inside.last_g; numbers = c.state.inside.numbers } in
     (still c.take_grants.new.objects.rising (sym (handed_kept q) ∙ ap (λ (t : Record). numbers t.objects) (c.hand_off_all.ensures.handed q refl refl)), tt)

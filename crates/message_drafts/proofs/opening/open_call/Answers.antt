@@ -1,6 +1,6 @@
 use Rattle.std.proofs.Common.{◌≡◌, ◌++◌, ◌<◌, ◌∙◌, length, sym, List, ℕ, arith}
 use Rattle.std.proofs.lemmas.List.{length-append}
-use Rattle.wire_msgs.specs.declared.message.Message.TheVariants.{Call}
+use Rattle.wire_msgs.specs.declared.message.Said.TheVariants.{Call}
 use Rattle.message_model.specs.declared.frame.Frame.TheVariants.{Message}
 use Rattle.message_model.specs.declared.codes.OperationCode.{OperationCode}
 use Rattle.message_model.specs.declared.codes.OperationCode.TheVariants as code

@@ -1,6 +1,6 @@
 use Rattle.std.proofs.Common.{◌≡◌, ◌++◌, ◌<◌, ◌∙◌, length, sym, List, ℕ, arith}
 use Rattle.std.proofs.lemmas.List.{length-append}
-use Rattle.wire_msgs.specs.declared.message.Message.TheVariants.{Reply}
+use Rattle.wire_msgs.specs.declared.message.Said.TheVariants.{Reply}
 use Rattle.message_model.specs.declared.frame.Frame.TheVariants.{Message}
 use Rattle.message_drafts.proofs.Opened.{no_answer, reply_is}
 use Rattle.message_drafts.proofs.opening.open_reply.Goals as goal

@@ -16,7 +16,7 @@ use Rattle.container_state.proofs.state.State.other_content.Goals as goal
 
 pub returns-clause-taken : goal.returns-clause-taken
 returns-clause-taken c =
-    let r : Record = record { frames = c.self.inside.frames; objects = c.self.inside.objects.list.items; servers = c.self.inside.servers; last_object = c.self.inside.last_object; last_act = c.self.inside.last_act; last_g = c.self.inside.last_g; numbers = c.self.inside.numbers } in
+    let r : Record = record { session = c.self.inside.session; frames = c.self.inside.frames; objects = c.self.inside.objects.list.items; servers = c.self.inside.servers; last_object = c.self.inside.last_object; last_act = c.self.inside.last_act; last_g = c.self.inside.last_g; numbers = c.self.inside.numbers } in
     let v : c.args.self.now ≡ r = sym c.self.view_is in
     let p : IsPlace (is_linked c.args.inc c.args.act) r.objects c.args.i = subst (λ (z : Record). IsPlace (is_linked c.args.inc c.args.act) z.objects c.args.i) v c.requires.place in
     let o : Object = c.index_mut.result.now in
@@ -41,7 +41,7 @@ returns-clause-taken c =
 
 pub returns-in-Err-clause-refused : goal.returns-in-Err-clause-refused
 returns-in-Err-clause-refused c =
-    let r : Record = record { frames = c.self.inside.frames; objects = c.self.inside.objects.list.items; servers = c.self.inside.servers; last_object = c.self.inside.last_object; last_act = c.self.inside.last_act; last_g = c.self.inside.last_g; numbers = c.self.inside.numbers } in
+    let r : Record = record { session = c.self.inside.session; frames = c.self.inside.frames; objects = c.self.inside.objects.list.items; servers = c.self.inside.servers; last_object = c.self.inside.last_object; last_act = c.self.inside.last_act; last_g = c.self.inside.last_g; numbers = c.self.inside.numbers } in
     let v : c.args.self.now ≡ r = sym c.self.view_is in
     let p : IsPlace (is_linked c.args.inc c.args.act) r.objects c.args.i = subst (λ (z : Record). IsPlace (is_linked c.args.inc c.args.act) z.objects c.args.i) v c.requires.place in
     let o : Object = c.index_mut.result.now in

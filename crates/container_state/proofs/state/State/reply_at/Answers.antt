@@ -19,7 +19,7 @@ use Rattle.container_state.proofs.state.State.reply_at.Goals as goal
 
 pub returns-in-Err-clause-refused : goal.returns-in-Err-clause-refused
 returns-in-Err-clause-refused c =
-    let r : Record = record { frames = c.self.inside.frames; objects = c.self.inside.objects.list.items; servers = c.self.inside.servers; last_object = c.self.inside.last_object; last_act = c.self.inside.last_act; last_g = c.self.inside.last_g; numbers = c.self.inside.numbers } in
+    let r : Record = record { session = c.self.inside.session; frames = c.self.inside.frames; objects = c.self.inside.objects.list.items; servers = c.self.inside.servers; last_object = c.self.inside.last_object; last_act = c.self.inside.last_act; last_g = c.self.inside.last_g; numbers = c.self.inside.numbers } in
     let v : c.args.self.now ≡ r = sym c.self.view_is in
     let p : IsPlace (is_linked c.args.inc c.args.act) r.objects c.args.place = subst (λ (x : Record). IsPlace (is_linked c.args.inc c.args.act) x.objects c.args.place) v c.requires.place in
     let g : slice_get r.objects c.args.place ≡ Some c.index_mut.result.now = slice_get-get_or r.objects c.args.place c.index_mut.result.now p.fits ∙ ap Some (sym c.index_mut.ensures.value) in
@@ -27,7 +27,7 @@ returns-in-Err-clause-refused c =
 
 pub returns-clause-taken : goal.returns-clause-taken
 returns-clause-taken c =
-    let r : Record = record { frames = c.self.inside.frames; objects = c.self.inside.objects.list.items; servers = c.self.inside.servers; last_object = c.self.inside.last_object; last_act = c.self.inside.last_act; last_g = c.self.inside.last_g; numbers = c.self.inside.numbers } in
+    let r : Record = record { session = c.self.inside.session; frames = c.self.inside.frames; objects = c.self.inside.objects.list.items; servers = c.self.inside.servers; last_object = c.self.inside.last_object; last_act = c.self.inside.last_act; last_g = c.self.inside.last_g; numbers = c.self.inside.numbers } in
     let v : c.args.self.now ≡ r = sym c.self.view_is in
     let p : IsPlace (is_linked c.args.inc c.args.act) r.objects c.args.place = subst (λ (x : Record). IsPlace (is_linked c.args.inc c.args.act) x.objects c.args.place) v c.requires.place in
     let o : Object = c.index_mut.result.now in

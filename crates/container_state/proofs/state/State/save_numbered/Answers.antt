@@ -19,7 +19,7 @@ use Rattle.container_state.proofs.state.State.save_numbered.Goals as goal
 
 pub returns-clause-taken : goal.returns-clause-taken
 returns-clause-taken c =
-    let r : Record = record { frames = c.self.inside.frames; objects = c.self.inside.objects.list.items; servers = c.self.inside.servers; last_object = c.self.inside.last_object; last_act = c.self.inside.last_act; last_g = c.self.inside.last_g; numbers = c.self.inside.numbers } in
+    let r : Record = record { session = c.self.inside.session; frames = c.self.inside.frames; objects = c.self.inside.objects.list.items; servers = c.self.inside.servers; last_object = c.self.inside.last_object; last_act = c.self.inside.last_act; last_g = c.self.inside.last_g; numbers = c.self.inside.numbers } in
     let view : r ≡ c.args.self.now = c.self.view_is in
     let f : ℕ = c.args.frame in
     let a : Frame = c.index.result.now in
@@ -41,7 +41,7 @@ returns-clause-taken c =
 
 pub invariant_of-self-inside : goal.invariant_of-self-inside
 invariant_of-self-inside c =
-    let r : Record = record { frames = c.self.inside.frames; objects = c.self.inside.objects.list.items; servers = c.self.inside.servers; last_object = c.self.inside.last_object; last_act = c.self.inside.last_act; last_g = c.self.inside.last_g; numbers = c.self.inside.numbers } in
+    let r : Record = record { session = c.self.inside.session; frames = c.self.inside.frames; objects = c.self.inside.objects.list.items; servers = c.self.inside.servers; last_object = c.self.inside.last_object; last_act = c.self.inside.last_act; last_g = c.self.inside.last_g; numbers = c.self.inside.numbers } in
     let f : ℕ = c.args.frame in
     let k : ℕ = c.index.result.now.k + 1 in
     let asking : IsAsking f (Save k) r.objects c.in-Ok.asking.actions.items c.in-Ok.asking.takes.items =

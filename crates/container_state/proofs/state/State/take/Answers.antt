@@ -11,7 +11,7 @@ pub returns-clause-taken : goal.returns-clause-taken
 returns-clause-taken c =
     let r : Record = c.args.self.now in
     IfOk-weaker c.take_numbered.result _ _ (λ a made o l frame at stands linked.
-    let s : Record = record { frames = c.self.inside.frames; objects = c.self.inside.objects.list.items; servers = c.self.inside.servers; last_object = c.self.inside.last_object; last_act = c.self.inside.last_act; last_g = c.self.inside.last_g; numbers = c.self.inside.numbers } in
+    let s : Record = record { session = c.self.inside.session; frames = c.self.inside.frames; objects = c.self.inside.objects.list.items; servers = c.self.inside.servers; last_object = c.self.inside.last_object; last_act = c.self.inside.last_act; last_g = c.self.inside.last_g; numbers = c.self.inside.numbers } in
     let view : s ≡ r = c.self.view_is in
     let there : slice_get s.frames c.args.at ≡ Some frame = subst (λ (t : Record). slice_get t.frames c.args.at ≡ Some frame) (sym view) stands in
     let y : c.index.result.now ≡ frame = read_as s.frames c.args.at c.index.result.now frame c.index.ensures there in
@@ -24,7 +24,7 @@ pub returns-clause-refused : goal.returns-clause-refused
 returns-clause-refused c =
     let r : Record = c.args.self.now in
     IfErr-weaker c.take_numbered.result _ _ (λ e is o l frame at stands linked.
-    let s : Record = record { frames = c.self.inside.frames; objects = c.self.inside.objects.list.items; servers = c.self.inside.servers; last_object = c.self.inside.last_object; last_act = c.self.inside.last_act; last_g = c.self.inside.last_g; numbers = c.self.inside.numbers } in
+    let s : Record = record { session = c.self.inside.session; frames = c.self.inside.frames; objects = c.self.inside.objects.list.items; servers = c.self.inside.servers; last_object = c.self.inside.last_object; last_act = c.self.inside.last_act; last_g = c.self.inside.last_g; numbers = c.self.inside.numbers } in
     let view : s ≡ r = c.self.view_is in
     let there : slice_get s.frames c.args.at ≡ Some frame = subst (λ (t : Record). slice_get t.frames c.args.at ≡ Some frame) (sym view) stands in
     let y : c.index.result.now ≡ frame = read_as s.frames c.args.at c.index.result.now frame c.index.ensures there in

@@ -16,7 +16,7 @@ use Rattle.container_state.proofs.state.State.take_numbered.Goals as goal
 
 pub returns-clause-taken : goal.returns-clause-taken
 returns-clause-taken c o l frame at stands linked =
-    let s : Record = record { frames = c.self.inside.frames; objects = c.self.inside.objects.list.items; servers = c.self.inside.servers; last_object = c.self.inside.last_object; last_act = c.self.inside.last_act; last_g = c.self.inside.last_g; numbers = c.self.inside.numbers } in
+    let s : Record = record { session = c.self.inside.session; frames = c.self.inside.frames; objects = c.self.inside.objects.list.items; servers = c.self.inside.servers; last_object = c.self.inside.last_object; last_act = c.self.inside.last_act; last_g = c.self.inside.last_g; numbers = c.self.inside.numbers } in
     let view : s ≡ c.args.self.now = c.self.view_is in
     let here : slice_get s.objects c.args.i ≡ Some o = subst (λ (t : Record). slice_get t.objects c.args.i ≡ Some o) (sym view) at in
     let there : slice_get s.frames c.args.at ≡ Some frame = subst (λ (t : Record). slice_get t.frames c.args.at ≡ Some frame) (sym view) stands in
