@@ -79,19 +79,19 @@ run_fine r x inc passive known left = run_known r x inc passive known ∙ ap (λ
 
 -- the record after it
 pub run_is : (s r u : Record) (i inc : ℕ) (x x2 y : Object) (l : Link) (actions : List Action) (a : Answer) → s ≡ r → IsObjectAt r.objects i → x ≡ get_or s.objects i x → x2 ≡ get_or s.objects i x2
-    → l ≡ begun_link inc (s.last_act + 1) (first_operation x x.work.streams) → actions ≡ sends (Call inc (s.last_act + 1) 1 (first_operation x x.work.streams) ∷ [])
+    → l ≡ begun_link s.session inc (s.last_act + 1) (first_operation x x.work.streams) → actions ≡ sends (record { session = s.session; said = Call inc (s.last_act + 1) 1 (first_operation x x.work.streams) } ∷ [])
     → y ≡ record x2 { link = Some l } → u ≡ record s { objects = set s.objects i y; last_act = s.last_act + 1 } → a ≡ acts actions
     → run_made r x inc ≡ counts_none u a
 run_is s r u i inc x x2 y l actions a e p at again link sent new is told =
     let here : slice_get r.objects i ≡ Some x = object_here s r i x e p.fits at in
     let own : IsPlace (is_object x.number) r.objects i = own_here r i x here p in
     let q : IsPlace (is_object x.number) s.objects i = subst (λ (t : Record). IsPlace (is_object x.number) t.objects i) (sym e) own in
-    let o : Object = record x { link = Some (begun_link inc (s.last_act + 1) (first_operation x x.work.streams)) } in
+    let o : Object = record x { link = Some (begun_link s.session inc (s.last_act + 1) (first_operation x x.work.streams)) } in
     let same : y ≡ o = new ∙ (ap (λ (z : Object). record z { link = Some l }) (same_read s r i x x2 e p.fits at again) ∙ ap (λ (k : Link). record x { link = Some k }) link) in
     let objects : put (is_object x.number) o s.objects ≡ set s.objects i y = q.puts o ∙ ap (set s.objects i) (sym same) in
     let rec : ◌≡◌ {A = Record} (record s { objects = put (is_object x.number) o s.objects; last_act = s.last_act + 1 }) u = ap (λ (os : List Object). record s { objects = os; last_act = s.last_act + 1 }) objects ∙ sym is in
-    let answer : acts (sends (Call inc (s.last_act + 1) 1 (first_operation x x.work.streams) ∷ [])) ≡ a = ap acts (sym sent) ∙ sym told in
-    ap (λ (t : Record). run_made t x inc) (sym e) ∙ (ap (λ t. counts_none t (acts (sends (Call inc (s.last_act + 1) 1 (first_operation x x.work.streams) ∷ [])))) rec ∙ ap (counts_none u) answer)
+    let answer : acts (sends (record { session = s.session; said = Call inc (s.last_act + 1) 1 (first_operation x x.work.streams) } ∷ [])) ≡ a = ap acts (sym sent) ∙ sym told in
+    ap (λ (t : Record). run_made t x inc) (sym e) ∙ (ap (λ t. counts_none t (acts (sends (record { session = s.session; said = Call inc (s.last_act + 1) 1 (first_operation x x.work.streams) } ∷ [])))) rec ∙ ap (counts_none u) answer)
 
 -- an object that is deleted
 pub delete_linked : (r : Record) (x : Object) → is_some x.link ≡ true → unless (is_some x.link) WrongState (Ok (delete_made r x)) ≡ Err WrongState

@@ -140,8 +140,8 @@ pub passive_out : (r : Record) (x : Object) → Steady r → find (is_object x.n
 passive_out r x s found none frame at = out_of r x.frame frame.ui.state x (s.grants x.frame frame at) found none
 
 -- a passive object begins
-begun_by : (servers : List Bool) (last_act : ℕ) (asked : Option (List ℕ)) (k inc act : ℕ) (op : Operation) → act ≤ last_act → is_unreaped (nth servers inc) ≡ true → IsBeginning op → IsOkAnd (ended (Ok both.loaded) (op ∷ [])) (EndsWell Idle asked k Other) → IsTimely Idle None op → IsPlain op → SteadyLink servers last_act Idle asked k Other (Commands.begun_link inc act op)
-begun_by servers last_act asked k inc act op a s b runs timely plain = record {
+begun_by : (servers : List Bool) (last_act : ℕ) (asked : Option (List ℕ)) (k session inc act : ℕ) (op : Operation) → act ≤ last_act → is_unreaped (nth servers inc) ≡ true → IsBeginning op → IsOkAnd (ended (Ok both.loaded) (op ∷ [])) (EndsWell Idle asked k Other) → IsTimely Idle None op → IsPlain op → SteadyLink servers last_act Idle asked k Other (Commands.begun_link session inc act op)
+begun_by servers last_act asked k session inc act op a s b runs timely plain = record {
   acts_drawn = a;
   servers_told = s;
   first_call = inl (record { states = refl; last = refl; alone = refl; pending = b });
@@ -154,10 +154,10 @@ begun_by servers last_act asked k inc act op a s b runs timely plain = record {
   plays = (plain, tt);
 }
 
-begun_steady : (servers : List Bool) (last_act : ℕ) (asked : Option (List ℕ)) (k inc act : ℕ) (op : Operation) → act ≤ last_act → is_unreaped (nth servers inc) ≡ true → IsBeginning op → SteadyLink servers last_act Idle asked k Other (Commands.begun_link inc act op)
-begun_steady servers last_act asked k inc act (InitNew class) a s b = begun_by servers last_act asked k inc act (InitNew class) a s b (record { storage = refl; last_save = tt; running = tt; waits = tt }) tt tt
-begun_steady servers last_act asked k inc act (Load class content) a s b = begun_by servers last_act asked k inc act (Load class content) a s b (record { storage = refl; last_save = tt; running = tt; waits = tt }) tt tt
-begun_steady servers last_act asked k inc act _ a s b = absurd b
+begun_steady : (servers : List Bool) (last_act : ℕ) (asked : Option (List ℕ)) (k session inc act : ℕ) (op : Operation) → act ≤ last_act → is_unreaped (nth servers inc) ≡ true → IsBeginning op → SteadyLink servers last_act Idle asked k Other (Commands.begun_link session inc act op)
+begun_steady servers last_act asked k session inc act (InitNew class) a s b = begun_by servers last_act asked k session inc act (InitNew class) a s b (record { storage = refl; last_save = tt; running = tt; waits = tt }) tt tt
+begun_steady servers last_act asked k session inc act (Load class content) a s b = begun_by servers last_act asked k session inc act (Load class content) a s b (record { storage = refl; last_save = tt; running = tt; waits = tt }) tt tt
+begun_steady servers last_act asked k session inc act _ a s b = absurd b
 
 pub first_begins : (o : Object) (streams : List NamedStream) → IsBeginning (Commands.first_operation o streams)
 first_begins o [] = tt
@@ -170,7 +170,7 @@ old_act r o h =
 
 module _ (r : Record) (o : Object) (inc : ℕ) (op : Operation) (frame : Frame) (s : Steady r) (found : find (is_object o.number) r.objects ≡ Some o) (alive : is_alive r inc ≡ true) (begins : IsBeginning op) (at : nth r.frames o.frame ≡ Some frame) (idle : frame.phase ≡ Idle) (passive : o.link ≡ None) where
   abbrev begun : Object
-  begun = record o { link = Some (Commands.begun_link inc (r.last_act + 1) op) }
+  begun = record o { link = Some (Commands.begun_link r.session inc (r.last_act + 1) op) }
 
   abbrev after : Record
   after = record r { objects = put (is_object o.number) begun r.objects; last_act = r.last_act + 1 }
@@ -188,9 +188,9 @@ module _ (r : Record) (o : Object) (inc : ℕ) (op : Operation) (frame : Frame) 
         within = was.within;
         user_type = was.user_type;
         linked = and_some (HeldIn after begun.number begun.link) (nth r.frames o.frame) frame at
-            (subst (λ (p : Phase). SteadyLink r.servers (r.last_act + 1) p frame.asked frame.k (role_in frame.ui.state o.number) (Commands.begun_link inc (r.last_act + 1) op)) (sym idle)
-            (subst (λ (role : Role). SteadyLink r.servers (r.last_act + 1) Idle frame.asked frame.k role (Commands.begun_link inc (r.last_act + 1) op)) (sym (passive_out r o s found passive frame at))
-            (begun_steady r.servers (r.last_act + 1) frame.asked frame.k inc (r.last_act + 1) op (omega arith) alive begins)));
+            (subst (λ (p : Phase). SteadyLink r.servers (r.last_act + 1) p frame.asked frame.k (role_in frame.ui.state o.number) (Commands.begun_link r.session inc (r.last_act + 1) op)) (sym idle)
+            (subst (λ (role : Role). SteadyLink r.servers (r.last_act + 1) Idle frame.asked frame.k role (Commands.begun_link r.session inc (r.last_act + 1) op)) (sym (passive_out r o s found passive frame at))
+            (begun_steady r.servers (r.last_act + 1) frame.asked frame.k r.session inc (r.last_act + 1) op (omega arith) alive begins)));
       }
 
   pub run_steady : Steady after

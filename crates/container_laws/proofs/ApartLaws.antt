@@ -4,6 +4,7 @@ use Rattle.std.proofs.lemmas.Bool.{eqb-true, eqb-false}
 use Rattle.std.proofs.lemmas.List.{append-nil}
 use Rattle.wire_msgs.specs.Found.{find, nth, set_nth}
 use Rattle.wire_msgs.specs.declared.answer.Answer.{Answer}
+use Rattle.wire_msgs.specs.declared.message.Said.{Said}
 use Rattle.wire_msgs.specs.declared.message.Message.{Message}
 use Rattle.wire_msgs.specs.declared.message.Said.TheVariants.{Call, Reply, Write, Ask}
 use Rattle.wire_msgs.specs.declared.operation.Operation.{Operation}
@@ -12,6 +13,7 @@ use Rattle.grant_core.specs.Frames.{after}
 use Rattle.grant_core.specs.Grants as grant
 use Rattle.grant_core.specs.Grants.{Event, who}
 use Rattle.grant_core.specs.declared.grant_states.Claim.{Claim}
+use Rattle.container_model.specs.declared.server_link.ServerLink.{ServerLink}
 use Rattle.container_model.specs.declared.grants.Tells.{Tells}
 use Rattle.container_model.specs.declared.grants.Tells.TheVariants.{Gets, GivesUp}
 use Rattle.container_model.specs.declared.record.Frame.{Frame}
@@ -26,10 +28,11 @@ use Rattle.container_model.specs.Inputs.{Input}
 use Rattle.container_model.specs.Messages.{Replied, ask_found, ask_framed, is_held_by, on_ask, on_message, on_reply, replied_grant, replied_record, replied_saving, reply_found, reply_link, reply_made, reply_taken}
 use Rattle.container_model.specs.Record.{Record, Took, ask_at, asked_link, is_alive, is_link, is_linked, is_object}
 use Rattle.container_model.specs.Saves.{is_ready, settled_frame, settled_frames}
+use Rattle.container_model.proofs.SaidOn.{is_said_on, said_on}
 use Rattle.container_laws.specs.Apart.{KeepsActivation, KeepsFrame, KeepsLink, KeepsObject, MessagesStayApart, StaysApart, is_of_server}
 use Rattle.container_laws.specs.Laws.{StaysOrIsAsked, StaysOrIsGranted, is_about}
 use Rattle.container_laws.proofs.FreedLaws.{granted_frames, requested_frames}
-use Rattle.container_laws.proofs.MessageLaws.{only-expected_messages}
+use Rattle.container_laws.proofs.MessageLaws.{only_expected}
 use Rattle.container_laws.proofs.MessagesKeep.{messages-keep_others}
 use Rattle.container_laws.proofs.WriteLaws.{taken_if, write_taken}
 use Rattle.container_steady.specs.Roles.{IsClaim, role_in}
@@ -116,16 +119,16 @@ not_linked : (inc act link : ℕ) (k : Option Link) → inc ≡ link → is_host
 not_linked inc act link None same h = refl
 not_linked inc act link (Some l) same h = (let e : (l.inc == inc) ≡ false = ap (λ (n : ℕ). l.inc == n) same ∙ h in rw e refl)
 
-about_others : (r : Record) (link : ℕ) (m : Message) (t : Took) → on_message r link m ≡ Ok t → (o : Object) → is_hosted link o.link ≡ false → is_about m o ≡ false
+about_others : (r : Record) (link : ℕ) (m : Said) (t : Took) → said_on r link m ≡ Ok t → (o : Object) → is_hosted link o.link ≡ false → is_about m o ≡ false
 about_others r link (Call inc act n op) t e o h = cc
-about_others r link (Reply inc act n answer) t e o h = not_linked inc act link o.link (only-expected_messages r link (Reply inc act n answer) t e).0 h
-about_others r link (Write inc act n w content) t e o h = not_linked inc act link o.link (only-expected_messages r link (Write inc act n w content) t e).0 h
-about_others r link (Ask inc act g) t e o h = not_linked inc act link o.link (only-expected_messages r link (Ask inc act g) t e).0 h
+about_others r link (Reply inc act n answer) t e o h = not_linked inc act link o.link (only_expected r link (Reply inc act n answer) t e).0 h
+about_others r link (Write inc act n w content) t e o h = not_linked inc act link o.link (only_expected r link (Write inc act n w content) t e).0 h
+about_others r link (Ask inc act g) t e o h = not_linked inc act link o.link (only_expected r link (Ask inc act g) t e).0 h
 
-objects_stay : (r : Record) (link : ℕ) (m : Message) (t : Took) → Steady r → on_message r link m ≡ Ok t → (n : ℕ) (o : Object) → find (is_object n) r.objects ≡ Some o → is_hosted link o.link ≡ false → (p : Object) × (find (is_object n) t.rec.objects ≡ Some p) × KeepsObject o p
+objects_stay : (r : Record) (link : ServerLink) (m : Message) (t : Took) → Steady r → on_message r link m ≡ Ok t → (n : ℕ) (o : Object) → find (is_object n) r.objects ≡ Some o → is_hosted link.inc o.link ≡ false → (p : Object) × (find (is_object n) t.rec.objects ≡ Some p) × KeepsObject o p
 objects_stay r link m t s e n o found other =
     let i = place_of n r.objects o found in
-    let k = messages-keep_others r link m t s e i.0 o i.1 (about_others r link m t e o other) in
+    let k = messages-keep_others r link m t s e i.0 o i.1 (about_others r link.inc m.said t (is_said_on r link m t e).said o other) in
     let keeps = stays_or_asked r o k.0 k.2 in
     let later : Steady t.rec = on_input_keeps r (Input.Told link m) t s e in
     let here : find (is_object k.0.number) t.rec.objects ≡ Some k.0 = each_get (λ (x : Object). find (is_object x.number) t.rec.objects ≡ Some x) t.rec.objects i.0 k.0 (each_own t.rec.objects later.order) k.1 in
@@ -256,7 +259,7 @@ module _ (r : Record) (link : ℕ) (t : Took) (s : Steady r) (f : ℕ) (frame : 
   ask_found_stays inc act g None same found e = cc
   ask_found_stays inc act g (Some o) same found e = ask_stays r link inc act f frame s same at others o found g (nth r.frames o.frame) t refl e
 
-  frame_stays : (m : Message) → on_message r link m ≡ Ok t → Stays frame f t.rec.frames
+  frame_stays : (m : Said) → said_on r link m ≡ Ok t → Stays frame f t.rec.frames
   frame_stays (Call inc act n op) e = cc
   frame_stays (Reply inc act n answer) e =
       let a = taken_if (inc == link) (on_reply r inc act n answer) WrongLink t e in
@@ -273,7 +276,7 @@ module _ (r : Record) (link : ℕ) (t : Took) (s : Steady r) (f : ℕ) (frame : 
 pub messages-stay_apart : MessagesStayApart
 messages-stay_apart r link m t s e = record {
   objects = objects_stay r link m t s e;
-  frames = λ f frame at others. frame_stays r link t s f frame at others m e;
+  frames = λ f frame at others. frame_stays r link.inc t s f frame at others m.said (is_said_on r link m t e).said;
 }
 
 -- what is refused changes nothing

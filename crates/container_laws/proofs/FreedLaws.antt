@@ -5,6 +5,8 @@ use Rattle.wire_msgs.specs.Found.{find, nth, set_nth}
 use Rattle.wire_msgs.specs.Operations.{op_of}
 use Rattle.wire_msgs.specs.declared.answer.Answer.{Answer}
 use Rattle.wire_msgs.specs.declared.answer.Answer.TheVariants.{Done, Refused, Content, Tools}
+use Rattle.wire_msgs.specs.declared.message.Message.{Message}
+use Rattle.wire_msgs.specs.declared.message.Said.{Said}
 use Rattle.wire_msgs.specs.declared.message.Said.TheVariants.{Call, Reply, Write, Ask}
 use Rattle.wire_msgs.specs.declared.operation.Operation.{Operation}
 use Rattle.wire_msgs.specs.declared.operation.Operation.TheVariants.{InitNew, Load, InPlace, UiActivate, UiDeactivate, InPlaceDeactivate, OpenWindow, Edit, Save, HandsOff, SaveCompleted, SaveDropped, Close}
@@ -34,6 +36,7 @@ use Rattle.container_model.specs.HandOffs.{hand_off_in, is_answered, unasked}
 use Rattle.container_model.specs.Record.{Record, Took, is_alive, is_linked, is_object}
 use Rattle.container_model.specs.Saves.{settled_frame, settled_frames}
 use Rattle.container_model.specs.Messages.{Replied, ask_found, ask_framed, closed_with, done_link, granted_link, is_held_by, on_ask, on_reply, relieved, replied, replied_fitting, replied_grant, replied_record, replied_saving, reply_found, reply_link, reply_pending, reply_made, reply_taken, saved_link}
+use Rattle.container_model.proofs.SaidOn.{is_said_on, said_on}
 use Rattle.container_laws.specs.Laws.{FreedByHolders, GivesUp}
 use Rattle.container_steady.specs.Roles.{IsClaim, SteadyGrant, role_in}
 use Rattle.container_steady.specs.Steady.{Steady, SteadyObject}
@@ -287,16 +290,19 @@ module _ (r : Record) (link : ℕ) (t : Took) (f : ℕ) (frame : Frame) (holder 
   found_freed inc act n answer None found e = cc
   found_freed inc act n answer (Some o) found e = taken_freed inc act n answer o (reply_link n answer o.link) found refl e
 
-pub freed-by_holders : FreedByHolders
-freed-by_holders r link (Call inc act n op) t f frame holder s e at has = cc
-freed-by_holders r link (Reply inc act n answer) t f frame holder s e at has =
+freed_by_said : (r : Record) (link : ℕ) (m : Said) (t : Took) (f : ℕ) (frame : Frame) (holder : Claim) → Steady r → said_on r link m ≡ Ok t → nth r.frames f ≡ Some frame → who frame.ui.state ≡ Some holder → Kept t.rec.frames f holder ⊎ GivesUp r m frame holder
+freed_by_said r link (Call inc act n op) t f frame holder s e at has = cc
+freed_by_said r link (Reply inc act n answer) t f frame holder s e at has =
     let a = taken_if (inc == link) (on_reply r inc act n answer) WrongLink t e in
     let b = taken_if (is_alive r inc) (reply_found r inc act n answer (find (is_linked inc act) r.objects)) Stale t a.1 in
     found_freed r link t f frame holder s at has inc act n answer (find (is_linked inc act) r.objects) refl b.1
-freed-by_holders r link (Write inc act w1 w2 content) t f frame holder s e at has =
+freed_by_said r link (Write inc act w1 w2 content) t f frame holder s e at has =
     let h = write_taken r link inc act w1 w2 content t e in
     inl (frame, ap (λ (u : Record). nth u.frames f) h.made ∙ at, has)
-freed-by_holders r link (Ask inc act g) t f frame holder s e at has =
+freed_by_said r link (Ask inc act g) t f frame holder s e at has =
     let a = taken_if (inc == link) (on_ask r inc act g) WrongLink t e in
     let b = taken_if (is_alive r inc) (ask_found r act g (find (is_linked inc act) r.objects)) Stale t a.1 in
     inl (ask_found_freed r link t f frame holder s at has act g (find (is_linked inc act) r.objects) b.1)
+
+pub freed-by_holders : FreedByHolders
+freed-by_holders r link m t f frame holder s e at has = freed_by_said r link.inc m.said t f frame holder s (is_said_on r link m t e).said at has

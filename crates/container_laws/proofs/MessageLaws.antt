@@ -1,8 +1,9 @@
 -- The laws of messages and of the end of a server.
-use Rattle.std.proofs.Common.{◌≡◌, ◌≢◌, ◌==◌, ℕ, Bool, true, false, [], Option, Some, None, Ok, Err, Result, refl, ap, sym, ◌∙◌, if◌then◌else◌, eq-eqb}
+use Rattle.std.proofs.Common.{◌≡◌, ◌≢◌, ◌==◌, ◌&&◌, inl, inr, ℕ, Bool, true, false, [], Option, Some, None, Ok, Err, Result, refl, ap, sym, ◌∙◌, if◌then◌else◌, eq-eqb}
 use Rattle.std.proofs.lemmas.Bool.{eqb-true, ne_eqb}
 use Rattle.wire_msgs.specs.Found.{find, nth}
 use Rattle.wire_msgs.specs.declared.answer.Answer.{Answer}
+use Rattle.wire_msgs.specs.declared.message.Said.{Said}
 use Rattle.wire_msgs.specs.declared.message.Said.TheVariants.{Call, Reply, Write, Ask}
 use Rattle.wire_msgs.specs.declared.operation.Operation.{Operation}
 use Rattle.container_model.specs.declared.record.Link.{Link}
@@ -11,8 +12,9 @@ use Rattle.container_model.specs.declared.record.Frame.{Frame}
 use Rattle.container_model.specs.declared.fault.ContainerFault.{ContainerFault}
 use Rattle.container_model.specs.declared.fault.ContainerFault.TheVariants.{BadAnswer, Stale, WrongLink}
 use Rattle.container_model.specs.Record.{Record, Took, is_alive, is_linked}
-use Rattle.container_model.specs.Messages.{Replied, ask_found, ask_framed, is_fit, is_held_by, on_ask, on_reply, replied, replied_fitting, replied_saving, reply_found, reply_link, reply_pending, reply_taken}
-use Rattle.container_laws.specs.Laws.{OnlyExpectedMessages, OtherAsksAreStale, OtherServersAreRefused, OthersAreStale, is_held_in, is_open_in, pending_in, pending_number, takes_ask, takes_write}
+use Rattle.container_model.specs.Messages.{Replied, ask_found, ask_framed, is_fit, is_held_by, is_said_by, on_ask, on_reply, replied, replied_fitting, replied_saving, reply_found, reply_link, reply_pending, reply_taken}
+use Rattle.container_model.proofs.SaidOn.{earlier_stale, is_said_on, other_refused, other_session_off, own_stale, said_on}
+use Rattle.container_laws.specs.Laws.{EarlierSessionsAreStale, IsSaidAsExpected, OnlyExpectedMessages, OtherAsksAreStale, OtherServersAreRefused, OthersAreStale, is_held_in, is_open_in, pending_in, pending_number, server_of, takes_ask, takes_write}
 use Rattle.container_laws.proofs.WriteLaws.{taken_if, write_taken}
 
 -- a reply to another call than the pending one
@@ -35,9 +37,8 @@ stale_alive true R e = e
 stale_alive false R e = refl
 
 pub others-are_stale : OthersAreStale
-others-are_stale r inc act n answer h =
-    let same : (inc == inc) ≡ true = eq-eqb inc inc refl in
-    rw same (stale_alive (is_alive r inc) (reply_found r inc act n answer (find (is_linked inc act) r.objects)) (stale_found r inc act n answer (find (is_linked inc act) r.objects) h))
+others-are_stale r session inc act n answer h = own_stale r session inc (Reply inc act n answer) (eq-eqb inc inc refl)
+    (stale_alive (is_alive r inc) (reply_found r inc act n answer (find (is_linked inc act) r.objects)) (stale_found r inc act n answer (find (is_linked inc act) r.objects) h))
 
 -- the reply that moves a record answers the pending call
 fit_of : (l : Link) (op : Operation) (answer : Answer) (x : Replied) → replied_fitting l op answer ≡ Ok x → is_fit answer ≡ true
@@ -71,9 +72,8 @@ ask_stale r act g None h = refl
 ask_stale r act g (Some o) h = ask_framed_stale r o act g (nth r.frames o.frame) h
 
 pub other-asks_are_stale : OtherAsksAreStale
-other-asks_are_stale r inc act g h =
-    let same : (inc == inc) ≡ true = eq-eqb inc inc refl in
-    rw same (stale_alive (is_alive r inc) (ask_found r act g (find (is_linked inc act) r.objects)) (ask_stale r act g (find (is_linked inc act) r.objects) h))
+other-asks_are_stale r session inc act g h = own_stale r session inc (Ask inc act g) (eq-eqb inc inc refl)
+    (stale_alive (is_alive r inc) (ask_found r act g (find (is_linked inc act) r.objects)) (ask_stale r act g (find (is_linked inc act) r.objects) h))
 
 pub taken_of : (r : Record) (inc act : ℕ) (o : Object) (R : Result Replied ContainerFault) (t : Took) → reply_taken r inc act o R ≡ Ok t → (x : Replied) × (R ≡ Ok x) × (t.rec.objects ≡ (replied_saving r inc act o x).rec.objects)
 taken_of r inc act o (Err fault) t e = cc
@@ -85,23 +85,39 @@ number_of r inc act n answer (Some o) t e =
     let x = taken_of r inc act o (reply_link n answer o.link) t e in
     link_of n answer o.link x.0 x.1
 
-pub only-expected_messages : OnlyExpectedMessages
-only-expected_messages r link (Call inc act n op) t e = cc
-only-expected_messages r link (Reply inc act n answer) t e =
+-- what is said and taken is expected
+pub only_expected : (r : Record) (link : ℕ) (m : Said) (t : Took) → said_on r link m ≡ Ok t → IsSaidAsExpected r link m
+only_expected r link (Call inc act n op) t e = cc
+only_expected r link (Reply inc act n answer) t e =
     let a = taken_if (inc == link) (on_reply r inc act n answer) WrongLink t e in
     let b = taken_if (is_alive r inc) (reply_found r inc act n answer (find (is_linked inc act) r.objects)) Stale t a.1 in
     let c = number_of r inc act n answer (find (is_linked inc act) r.objects) t b.1 in
     (eqb-true inc link a.0, b.0, c.0, c.1)
-only-expected_messages r link (Write inc act s w content) t e =
+only_expected r link (Write inc act s w content) t e =
     let h = write_taken r link inc act s w content t e in
     (h.same, h.alive, ap (takes_write s w) h.found ∙ (ap (is_open_in s w) h.is ∙ h.opened), h.within)
-only-expected_messages r link (Ask inc act g) t e =
+only_expected r link (Ask inc act g) t e =
     let a = taken_if (inc == link) (on_ask r inc act g) WrongLink t e in
     let b = taken_if (is_alive r inc) (ask_found r act g (find (is_linked inc act) r.objects)) Stale t a.1 in
     (eqb-true inc link a.0, b.0, ask_taken r act g (find (is_linked inc act) r.objects) t b.1)
 
+pub only-expected_messages : OnlyExpectedMessages
+only-expected_messages r link m t e = (let h = is_said_on r link m t e in record { session = h.session; present = h.present; said = only_expected r link.inc m.said t h.said })
+
+-- what another incarnation says
+other_inc : (link : ℕ) (m : Said) → server_of m ≢ link → is_said_by link m ≡ false
+other_inc link (Call inc act n op) h = refl
+other_inc link (Reply inc act n answer) h = ne_eqb inc link h
+other_inc link (Write inc act s w content) h = ne_eqb inc link h
+other_inc link (Ask inc act g) h = ne_eqb inc link h
+
+off_by : (a b : Bool) → b ≡ false → (a && b) ≡ false
+off_by true b e = e
+off_by false b e = refl
+
 pub other-servers_are_refused : OtherServersAreRefused
-other-servers_are_refused r link (Call inc act n op) h = refl
-other-servers_are_refused r link (Reply inc act n answer) h = let f : (inc == link) ≡ false = ne_eqb inc link h in rw f refl
-other-servers_are_refused r link (Write inc act s w content) h = let f : (inc == link) ≡ false = ne_eqb inc link h in rw f refl
-other-servers_are_refused r link (Ask inc act g) h = let f : (inc == link) ≡ false = ne_eqb inc link h in rw f refl
+other-servers_are_refused r link m (inl session) = other_refused r link m (other_session_off link m session)
+other-servers_are_refused r link m (inr inc) = other_refused r link m (off_by (m.session == link.session) (is_said_by link.inc m.said) (other_inc link.inc m.said inc))
+
+pub earlier-sessions_are_stale : EarlierSessionsAreStale
+earlier-sessions_are_stale r link m own other = earlier_stale r link m own other

@@ -2,6 +2,7 @@
 use Rattle.std.proofs.Common.{◌≡◌, inl, inr, ℕ, ◌==◌, Bool, true, false, List, [], ◌∷◌, Option, Some, None, Ok, Err, slice_get, refl, sym, ap, ◌∙◌, subst, if◌then◌else◌}
 use Rattle.wire_msgs.specs.Found.{find, nth, put, set_nth}
 use Rattle.wire_msgs.specs.declared.answer.Answer.{Answer}
+use Rattle.wire_msgs.specs.declared.message.Said.{Said}
 use Rattle.wire_msgs.specs.declared.message.Message.{Message}
 use Rattle.wire_msgs.specs.declared.message.Said.TheVariants.{Call, Reply, Write, Ask}
 use Rattle.wire_msgs.specs.declared.operation.Operation.TheVariants.{UiDeactivate}
@@ -21,6 +22,7 @@ use Rattle.container_model.specs.Grants.{event_of, grant_each, grant_of, is_by, 
 use Rattle.container_model.specs.HandOffs.{hand_off_in, is_answered, unasked}
 use Rattle.container_model.specs.Record.{Record, Took, is_alive, is_linked, is_object}
 use Rattle.container_model.specs.Messages.{Replied, ask_found, ask_framed, is_held_by, on_ask, on_message, on_reply, relieved, replied_grant, replied_object, replied_record, reply_found, reply_link, reply_taken, written_object}
+use Rattle.container_model.proofs.SaidOn.{is_said_on, said_on}
 use Rattle.container_laws.specs.Laws.{StaysOrIsAsked, StaysOrIsGranted, is_about}
 use Rattle.container_steady.specs.Roles.{IsClaim}
 use Rattle.container_steady.specs.Steady.{EachPair, InOrder, Steady, SteadyObject}
@@ -165,18 +167,21 @@ module _ (r : Record) (s : Steady r) (i : ℕ) (o : Object) (at : slice_get r.ob
   ask_found_others g None t found e = cc
   ask_found_others g (Some p) t found e = ask_others p found g (nth r.frames p.frame) t e
 
-pub messages-keep_others : (r : Record) (link : ℕ) (m : Message) (t : Took) → Steady r → on_message r link m ≡ Ok t → (i : ℕ) (o : Object) → slice_get r.objects i ≡ Some o → is_about m o ≡ false
+pub said_keep_others : (r : Record) (link : ℕ) (m : Said) (t : Took) → Steady r → said_on r link m ≡ Ok t → (i : ℕ) (o : Object) → slice_get r.objects i ≡ Some o → is_about m o ≡ false
     → (later : Object) × (slice_get t.rec.objects i ≡ Some later) × StaysOrIsAsked r o later
-messages-keep_others r link (Call inc act n op) t s e i o at other = cc
-messages-keep_others r link (Reply inc act n answer) t s e i o at other =
+said_keep_others r link (Call inc act n op) t s e i o at other = cc
+said_keep_others r link (Reply inc act n answer) t s e i o at other =
     let a = taken_if (inc == link) (on_reply r inc act n answer) WrongLink t e in
     let b = taken_if (is_alive r inc) (reply_found r inc act n answer (find (is_linked inc act) r.objects)) Stale t a.1 in
     reply_found_others r s i o at inc act other n answer (find (is_linked inc act) r.objects) t refl b.1
-messages-keep_others r link (Write inc act n w content) t s e i o at other =
+said_keep_others r link (Write inc act n w content) t s e i o at other =
     let h = write_taken r link inc act n w content t e in
     let made : t.rec.objects ≡ put (is_linked inc act) (written_object h.o h.l w content) r.objects = ap (λ (z : Record). z.objects) h.made in
     (o, ap (λ (os : List Object). slice_get os i) made ∙ put_keeps (is_linked inc act) (written_object h.o h.l w content) r.objects i o at other, (o, inl refl, inl refl))
-messages-keep_others r link (Ask inc act g) t s e i o at other =
+said_keep_others r link (Ask inc act g) t s e i o at other =
     let a = taken_if (inc == link) (on_ask r inc act g) WrongLink t e in
     let b = taken_if (is_alive r inc) (ask_found r act g (find (is_linked inc act) r.objects)) Stale t a.1 in
     ask_found_others r s i o at inc act other g (find (is_linked inc act) r.objects) t refl b.1
+
+pub messages-keep_others : MessagesKeepOthers
+messages-keep_others r link m t s e i o at other = said_keep_others r link.inc m.said t s (is_said_on r link m t e).said i o at other

@@ -10,7 +10,8 @@ use Rattle.container_model.specs.declared.record.Object.{Object}
 use Rattle.container_model.specs.declared.fault.ContainerFault.{ContainerFault}
 use Rattle.container_model.specs.declared.fault.ContainerFault.TheVariants.{BadAnswer, Stale, WrongLink}
 use Rattle.container_model.specs.Record.{Record, Took, is_alive, is_linked}
-use Rattle.container_model.specs.Messages.{is_open_to, on_message, on_write, write_found, write_link, write_made, written_object}
+use Rattle.container_model.specs.Messages.{is_open_to, on_write, write_found, write_link, write_made, written_object}
+use Rattle.container_model.proofs.SaidOn.{is_said_on, own_stale, said_on}
 use Rattle.container_laws.specs.Laws.{OtherWritesAreStale, WritesAreKept, is_open_in, takes_write}
 
 -- what is done on a test that holds, where it is refused otherwise
@@ -45,15 +46,15 @@ module _ (r : Record) (link inc act s w : ℕ) (content : Stored) (t : Took) (sa
   found_taken None found e = cc
   found_taken (Some o) found e = linked_taken o o.link found refl e
 
-pub write_taken : (r : Record) (link inc act s w : ℕ) (content : Stored) (t : Took) → on_message r link (Write inc act s w content) ≡ Ok t → WriteTaken r link inc act s w content t
+pub write_taken : (r : Record) (link inc act s w : ℕ) (content : Stored) (t : Took) → said_on r link (Write inc act s w content) ≡ Ok t → WriteTaken r link inc act s w content t
 write_taken r link inc act s w content t e =
     let a = taken_if (inc == link) (on_write r inc act s w content) WrongLink t e in
     let b = taken_if (is_alive r inc) (write_found r inc act s w content (find (is_linked inc act) r.objects)) Stale t a.1 in
     found_taken r link inc act s w content t (eqb-true inc link a.0) b.0 (find (is_linked inc act) r.objects) refl b.1
 
 pub writes-are_kept : WritesAreKept
-writes-are_kept r link inc act s w content t e =
-    let h = write_taken r link inc act s w content t e in
+writes-are_kept r link session inc act s w content t e =
+    let h = write_taken r link.inc inc act s w content t (is_said_on r link (record { session = session; said = Write inc act s w content }) t e).said in
     (h.o, h.l, h.found, h.is, h.made)
 
 -- other writes
@@ -70,6 +71,5 @@ stale_alive true R e = e
 stale_alive false R e = refl
 
 pub other-writes_are_stale : OtherWritesAreStale
-other-writes_are_stale r inc act s w content h =
-    let same : (inc == inc) ≡ true = eq-eqb inc inc refl in
-    rw same (stale_alive (is_alive r inc) (write_found r inc act s w content (find (is_linked inc act) r.objects)) (stale_found r inc act s w content (find (is_linked inc act) r.objects) h))
+other-writes_are_stale r session inc act s w content h = own_stale r session inc (Write inc act s w content) (eq-eqb inc inc refl)
+    (stale_alive (is_alive r inc) (write_found r inc act s w content (find (is_linked inc act) r.objects)) (stale_found r inc act s w content (find (is_linked inc act) r.objects) h))

@@ -6,6 +6,7 @@ use Rattle.wire_msgs.specs.declared.operation.Operation.{Operation}
 use Rattle.grant_core.specs.Grants.{who}
 use Rattle.grant_core.specs.declared.grant_states.Claim.{Claim}
 use Rattle.container_model.specs.declared.record.Link.{Link}
+use Rattle.container_model.specs.declared.server_link.ServerLink.{ServerLink}
 use Rattle.container_model.specs.declared.record.Object.{Object}
 use Rattle.container_model.specs.declared.record.Frame.{Frame}
 use Rattle.container_model.specs.Grants.{is_hosted, is_hosted_object}
@@ -53,4 +54,4 @@ pub record StaysApart (inc : ℕ) (r later : Record) : Type 0 where
 
 -- Whatever comes on the link of a server, true or forged, stays apart from what isn't that server's.
 abbrev pub MessagesStayApart : Type 0
-MessagesStayApart = (r : Record) (link : ℕ) (m : Message) (t : Took) → Steady r → on_message r link m ≡ Ok t → StaysApart link r t.rec
+MessagesStayApart = (r : Record) (link : ServerLink) (m : Message) (t : Took) → Steady r → on_message r link m ≡ Ok t → StaysApart link.inc r t.rec

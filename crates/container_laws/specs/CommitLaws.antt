@@ -2,7 +2,6 @@
 use Rattle.std.specs.Prelude.{◌≡◌, ◌≢◌, ◌⊎◌, ◌+◌, ◌==◌, ◌++◌, ℕ, true, is_some, List, [], ◌∷◌, map, Option, Some, None, Ok, if◌then◌else◌}
 use Rattle.std.specs.List.{All}
 use Rattle.wire_msgs.specs.Found.{nth}
-use Rattle.wire_msgs.specs.declared.message.Said.TheVariants.{Call}
 use Rattle.wire_msgs.specs.declared.operation.Operation.TheVariants.{SaveCompleted}
 use Rattle.object_state.specs.declared.persist_states.PersistState.TheVariants.{HandsOff}
 use Rattle.stored_streams.specs.declared.stored.Stored.{Stored}
@@ -15,7 +14,7 @@ use Rattle.container_model.specs.declared.answer.Action.TheVariants.{Send}
 use Rattle.container_model.specs.declared.answer.Done.{Done}
 use Rattle.container_model.specs.declared.answer.FrameDocument.{FrameDocument}
 use Rattle.container_model.specs.declared.answer.Part.{Part}
-use Rattle.container_model.specs.Record.{Record, Took}
+use Rattle.container_model.specs.Record.{Record, Took, call}
 use Rattle.container_model.specs.HandOffs.{hands_off}
 use Rattle.container_model.specs.Saves.{commit_done, image, is_some_name, resolve, settled_frame}
 
@@ -72,7 +71,7 @@ free_links f (o ∷ os) = if o.frame == f then free_link o.link ++ free_links f 
 
 -- the call that tells an activation that the frame's save is counted
 abbrev pub telling : Frame → Link → Action
-telling frame l = Send (Call l.inc l.act (l.last + 1) (SaveCompleted frame.k (is_some_name frame.asked)))
+telling frame l = Send (call l (l.last + 1) (SaveCompleted frame.k (is_some_name frame.asked)))
 
 -- A commit asks for one call to each activation of the frame that has no pending one, and for nothing else.
 abbrev pub CommitTells : Type 0

@@ -1,6 +1,6 @@
 //! Laws above the steps of a container. Each function is empty: its contract is the law, which is proved.
 
-ghost use Rattle.container_laws.specs.Laws.{FreedByHolders, OnlyExpectedMessages, OtherAsksAreStale, OtherServersAreRefused, OtherWritesAreStale, OthersAreStale, ReapsEndTheirs, ReapsKeepOthers, WritesAreKept, MessagesKeepOthers};
+ghost use Rattle.container_laws.specs.Laws.{EarlierSessionsAreStale, FreedByHolders, OnlyExpectedMessages, OtherAsksAreStale, OtherServersAreRefused, OtherWritesAreStale, OthersAreStale, ReapsEndTheirs, ReapsKeepOthers, WritesAreKept, MessagesKeepOthers};
 
 /// Only the reply to a pending call moves a record, by its number, or a write under the storage grant that the record
 /// holds open, or an ask of whoever holds its frame: by its activation, and on the link of its server.
@@ -29,9 +29,14 @@ pub fn writes_are_kept()
     ensures { WritesAreKept }
 {}
 
-/// A message on the link of another server is refused, and so changes nothing.
+/// A message on the link of another server is refused, and so changes nothing: of another incarnation, or of another session.
 pub fn other_servers_are_refused()
     ensures { OtherServersAreRefused }
+{}
+
+/// On the link of a server of another session than the container's, whatever this server says is stale, and so changes nothing.
+pub fn earlier_sessions_are_stale()
+    ensures { EarlierSessionsAreStale }
 {}
 
 /// Where a record is steady, a message leaves the objects as they are that don't have its activation, but for one that waited

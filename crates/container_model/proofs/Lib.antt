@@ -1,1 +1,2 @@
 pub mod Completing
+pub mod SaidOn

@@ -1,10 +1,11 @@
 -- Frames are made where there is room for one more, by new and by open; every other step leaves as many as there were.
-use Rattle.std.proofs.Common.{◌≡◌, ◌≤◌, ◌<◌, ◌+◌, ◌==◌, ℕ, Bool, true, false, List, [], ◌∷◌, ◌++◌, length, map, Option, Some, None, Result, Ok, Err, refl, sym, ◌∙◌, ap, subst, arith, if◌then◌else◌}
+use Rattle.std.proofs.Common.{◌≡◌, ◌≤◌, ◌<◌, ◌+◌, ◌==◌, ℕ, Bool, true, false, not, List, [], ◌∷◌, ◌++◌, length, map, Option, Some, None, Result, Ok, Err, refl, sym, ◌∙◌, ap, subst, arith, if◌then◌else◌}
 use Rattle.std.proofs.lemmas.List.{length-append, length-map}
 use Rattle.std.specs.Prelude.{IfOk}
 use Rattle.wire_msgs.specs.Found.{find, nth}
 use Rattle.wire_msgs.specs.declared.answer.Answer.{Answer}
 use Rattle.wire_msgs.specs.declared.message.Message.{Message}
+use Rattle.wire_msgs.specs.declared.message.Said.{Said}
 use Rattle.wire_msgs.specs.declared.message.Said.TheVariants.{Call, Reply, Write, Ask}
 use Rattle.wire_msgs.specs.declared.operation.Operation.TheVariants.{UiDeactivate}
 use Rattle.object_parts.specs.Limits.{is_within}
@@ -13,6 +14,7 @@ use Rattle.stored_streams.specs.declared.stored.Stored.{Stored}
 use Rattle.grant_core.specs.Frames.{after}
 use Rattle.grant_core.specs.Grants as grant
 use Rattle.grant_core.specs.Grants.{Event}
+use Rattle.container_model.specs.declared.server_link.ServerLink.{ServerLink}
 use Rattle.container_model.specs.declared.answer.FrameDocument.{FrameDocument}
 use Rattle.container_model.specs.declared.fault.ContainerFault.{ContainerFault}
 use Rattle.container_model.specs.declared.fault.ContainerFault.TheVariants.{BadAnswer, NoSuch, Stale, WrongLink, WrongState}
@@ -24,9 +26,9 @@ use Rattle.container_model.specs.Commands.{new_frame, save_made, saving, saving_
 use Rattle.container_model.specs.Grants.{Requested, event_of, freed_claims, freed_frame, grant_of, moved, passed_to, regranted, regranted_by, regranted_in}
 use Rattle.container_model.specs.HandOffs.{hand_off_at, hand_off_each, hand_off_in, handed_off, handing_frame, hands_off, is_answered, unasked}
 use Rattle.container_model.specs.Inputs.{Input}
-use Rattle.container_model.specs.Messages.{Replied, ask_found, ask_framed, is_held_by, is_open_to, on_ask, on_message, on_reap, on_reply, on_write, reap_made, reaped, reaped_grants, reaped_saving, relieved, replied_grant, replied_record, replied_saving, reply_found, reply_link, reply_taken, write_found, write_link, write_made}
+use Rattle.container_model.specs.Messages.{Replied, ask_found, ask_framed, is_held_by, is_open_to, is_on, on_ask, on_message, on_reap, on_reply, on_write, reap_made, reaped, reaped_grants, reaped_saving, relieved, replied_grant, replied_record, replied_saving, reply_found, reply_link, reply_taken, said_to, write_found, write_link, write_made}
 use Rattle.container_model.specs.Opens.{opened_frame}
-use Rattle.container_model.specs.Record.{MOST_FRAMES, Record, Took, acts, counts_none, is_alive, is_doubtful, is_linked, is_object, sends, with_frame}
+use Rattle.container_model.specs.Record.{MOST_FRAMES, Record, Took, acts, counts_none, is_alive, is_doubtful, is_linked, is_object, sends, unless, with_frame}
 use Rattle.container_model.specs.Saves.{commit_at, commit_done, commit_doubted, commit_failed, commit_fitting, committed_frame, doubted_frame, dropped_frame, failed_at, image, is_committing, resolve, resolved_as, resolved_at, settle}
 use Rattle.container_model.specs.Verbs.{claim_of, claimed, gives_up, holder_of, left, revoked_at}
 use Rattle.container_steady.proofs.Opening.{is_opened}
@@ -165,11 +167,18 @@ asks_found r act g (Some o) = asks r act g o (nth r.frames o.frame)
 asks_on : (r : Record) (inc act g : ℕ) → Keeps r (on_ask r inc act g)
 asks_on r inc act g = keeps_if r (is_alive r inc) (ask_found r act g (find (is_linked inc act) r.objects)) Stale (asks_found r act g (find (is_linked inc act) r.objects))
 
-messages : (r : Record) (link : ℕ) (m : Message) → Keeps r (on_message r link m)
-messages r link (Call inc act n op) = tt
-messages r link (Reply inc act n answer) = keeps_if r (inc == link) (on_reply r inc act n answer) WrongLink (replies_on r inc act n answer)
-messages r link (Write inc act s w content) = keeps_if r (inc == link) (on_write r inc act s w content) WrongLink (writes_on r inc act s w content)
-messages r link (Ask inc act g) = keeps_if r (inc == link) (on_ask r inc act g) WrongLink (asks_on r inc act g)
+said : (r : Record) (m : Said) → Keeps r (said_to r m)
+said r (Call inc act n op) = tt
+said r (Reply inc act n answer) = replies_on r inc act n answer
+said r (Write inc act s w content) = writes_on r inc act s w content
+said r (Ask inc act g) = asks_on r inc act g
+
+refuses : (r : Record) (b : Bool) (fault : ContainerFault) (next : Result Took ContainerFault) → Keeps r next → Keeps r (unless b fault next)
+refuses r true fault next h = tt
+refuses r false fault next h = h
+
+messages : (r : Record) (link : ServerLink) (m : Message) → Keeps r (on_message r link m)
+messages r link m = refuses r (not (is_on link m)) WrongLink (unless (not (link.session == r.session)) Stale (said_to r m.said)) (refuses r (not (link.session == r.session)) Stale (said_to r m.said) (said r m.said))
 
 -- ---- the end of a server
 reaps : (r : Record) (inc : ℕ) → Keeps r (on_reap r inc)

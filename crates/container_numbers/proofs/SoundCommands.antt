@@ -85,15 +85,15 @@ server_sound r h lt = record {
 margin_left : (numbers : ℕ) → nat_lt numbers MARGIN ≡ false → 8 ≤ numbers
 margin_left numbers e = grind arith
 
-begun_roomy : (numbers more inc act : ℕ) (op : Operation) → nat_lt numbers MARGIN ≡ false → more ≤ 4 → IsRoomy numbers more (Commands.begun_link inc act op)
-begun_roomy numbers more inc act op e few = record { calls = (let m = margin_left numbers e in omega arith); grants = omega arith }
+begun_roomy : (numbers more session inc act : ℕ) (op : Operation) → nat_lt numbers MARGIN ≡ false → more ≤ 4 → IsRoomy numbers more (Commands.begun_link session inc act op)
+begun_roomy numbers more session inc act op e few = record { calls = (let m = margin_left numbers e in omega arith); grants = omega arith }
 
 run_made_sound : {Greatest : ℕ → Type 0} (r : Record) (o : Object) (inc : ℕ) → Steady r → HasNumbers Greatest r → find (is_object o.number) r.objects ≡ Some o → nat_lt r.numbers MARGIN ≡ false → r.last_act < r.numbers → HasNumbers Greatest (Commands.run_made r o inc).rec
 run_made_sound {Greatest} r o inc s h found margin lt =
-    let x : Object = record o { link = Some (Commands.begun_link inc (r.last_act + 1) (Commands.first_operation o o.work.streams)) } in
+    let x : Object = record o { link = Some (Commands.begun_link r.session inc (r.last_act + 1) (Commands.first_operation o o.work.streams)) } in
     let u : Record = record r { objects = put (is_object o.number) x r.objects } in
     let w : Within Greatest (debts r.frames) u = put_within r (debts r.frames) (debts r.frames) x o (within_of r s h) found (λ m f ne. omega arith)
-    (begun_roomy r.numbers (debts r.frames o.number o.frame) inc (r.last_act + 1) (Commands.first_operation o o.work.streams) margin (debts_few r.frames o.number o.frame)) refl in
+    (begun_roomy r.numbers (debts r.frames o.number o.frame) r.session inc (r.last_act + 1) (Commands.first_operation o o.work.streams) margin (debts_few r.frames o.number o.frame)) refl in
     let k : HasNumbers Greatest u = sound_of u w in
     record { limit = k.limit; room = k.room; saves = k.saves; frames = k.frames; servers = k.servers; objects = k.objects; acts = omega arith; grants = k.grants }
 

@@ -6,6 +6,7 @@ use Rattle.wire_msgs.specs.Found.{find, nth, set_nth}
 use Rattle.wire_msgs.specs.declared.operation.Operation.TheVariants.{UiDeactivate}
 use Rattle.wire_msgs.specs.declared.answer.Answer.{Answer}
 use Rattle.wire_msgs.specs.declared.message.Message.{Message}
+use Rattle.wire_msgs.specs.declared.message.Said.{Said}
 use Rattle.wire_msgs.specs.declared.message.Said.TheVariants.{Call, Reply, Write, Ask}
 use Rattle.object_parts.specs.Limits.{is_within}
 use Rattle.stored_streams.specs.declared.stored.Stored.{Stored}
@@ -16,6 +17,8 @@ use Rattle.grant_core.specs.declared.grant_states.Claim.{Claim}
 use Rattle.grant_core.specs.declared.grant_states.Tools.{Tools}
 use Rattle.grant_core.specs.declared.grant_states.GrantState.{GrantState}
 use Rattle.grant_core.specs.declared.grant_states.GrantState.TheVariants as state
+use Rattle.container_model.proofs.SaidOn.{is_said_on, said_on}
+use Rattle.container_model.specs.declared.server_link.ServerLink.{ServerLink}
 use Rattle.container_model.specs.declared.grants.Tells.{Tells}
 use Rattle.container_model.specs.declared.grants.Tells.TheVariants.{Gets, GivesUp}
 use Rattle.container_model.specs.declared.record.Link.{Link}
@@ -216,15 +219,19 @@ ask_sound {Greatest} r inc act g t s h e = if_told (λ (z : Result Took Containe
     (λ a q. ask_found_sound r inc act g (find (is_linked inc act) r.objects) t s h refl q)
     (λ a q. cc) e
 
--- each message leaves a record sound
-pub messages_keep : {Greatest : ℕ → Type 0} (r : Record) (link : ℕ) (m : Message) (t : Took) → Steady r → HasNumbers Greatest r → on_message r link m ≡ Ok t → HasNumbers Greatest t.rec
-messages_keep r link (Call inc act n op) t s h e = cc
-messages_keep {Greatest} r link (Reply inc act n answer) t s h e = if_told (λ (z : Result Took ContainerFault). z ≡ Ok t → HasNumbers Greatest t.rec) (inc == link) (on_reply r inc act n answer) (Err WrongLink)
+-- whatever is said leaves a record sound
+said_keep : {Greatest : ℕ → Type 0} (r : Record) (link : ℕ) (m : Said) (t : Took) → Steady r → HasNumbers Greatest r → said_on r link m ≡ Ok t → HasNumbers Greatest t.rec
+said_keep r link (Call inc act n op) t s h e = cc
+said_keep {Greatest} r link (Reply inc act n answer) t s h e = if_told (λ (z : Result Took ContainerFault). z ≡ Ok t → HasNumbers Greatest t.rec) (inc == link) (on_reply r inc act n answer) (Err WrongLink)
     (λ a g. reply_sound r inc act n answer t s h g)
     (λ a g. cc) e
-messages_keep {Greatest} r link (Write inc act n w content) t s h e = if_told (λ (z : Result Took ContainerFault). z ≡ Ok t → HasNumbers Greatest t.rec) (inc == link) (on_write r inc act n w content) (Err WrongLink)
+said_keep {Greatest} r link (Write inc act n w content) t s h e = if_told (λ (z : Result Took ContainerFault). z ≡ Ok t → HasNumbers Greatest t.rec) (inc == link) (on_write r inc act n w content) (Err WrongLink)
     (λ a g. write_sound r inc act n w content t s h g)
     (λ a g. cc) e
-messages_keep {Greatest} r link (Ask inc act g) t s h e = if_told (λ (z : Result Took ContainerFault). z ≡ Ok t → HasNumbers Greatest t.rec) (inc == link) (on_ask r inc act g) (Err WrongLink)
+said_keep {Greatest} r link (Ask inc act g) t s h e = if_told (λ (z : Result Took ContainerFault). z ≡ Ok t → HasNumbers Greatest t.rec) (inc == link) (on_ask r inc act g) (Err WrongLink)
     (λ a q. ask_sound r inc act g t s h q)
     (λ a q. cc) e
+
+-- each message leaves a record sound
+pub messages_keep : {Greatest : ℕ → Type 0} (r : Record) (link : ServerLink) (m : Message) (t : Took) → Steady r → HasNumbers Greatest r → on_message r link m ≡ Ok t → HasNumbers Greatest t.rec
+messages_keep r link m t s h e = said_keep r link.inc m.said t s h (is_said_on r link m t e).said

@@ -7,6 +7,7 @@ use Rattle.wire_msgs.specs.declared.operation.Operation.{Operation}
 use Rattle.wire_msgs.specs.declared.operation.Operation.TheVariants.{UiActivate, UiDeactivate}
 use Rattle.wire_msgs.specs.declared.answer.Answer.{Answer}
 use Rattle.wire_msgs.specs.declared.message.Message.{Message}
+use Rattle.wire_msgs.specs.declared.message.Said.{Said}
 use Rattle.wire_msgs.specs.declared.message.Said.TheVariants.{Call, Reply, Write, Ask}
 use Rattle.object_parts.specs.Limits.{is_within}
 use Rattle.stored_streams.specs.declared.stored.Stored.{Stored}
@@ -17,6 +18,8 @@ use Rattle.grant_core.specs.declared.grant_states.Claim.{Claim}
 use Rattle.grant_core.specs.declared.grant_states.Tools.{Tools}
 use Rattle.grant_core.specs.declared.grant_states.GrantState.{GrantState}
 use Rattle.grant_core.specs.declared.grant_states.GrantState.TheVariants as state
+use Rattle.container_model.proofs.SaidOn.{is_said_on, said_on}
+use Rattle.container_model.specs.declared.server_link.ServerLink.{ServerLink}
 use Rattle.container_model.specs.declared.grants.Tells.{Tells}
 use Rattle.container_model.specs.declared.grants.Tells.TheVariants.{Gets, GivesUp}
 use Rattle.container_model.specs.declared.record.Link.{Link}
@@ -327,18 +330,22 @@ ask_keeps r inc act g t s e = if_told (λ (z : Result Took ContainerFault). z �
     (λ a q. ask_found_keeps r inc act g (find (is_linked inc act) r.objects) t s refl q)
     (λ a q. cc) e
 
--- each message keeps a record steady
-pub on_message_keeps : (r : Record) (link : ℕ) (m : Message) (t : Took) → Steady r → on_message r link m ≡ Ok t → Steady t.rec
-on_message_keeps r link (Call inc act n op) t s e = cc
-on_message_keeps r link (Reply inc act n answer) t s e = if_told (λ (z : Result Took ContainerFault). z ≡ Ok t → Steady t.rec) (inc == link) (on_reply r inc act n answer) (Err WrongLink)
+-- whatever is said keeps a record steady
+said_keeps : (r : Record) (link : ℕ) (m : Said) (t : Took) → Steady r → said_on r link m ≡ Ok t → Steady t.rec
+said_keeps r link (Call inc act n op) t s e = cc
+said_keeps r link (Reply inc act n answer) t s e = if_told (λ (z : Result Took ContainerFault). z ≡ Ok t → Steady t.rec) (inc == link) (on_reply r inc act n answer) (Err WrongLink)
     (λ a g. reply_keeps r inc act n answer t s g)
     (λ a g. cc) e
-on_message_keeps r link (Write inc act n w content) t s e = if_told (λ (z : Result Took ContainerFault). z ≡ Ok t → Steady t.rec) (inc == link) (on_write r inc act n w content) (Err WrongLink)
+said_keeps r link (Write inc act n w content) t s e = if_told (λ (z : Result Took ContainerFault). z ≡ Ok t → Steady t.rec) (inc == link) (on_write r inc act n w content) (Err WrongLink)
     (λ a g. write_keeps r inc act n w content t s g)
     (λ a g. cc) e
-on_message_keeps r link (Ask inc act g) t s e = if_told (λ (z : Result Took ContainerFault). z ≡ Ok t → Steady t.rec) (inc == link) (on_ask r inc act g) (Err WrongLink)
+said_keeps r link (Ask inc act g) t s e = if_told (λ (z : Result Took ContainerFault). z ≡ Ok t → Steady t.rec) (inc == link) (on_ask r inc act g) (Err WrongLink)
     (λ a q. ask_keeps r inc act g t s q)
     (λ a q. cc) e
+
+-- each message keeps a record steady
+pub on_message_keeps : (r : Record) (link : ServerLink) (m : Message) (t : Took) → Steady r → on_message r link m ≡ Ok t → Steady t.rec
+on_message_keeps r link m t s e = said_keeps r link.inc m.said t s (is_said_on r link m t e).said
 
 -- answers that fit are taken
 taken_ok : (r : Record) (inc act : ℕ) (o : Object) (res : Result Replied ContainerFault) → IsOk res → IsOk (reply_taken r inc act o res)
