@@ -18,7 +18,7 @@ use Rattle.container_model.specs.declared.answer.FrameDocument.{FrameDocument}
 use Rattle.container_model.specs.declared.command.Command.{Command}
 use Rattle.container_model.specs.declared.fault.ContainerFault.{ContainerFault}
 use Rattle.container_model.specs.declared.record.Frame.{Frame}
-use Rattle.world_model.specs.World.{World, Instance, took, commanded, served, stocked, called_wanting, called_in, called, delivered, taken_at, with_taken, server_of, deliver, forged, forge, spoken_by, spoken, scribble, ask, crashed, crash, ended, reap, done_taken, done_imaged, done_in, only_taken, resolved, happened, limited, Run, MOST_EVENTS, is_of, Choice}
+use Rattle.world_model.specs.World.{World, Instance, took, commanded, served, stocked, called_wanting, called_in, called, delivered, taken_at, with_taken, deliver, forged, forge, spoken_by, spoken, scribble, ask, crashed, crash, ended, reap, done_taken, done_imaged, done_in, only_taken, resolved, happened, limited, Run, MOST_EVENTS, is_of, Choice, in_session, delivered_said, link_of, link_to}
 use Rattle.world_model.specs.declared.event.Event.{Event}
 use Rattle.world_model.specs.declared.event.Event.TheVariants as event
 use Rattle.world_model.specs.declared.event.Stop.{Stop}
@@ -28,6 +28,7 @@ use Rattle.world_model.specs.declared.life.Life.TheVariants.{Running, Ended, Rea
 use Rattle.world_model.specs.declared.logs.Sent.{Sent}
 use Rattle.world_model.specs.declared.logs.Taken.{Taken}
 use Rattle.world_model.specs.declared.logs.EventAnswer.{EventAnswer}
+use Rattle.wire_msgs.specs.declared.message.Said.{Said}
 
 -- one more event was answered
 abbrev More : World → World → Type 0
@@ -48,32 +49,35 @@ commanded-more : (w : World) (c : Command) (r : Result Took ContainerFault) → 
 commanded-more w c (Err fault) = more w.answers _
 commanded-more w c (Ok t) = more w.answers _
 
-served-more : (w : World) (inc act n : ℕ) (i : Instance) (stock : List Kind) (r : Result Served ServerFault) → More w (served w inc act n i stock r)
-served-more w inc act n i stock (Err fault) = more w.answers _
-served-more w inc act n i stock (Ok v) = more w.answers _
+served-more : (w : World) (s inc act n : ℕ) (i : Instance) (stock : List Kind) (r : Result Served ServerFault) → More w (served w s inc act n i stock r)
+served-more w s inc act n i stock (Err fault) = more w.answers _
+served-more w s inc act n i stock (Ok v) = more w.answers _
 
-stocked-taken : (w : World) (inc act n : ℕ) (op : Operation) (i : Instance) (class : List ℕ) (kind : Option Kind) → IfTaken w (stocked w inc act n op i class kind)
-stocked-taken w inc act n op i class None = tt
-stocked-taken w inc act n op i class (Some kind) = served-more w inc act n i _ (on_call i.core (Call inc act n op) (Some kind))
+stocked-taken : (w : World) (s inc act n : ℕ) (op : Operation) (i : Instance) (class : List ℕ) (kind : Option Kind) → IfTaken w (stocked w s inc act n op i class kind)
+stocked-taken w s inc act n op i class None = tt
+stocked-taken w s inc act n op i class (Some kind) = served-more w s inc act n i _ (on_call i.core (in_session s (Call inc act n op)) (Some kind))
 
-called_wanting-taken : (w : World) (inc act n : ℕ) (op : Operation) (i : Instance) (class : Option (List ℕ)) → IfTaken w (called_wanting w inc act n op i class)
-called_wanting-taken w inc act n op i None = served-more w inc act n i w.stock (on_call i.core (Call inc act n op) None)
-called_wanting-taken w inc act n op i (Some class) = stocked-taken w inc act n op i class (find (is_of class) w.stock)
+called_wanting-taken : (w : World) (s inc act n : ℕ) (op : Operation) (i : Instance) (class : Option (List ℕ)) → IfTaken w (called_wanting w s inc act n op i class)
+called_wanting-taken w s inc act n op i None = served-more w s inc act n i w.stock (on_call i.core (in_session s (Call inc act n op)) None)
+called_wanting-taken w s inc act n op i (Some class) = stocked-taken w s inc act n op i class (find (is_of class) w.stock)
 
-called_in-taken : (w : World) (inc act n : ℕ) (op : Operation) (i : Instance) (life : Life) → IfTaken w (called_in w inc act n op i life)
-called_in-taken w inc act n op i Running = called_wanting-taken w inc act n op i (wanted i.core (Call inc act n op))
-called_in-taken w inc act n op i Ended = more w.answers _
-called_in-taken w inc act n op i Reaped = more w.answers _
+called_in-taken : (w : World) (s inc act n : ℕ) (op : Operation) (i : Instance) (life : Life) → IfTaken w (called_in w s inc act n op i life)
+called_in-taken w s inc act n op i Running = called_wanting-taken w s inc act n op i (wanted i.core (in_session s (Call inc act n op)))
+called_in-taken w s inc act n op i Ended = more w.answers _
+called_in-taken w s inc act n op i Reaped = more w.answers _
 
-called-taken : (w : World) (inc act n : ℕ) (op : Operation) (i : Option Instance) → IfTaken w (called w inc act n op i)
-called-taken w inc act n op None = more w.answers _
-called-taken w inc act n op (Some i) = called_in-taken w inc act n op i i.life
+called-taken : (w : World) (s inc act n : ℕ) (op : Operation) (i : Option Instance) → IfTaken w (called w s inc act n op i)
+called-taken w s inc act n op None = more w.answers _
+called-taken w s inc act n op (Some i) = called_in-taken w s inc act n op i i.life
+
+said-taken : (w : World) (m : Message) (said : Said) → IfTaken w (delivered_said w m said)
+said-taken w m (Call inc act n op) = called-taken w m.session inc act n op (nth w.instances inc)
+said-taken w m (Reply inc act n answer) = took-more w (on_message w.rec (link_of m) m)
+said-taken w m (Write inc act s number content) = took-more w (on_message w.rec (link_of m) m)
+said-taken w m (Ask inc act g) = took-more w (on_message w.rec (link_of m) m)
 
 delivered-taken : (w : World) (m : Message) → IfTaken w (delivered w m)
-delivered-taken w (Call inc act n op) = called-taken w inc act n op (nth w.instances inc)
-delivered-taken w (Reply inc act n answer) = took-more w (on_message w.rec inc (Reply inc act n answer))
-delivered-taken w (Write inc act s number content) = took-more w (on_message w.rec inc (Write inc act s number content))
-delivered-taken w (Ask inc act g) = took-more w (on_message w.rec inc (Ask inc act g))
+delivered-taken w m = said-taken w m m.said
 
 with_taken-taken : (w : World) (taken : List Taken) (r : Result World Stop) → IfTaken w r → IfTaken w (with_taken w taken r)
 with_taken-taken w taken (Err stop) one = tt
@@ -81,11 +85,11 @@ with_taken-taken w taken (Ok next) one = one
 
 deliver-taken : (w : World) (p : ℕ) (sent : Option Sent) → IfTaken w (deliver w p sent)
 deliver-taken w p None = tt
-deliver-taken w p (Some sent) = with_taken-taken w (taken_at w.rec (Some p) (server_of sent.message) sent.message) (delivered w sent.message) (delivered-taken w sent.message)
+deliver-taken w p (Some sent) = with_taken-taken w (taken_at w.rec (Some p) (link_of sent.message) sent.message) (delivered w sent.message) (delivered-taken w sent.message)
 
 forged-taken : (w : World) (inc : ℕ) (m : Message) (life : Life) → IfTaken w (forged w inc m life)
-forged-taken w inc m Running = took-more w (on_message w.rec inc m)
-forged-taken w inc m Ended = took-more w (on_message w.rec inc m)
+forged-taken w inc m Running = took-more w (on_message w.rec (link_to w inc) m)
+forged-taken w inc m Ended = took-more w (on_message w.rec (link_to w inc) m)
 forged-taken w inc m Reaped = tt
 
 forge-taken : (w : World) (inc : ℕ) (m : Message) (i : Option Instance) → IfTaken w (forge w inc m i)

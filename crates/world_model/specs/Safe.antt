@@ -3,6 +3,7 @@ use Rattle.std.specs.Prelude.{◌≡◌, ◌≢◌, ◌⊎◌, ◌<◌, ◌≤�
 use Rattle.std.specs.List.{flat_map}
 use Rattle.wire_msgs.specs.Found.{find, nth}
 use Rattle.wire_msgs.specs.declared.message.Message.{Message}
+use Rattle.wire_msgs.specs.declared.message.Said.{Said}
 use Rattle.wire_msgs.specs.declared.message.Said.TheVariants.{Call, Reply, Write, Ask}
 use Rattle.wire_msgs.specs.declared.operation.Operation.{Operation}
 use Rattle.wire_msgs.specs.declared.operation.Operation.TheVariants.{UiActivate, Save, SaveCompleted, SaveDropped, Close}
@@ -34,7 +35,7 @@ use Rattle.world_model.specs.declared.logs.View.{View}
 use Rattle.container_model.specs.declared.answer.Done.{Done}
 use Rattle.world_model.specs.declared.logs.ServerDone.{ServerDone}
 use Rattle.world_model.specs.declared.logs.Document.{Document}
-use Rattle.world_model.specs.World.{World, Instance, counted_document, delivered, done_entry, file_of, frame_file, owner}
+use Rattle.world_model.specs.World.{World, Instance, counted_document, delivered, done_entry, file_of, frame_file, in_session, owner}
 
 -- A server of which no message was forged: it sends what the server's step says, and nothing else.
 abbrev pub is_hostile : List ℕ → ℕ → Bool
@@ -67,8 +68,16 @@ acts_of is inc act = act_at act (nth is inc)
 abbrev pub messages : List Sent → List Message
 messages xs = map (λ (x : Sent). x.message) xs
 
+-- what was said, in whichever session
+abbrev pub sayings : List Sent → List Said
+sayings xs = map (λ (x : Sent). x.message.said) xs
+
 abbrev pub WasSent : World → Message → Type 0
 WasSent w m = Among (messages w.sent) m
+
+-- and what was said in the session of the container
+abbrev pub WasSaid : World → Said → Type 0
+WasSaid w said = WasSent w (in_session w.rec.session said)
 
 -- the number that an operation carries, of a grant or of a save, is at most the limit
 abbrev pub CarriesWithin : ℕ → Operation → Type 0
@@ -80,11 +89,14 @@ CarriesWithin limit op = ⊤
 
 -- Every number of a message is at most the limit: those of the server, of the activation, of the call and of what it asks,
 -- of the storage grant and of the write, of the grant. What answers and contents say isn't numbered.
+abbrev pub IsSaidWithin : ℕ → Said → Type 0
+IsSaidWithin limit (Call inc act n op) = (inc ≤ limit) × (act ≤ limit) × (n ≤ limit) × CarriesWithin limit op
+IsSaidWithin limit (Reply inc act n answer) = (inc ≤ limit) × (act ≤ limit) × (n ≤ limit)
+IsSaidWithin limit (Write inc act s number content) = (inc ≤ limit) × (act ≤ limit) × (s ≤ limit) × (number ≤ limit)
+IsSaidWithin limit (Ask inc act g) = (inc ≤ limit) × (act ≤ limit) × (g ≤ limit)
+
 abbrev pub IsWithin : ℕ → Message → Type 0
-IsWithin limit (Call inc act n op) = (inc ≤ limit) × (act ≤ limit) × (n ≤ limit) × CarriesWithin limit op
-IsWithin limit (Reply inc act n answer) = (inc ≤ limit) × (act ≤ limit) × (n ≤ limit)
-IsWithin limit (Write inc act s number content) = (inc ≤ limit) × (act ≤ limit) × (s ≤ limit) × (number ≤ limit)
-IsWithin limit (Ask inc act g) = (inc ≤ limit) × (act ≤ limit) × (g ≤ limit)
+IsWithin limit m = IsSaidWithin limit m.said
 
 -- no save of an object is counted twice, by the container or by servers
 abbrev pub IsAnother : Done → Done → Type 0
@@ -101,13 +113,17 @@ abbrev pub ServedOnce : List ServerDone → Type 0
 ServedOnce [] = ⊤
 ServedOnce (d ∷ ds) = ((e : ServerDone) → Among ds e → IsOther d e) × ServedOnce ds
 
--- the message that brought a content: a write under this storage grant, or the answer to a close
+-- what brought a content: a write under this storage grant, or the answer to a close
+abbrev pub BringsBy : World → Said → Taken → Type 0
+BringsBy w (Call inc act n op) t = ⊥
+BringsBy w (Reply inc act n (Content content)) t = (inc ≡ t.inc) × (act ≡ t.act) × WasSaid w (Call inc act n (Close SaveIfDirty))
+BringsBy w (Reply inc act n answer) t = ⊥
+BringsBy w (Write inc act s number content) t = (inc ≡ t.inc) × (act ≡ t.act) × (s ≡ t.s)
+BringsBy w (Ask inc act g) t = ⊥
+
+-- the message that brought it, in the session of the container
 abbrev pub Brings : World → Message → Taken → Type 0
-Brings w (Call inc act n op) t = ⊥
-Brings w (Reply inc act n (Content content)) t = (inc ≡ t.inc) × (act ≡ t.act) × WasSent w (Call inc act n (Close SaveIfDirty))
-Brings w (Reply inc act n answer) t = ⊥
-Brings w (Write inc act s number content) t = (inc ≡ t.inc) × (act ≡ t.act) × (s ≡ t.s)
-Brings w (Ask inc act g) t = ⊥
+Brings w m t = (m.session ≡ w.rec.session) × BringsBy w m.said t
 
 -- A content that was taken came with a message that its server sent while the activation was open, its storage open for
 -- reading and writing, under this storage grant; and the container's record held the same grant open just before it took
@@ -137,8 +153,8 @@ pub record HoldsFrame (w : World) (inc act g f : ℕ) : Type 0 where
 -- these tools were the answer to the grant
 pub record WasAnswered (w : World) (inc act g : ℕ) (tools : Tools) : Type 0 where
   pub n : ℕ
-  pub called : WasSent w (Call inc act n (UiActivate g))
-  pub replied : WasSent w (Reply inc act n (answer.Tools tools.menus tools.border))
+  pub called : WasSaid w (Call inc act n (UiActivate g))
+  pub replied : WasSaid w (Reply inc act n (answer.Tools tools.menus tools.border))
 
 -- Its frame names it, as the one that has it or is to get it or to give it up, and not as the one that waits; and where the
 -- frame is held, with the menus and the border that the activation answered to its grant.
@@ -231,12 +247,12 @@ GivesCommit commits (Given.Holding d) = (c : Commit) × Among commits c × (d �
 
 pub record Safe (w : World) : Type 0 where
   -- a call acts at most once: delivered again once it is answered, it leaves every server as it is and counts nothing
-  pub acts_once : (inc act n : ℕ) (op : Operation) (r : Answer) (next : World) → WasSent w (Reply inc act n r) → delivered w (Call inc act n op) ≡ Ok next
+  pub acts_once : (s inc act n : ℕ) (op : Operation) (r : Answer) (next : World) → WasSent w (in_session s (Reply inc act n r)) → delivered w (in_session s (Call inc act n op)) ≡ Ok next
       → (next.instances ≡ w.instances) × (next.server_done ≡ w.server_done)
   -- and it has one answer, however often it is delivered
-  pub one_reply : (inc act n : ℕ) (r q : Answer) → WasSent w (Reply inc act n r) → WasSent w (Reply inc act n q) → r ≡ q
+  pub one_reply : (s inc act n : ℕ) (r q : Answer) → WasSent w (in_session s (Reply inc act n r)) → WasSent w (in_session s (Reply inc act n q)) → r ≡ q
   -- the reply that an activation keeps is the reply to the call of that number
-  pub kept_reply : (inc act : ℕ) (a : Activation) (r : Answer) → acts_of w.instances inc act ≡ Some a → WasSent w (Reply inc act a.last r) → r ≡ a.reply
+  pub kept_reply : (inc act : ℕ) (a : Activation) (r : Answer) → acts_of w.instances inc act ≡ Some a → WasSaid w (Reply inc act a.last r) → r ≡ a.reply
   -- the content that an object's save was answered by an honest server is the one that its activation keeps for it
   pub answered : (n : ℕ) (l : Link) (content : Stored) → links_of w.rec.objects n ≡ Some l → IsHonest w.hostile l.inc → l.saved ≡ Some content
       → (a : Activation) × (acts_of w.instances l.inc l.act ≡ Some a) × (a.saved ≡ Some content)
@@ -249,6 +265,9 @@ pub record Safe (w : World) : Type 0 where
   pub container_once : CountedOnce w.container_done
   pub server_once : ServedOnce w.server_done
   pub agreed : (e : ServerDone) → Among w.server_done e → IsHonest w.hostile e.inc → Among w.container_done (record { object = e.object; k = e.k; content = e.content })
+  -- every message is in the session of the container, and so is every server
+  pub of_session : (m : Message) → WasSent w m → m.session ≡ w.rec.session
+  pub servers : (inc : ℕ) (i : Instance) → nth w.instances inc ≡ Some i → i.core.session ≡ w.rec.session
   -- every number of a message is at most the limit of the world's numbers
   pub numbered : (m : Message) → WasSent w m → IsWithin w.rec.numbers m
   -- the container counts by commits alone

@@ -4,6 +4,7 @@ use Rattle.std.specs.Str.{bytes_eq}
 use Rattle.std.specs.List.{range_with_len}
 use Rattle.wire_msgs.specs.Found.{find, nth, set_nth}
 use Rattle.wire_msgs.specs.declared.message.Message.{Message}
+use Rattle.wire_msgs.specs.declared.message.Said.{Said}
 use Rattle.wire_msgs.specs.declared.message.Said.TheVariants.{Call, Reply, Write, Ask}
 use Rattle.wire_msgs.specs.declared.operation.Operation.{Operation}
 use Rattle.file_model.specs.Denotes.{Denotes}
@@ -28,6 +29,7 @@ use Rattle.container_model.specs.declared.command.Command.{Command}
 use Rattle.container_model.specs.declared.command.Command.TheVariants as command
 use Rattle.container_model.specs.declared.record.Frame.{Frame}
 use Rattle.container_model.specs.declared.record.Link.{Link}
+use Rattle.container_model.specs.declared.server_link.ServerLink.{ServerLink}
 use Rattle.container_model.specs.declared.record.Object.{Object}
 use Rattle.container_model.specs.declared.fault.ContainerFault.{ContainerFault}
 use Rattle.world_model.specs.declared.logs.View.{View}
@@ -81,15 +83,16 @@ messages_of (Start inc ∷ rest) = messages_of rest
 messages_of (End inc ∷ rest) = messages_of rest
 messages_of (Commit f ∷ rest) = messages_of rest
 
-abbrev pub fresh : ℕ → ℕ → Instance
-fresh numbers inc = record { life = Running; core = record { inc = inc; numbers = numbers; acts = [] } }
+-- a server of a session, by its incarnation
+abbrev pub fresh : ℕ → ℕ → ℕ → Instance
+fresh session numbers inc = record { life = Running; core = record { session = session; inc = inc; numbers = numbers; acts = [] } }
 
-abbrev pub started_by : ℕ → List Action → List Instance
-started_by numbers [] = []
-started_by numbers (Send m ∷ rest) = started_by numbers rest
-started_by numbers (Start inc ∷ rest) = fresh numbers inc ∷ started_by numbers rest
-started_by numbers (End inc ∷ rest) = started_by numbers rest
-started_by numbers (Commit f ∷ rest) = started_by numbers rest
+abbrev pub started_by : ℕ → ℕ → List Action → List Instance
+started_by session numbers [] = []
+started_by session numbers (Send m ∷ rest) = started_by session numbers rest
+started_by session numbers (Start inc ∷ rest) = fresh session numbers inc ∷ started_by session numbers rest
+started_by session numbers (End inc ∷ rest) = started_by session numbers rest
+started_by session numbers (Commit f ∷ rest) = started_by session numbers rest
 
 -- a server that is to be ended has ended at once; one that had ended stays so
 abbrev pub end_of : Life → Life
@@ -135,7 +138,7 @@ uncounted (Some f) = None ∷ []
 abbrev pub joined : World → Took → World
 joined w t = record w {
   rec = t.rec;
-  instances = ended_by t.answer.actions w.instances ++ started_by t.rec.numbers t.answer.actions;
+  instances = ended_by t.answer.actions w.instances ++ started_by t.rec.session t.rec.numbers t.answer.actions;
   sent = w.sent ++ map of_container (messages_of t.answer.actions);
   answers = w.answers ++ told.Took (outcome_of w.sent t.answer) ∷ [];
   counted = w.counted ++ uncounted t.answer.frame;
@@ -163,7 +166,11 @@ abbrev pub commanded : World → Command → Result Took ContainerFault → Worl
 commanded w c (Err fault) = took w (Err fault)
 commanded w c (Ok t) = record (joined w t) { owners = w.owners ++ owners_by c }
 
--- A call at a server that runs: its reply is sent, with the activation's state just before.
+-- what is said in a session
+abbrev pub in_session : ℕ → Said → Message
+in_session session said = record { session = session; said = said }
+
+-- A call at a server that runs: its reply is sent, in the session of the call, with the activation's state just before.
 abbrev pub is_open : Activation → Bool
 is_open a = is_some a.content
 
@@ -187,12 +194,12 @@ counted_by w inc (Some c) = record { inc = inc; object = owner w c.act; k = c.k;
 abbrev pub quiet_outcome : Outcome
 quiet_outcome = record { frame = None; objects = []; server = None; taken = false; refused = None; no_tools = false; sent = []; commits = [] }
 
-abbrev pub served : World → ℕ → ℕ → ℕ → Instance → List Kind → Result Served ServerFault → World
-served w inc act n i stock (Err fault) = record w { answers = w.answers ++ told.Dropped fault ∷ [] }
-served w inc act n i stock (Ok v) = record w {
+abbrev pub served : World → ℕ → ℕ → ℕ → ℕ → Instance → List Kind → Result Served ServerFault → World
+served w s inc act n i stock (Err fault) = record w { answers = w.answers ++ told.Dropped fault ∷ [] }
+served w s inc act n i stock (Ok v) = record w {
   instances = set_nth w.instances inc (record i { core = v.server });
   stock = stock;
-  sent = w.sent ++ record { message = Reply inc act n v.answer; view = view_in i.core act } ∷ [];
+  sent = w.sent ++ record { message = in_session s (Reply inc act n v.answer); view = view_in i.core act } ∷ [];
   answers = w.answers ++ told.Took (record quiet_outcome { sent = places w.sent 1 }) ∷ [];
   server_done = w.server_done ++ counted_by w inc v.counted;
 }
@@ -201,31 +208,44 @@ served w inc act n i stock (Ok v) = record w {
 abbrev pub is_of : List ℕ → Kind → Bool
 is_of class kind = bytes_eq (class_of kind) class
 
-abbrev pub stocked : World → ℕ → ℕ → ℕ → Operation → Instance → List ℕ → Option Kind → Result World Stop
-stocked w inc act n op i class None = Err OutOfStock
-stocked w inc act n op i class (Some kind) = Ok (served w inc act n i (without_first (is_of class) w.stock) (on_call i.core (Call inc act n op) (Some kind)))
+abbrev pub stocked : World → ℕ → ℕ → ℕ → ℕ → Operation → Instance → List ℕ → Option Kind → Result World Stop
+stocked w s inc act n op i class None = Err OutOfStock
+stocked w s inc act n op i class (Some kind) = Ok (served w s inc act n i (without_first (is_of class) w.stock) (on_call i.core (in_session s (Call inc act n op)) (Some kind)))
 
 -- a call that makes an activation takes an object out of stock for it
-abbrev pub called_wanting : World → ℕ → ℕ → ℕ → Operation → Instance → Option (List ℕ) → Result World Stop
-called_wanting w inc act n op i None = Ok (served w inc act n i w.stock (on_call i.core (Call inc act n op) None))
-called_wanting w inc act n op i (Some class) = stocked w inc act n op i class (find (is_of class) w.stock)
+abbrev pub called_wanting : World → ℕ → ℕ → ℕ → ℕ → Operation → Instance → Option (List ℕ) → Result World Stop
+called_wanting w s inc act n op i None = Ok (served w s inc act n i w.stock (on_call i.core (in_session s (Call inc act n op)) None))
+called_wanting w s inc act n op i (Some class) = stocked w s inc act n op i class (find (is_of class) w.stock)
 
-abbrev pub called_in : World → ℕ → ℕ → ℕ → Operation → Instance → Life → Result World Stop
-called_in w inc act n op i Running = called_wanting w inc act n op i (wanted i.core (Call inc act n op))
-called_in w inc act n op i Ended = Ok (record w { answers = w.answers ++ told.Took quiet_outcome ∷ [] })
-called_in w inc act n op i Reaped = Ok (record w { answers = w.answers ++ told.Took quiet_outcome ∷ [] })
+abbrev pub called_in : World → ℕ → ℕ → ℕ → ℕ → Operation → Instance → Life → Result World Stop
+called_in w s inc act n op i Running = called_wanting w s inc act n op i (wanted i.core (in_session s (Call inc act n op)))
+called_in w s inc act n op i Ended = Ok (record w { answers = w.answers ++ told.Took quiet_outcome ∷ [] })
+called_in w s inc act n op i Reaped = Ok (record w { answers = w.answers ++ told.Took quiet_outcome ∷ [] })
 
 -- a call to a server that has ended does nothing
-abbrev pub called : World → ℕ → ℕ → ℕ → Operation → Option Instance → Result World Stop
-called w inc act n op None = Ok (record w { answers = w.answers ++ told.Took quiet_outcome ∷ [] })
-called w inc act n op (Some i) = called_in w inc act n op i i.life
+abbrev pub called : World → ℕ → ℕ → ℕ → ℕ → Operation → Option Instance → Result World Stop
+called w s inc act n op None = Ok (record w { answers = w.answers ++ told.Took quiet_outcome ∷ [] })
+called w s inc act n op (Some i) = called_in w s inc act n op i i.life
+
+-- the server that something is said by, or to, and its link
+abbrev pub server_of : Said → ℕ
+server_of (Call inc act n op) = inc
+server_of (Reply inc act n answer) = inc
+server_of (Write inc act s number content) = inc
+server_of (Ask inc act g) = inc
+
+abbrev pub link_of : Message → ServerLink
+link_of m = record { session = m.session; inc = server_of m.said }
 
 -- Delivery of a message that was sent, for the first time or again.
+abbrev pub delivered_said : World → Message → Said → Result World Stop
+delivered_said w m (Call inc act n op) = called w m.session inc act n op (nth w.instances inc)
+delivered_said w m (Reply inc act n answer) = Ok (took w (on_message w.rec (link_of m) m))
+delivered_said w m (Write inc act s number content) = Ok (took w (on_message w.rec (link_of m) m))
+delivered_said w m (Ask inc act g) = Ok (took w (on_message w.rec (link_of m) m))
+
 abbrev pub delivered : World → Message → Result World Stop
-delivered w (Call inc act n op) = called w inc act n op (nth w.instances inc)
-delivered w (Reply inc act n answer) = Ok (took w (on_message w.rec inc (Reply inc act n answer)))
-delivered w (Write inc act s number content) = Ok (took w (on_message w.rec inc (Write inc act s number content)))
-delivered w (Ask inc act g) = Ok (took w (on_message w.rec inc (Ask inc act g)))
+delivered w m = delivered_said w m m.said
 
 -- what the container's record holds of an object just before it takes a content of it
 abbrev pub taken_link : Option ℕ → ℕ → Option Link → List Taken
@@ -241,32 +261,31 @@ abbrev pub taken_by : Record → Option ℕ → ℕ → ℕ → Result Took Cont
 taken_by r p inc act (Err fault) = []
 taken_by r p inc act (Ok t) = if t.answer.taken then taken_of p (find (is_linked inc act) r.objects) else []
 
--- on the link of an incarnation
-abbrev pub taken_at : Record → Option ℕ → ℕ → Message → List Taken
-taken_at r p link (Call inc act n op) = []
-taken_at r p link (Reply inc act n answer) = taken_by r p inc act (on_message r link (Reply inc act n answer))
-taken_at r p link (Write inc act s number content) = taken_by r p inc act (on_message r link (Write inc act s number content))
-taken_at r p link (Ask inc act g) = taken_by r p inc act (on_message r link (Ask inc act g))
+-- on the link of a server
+abbrev pub taken_said : Record → Option ℕ → ServerLink → Message → Said → List Taken
+taken_said r p link m (Call inc act n op) = []
+taken_said r p link m (Reply inc act n answer) = taken_by r p inc act (on_message r link m)
+taken_said r p link m (Write inc act s number content) = taken_by r p inc act (on_message r link m)
+taken_said r p link m (Ask inc act g) = taken_by r p inc act (on_message r link m)
+
+abbrev pub taken_at : Record → Option ℕ → ServerLink → Message → List Taken
+taken_at r p link m = taken_said r p link m m.said
 
 abbrev pub with_taken : World → List Taken → Result World Stop → Result World Stop
 with_taken w more (Err stop) = Err stop
 with_taken w more (Ok after) = Ok (record after { taken = w.taken ++ more })
 
--- the server that a message is of, or for
-abbrev pub server_of : Message → ℕ
-server_of (Call inc act n op) = inc
-server_of (Reply inc act n answer) = inc
-server_of (Write inc act s number content) = inc
-server_of (Ask inc act g) = inc
-
 abbrev pub deliver : World → ℕ → Option Sent → Result World Stop
 deliver w p None = Err NotEnabled
-deliver w p (Some sent) = with_taken w (taken_at w.rec (Some p) (server_of sent.message) sent.message) (delivered w sent.message)
+deliver w p (Some sent) = with_taken w (taken_at w.rec (Some p) (link_of sent.message) sent.message) (delivered w sent.message)
 
 -- A forged message: any message at all, on the link of a server that was started and isn't reaped. The container takes it as
 -- one that was delivered, and it isn't among those that were sent. From then on the server is hostile.
+abbrev pub link_to : World → ℕ → ServerLink
+link_to w inc = record { session = w.rec.session; inc = inc }
+
 abbrev pub forged_on : World → ℕ → Message → World
-forged_on w inc m = record (took w (on_message w.rec inc m)) { taken = w.taken ++ taken_at w.rec None inc m; hostile = w.hostile ++ inc ∷ [] }
+forged_on w inc m = record (took w (on_message w.rec (link_to w inc) m)) { taken = w.taken ++ taken_at w.rec None (link_to w inc) m; hostile = w.hostile ++ inc ∷ [] }
 
 abbrev pub forged : World → ℕ → Message → Life → Result World Stop
 forged w inc m Running = Ok (forged_on w inc m)
