@@ -30,13 +30,13 @@ first_wanted v (Some class) given e = wanted_if (nat_le v.numbers (length v.acts
 abbrev served : Server → Answer → Bool → Result Served ServerFault
 served after answer used = Ok (record { server = after; answer = answer; counted = None; used = used })
 
-pub first_takes : (inc numbers : ℕ) (acts : List Activation) (act n : ℕ) (op : Operation) (box : Option Kind) (given : List ℕ) (after : Server) (answer : Answer)
-    → first_class (server inc numbers acts) (begun_class n op) ≡ Ok given → offered (server inc numbers acts) act given op box ≡ served after answer true
-    → TakesCall (server inc numbers acts) act n op box None after (Reply inc act n answer) None
-first_takes inc numbers acts act n op box given after answer e h =
-    let v = server inc numbers acts in
+pub first_takes : (session inc numbers : ℕ) (acts : List Activation) (act n : ℕ) (op : Operation) (box : Option Kind) (given : List ℕ) (after : Server) (answer : Answer)
+    → first_class (server session inc numbers acts) (begun_class n op) ≡ Ok given → offered (server session inc numbers acts) act given op box ≡ served after answer true
+    → TakesCall (server session inc numbers acts) act n op box None after (record { session = session; said = Reply inc act n answer }) None
+first_takes session inc numbers acts act n op box given after answer e h =
+    let v = server session inc numbers acts in
     (answer, first_offers v act op box (begun_class n op) given e ∙ (h ∙ ap (λ (class : Option (List ℕ)). served after answer (is_some class)) (sym (first_wanted v (begun_class n op) given e))), refl)
 
-pub offer_refuses : (inc numbers : ℕ) (acts : List Activation) (act : ℕ) (op : Operation) (box : Option Kind) (class : Option (List ℕ)) (given : List ℕ) (fault : ServerFault)
-    → first_class (server inc numbers acts) class ≡ Ok given → Refuses (offered (server inc numbers acts) act given op box) fault → Refuses (unknown_call (server inc numbers acts) act op box class) fault
-offer_refuses inc numbers acts act op box class given fault e h = rw (first_offers (server inc numbers acts) act op box class given e) h
+pub offer_refuses : (session inc numbers : ℕ) (acts : List Activation) (act : ℕ) (op : Operation) (box : Option Kind) (class : Option (List ℕ)) (given : List ℕ) (fault : ServerFault)
+    → first_class (server session inc numbers acts) class ≡ Ok given → Refuses (offered (server session inc numbers acts) act given op box) fault → Refuses (unknown_call (server session inc numbers acts) act op box class) fault
+offer_refuses session inc numbers acts act op box class given fault e h = rw (first_offers (server session inc numbers acts) act op box class given e) h

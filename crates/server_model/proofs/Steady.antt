@@ -1,5 +1,5 @@
 -- What stays of an activation, whatever calls come.
-use Rattle.std.proofs.Common.{◌≡◌, ◌≢◌, ◌≤◌, ◌+◌, ℕ, Bool, true, false, cond, List, [], ◌∷◌, ◌++◌, length, refl, ap, sym, subst, ◌∙◌, Option, Some, None, Result, Ok, Err, nat_le, nat_eq, arith, eq-eqb, eqb-true}
+use Rattle.std.proofs.Common.{◌≡◌, ◌≢◌, ◌≤◌, ◌+◌, ℕ, Bool, true, false, cond, List, [], ◌∷◌, ◌++◌, length, refl, ap, sym, subst, ◌∙◌, Option, Some, None, Result, Ok, Err, nat_le, nat_eq, ◌&&◌, arith, eq-eqb, eqb-true}
 use Rattle.std.proofs.lemmas.Bool.{ne_eqb, eqb-false}
 use Rattle.object_state.specs.Both as both
 use Rattle.object_state.specs.declared.both_states.States.{States}
@@ -17,11 +17,12 @@ use Rattle.wire_msgs.specs.declared.refusal.Refusal.{Refusal}
 use Rattle.wire_msgs.specs.declared.operation.Operation.{Operation}
 use Rattle.wire_msgs.specs.declared.operation.Operation.TheVariants.{InitNew, Load, InPlace, UiActivate, UiDeactivate, InPlaceDeactivate, OpenWindow, Edit, Save, HandsOff, SaveCompleted, SaveDropped, Close}
 use Rattle.wire_msgs.specs.declared.message.Message.{Message}
+use Rattle.wire_msgs.specs.declared.message.Said.{Said}
 use Rattle.wire_msgs.specs.declared.message.Said.TheVariants.{Call, Reply, Write, Ask}
 use Rattle.server_model.specs.declared.fault.ServerFault.{ServerFault}
 use Rattle.server_model.specs.declared.fault.ServerFault.TheVariants.{WrongIncarnation, Ignored, NumbersSpent, NeedObject, WrongClass}
-use Rattle.server_model.specs.Server.{Activation, Server, Acted, Served, acted, after_begun, after_known, answers, begins, begun_class, begun_content, called, closes, counts, does, edits, is_act, is_class, known_call, next_call, offered, on_call, refuses, unknown_call}
-use Rattle.server_model.specs.Laws.{ActsOnce, ClosedForGood, OthersStay, activation, after, after_all}
+use Rattle.server_model.specs.Server.{Activation, Server, Acted, Served, acted, after_begun, after_known, answers, begins, begun_class, begun_content, called, closes, counts, does, edits, is_act, is_class, is_for, known_call, next_call, offered, on_call, on_said, refuses, unknown_call}
+use Rattle.server_model.specs.Laws.{ActsOnce, ClosedForGood, OthersStay, OtherSessionsStay, TakenInSession, activation, after, after_all}
 use Rattle.server_model.proofs.Finding.{find-last, find-past, find-put, put-found, put-other}
 use Rattle.server_model.proofs.Writing.{found_passes}
 
@@ -186,8 +187,36 @@ inc_leaves : (b : Bool) (other : ℕ) (v : Server) (r : Result Served ServerFaul
 inc_leaves true other v r h = h
 inc_leaves false other v r h = refl
 
+-- Whose session it is comes first.
+
+other_session : (b : Bool) (v : Server) (given : Bool) (r : Result Served ServerFault) → b ≡ false → after v (cond (b && given) r (Err WrongIncarnation)) ≡ v
+other_session true v given r e = cc
+other_session false v given r e = refl
+
+said_elsewhere : (v : Server) (session : ℕ) (said : Said) (box : Option Kind) → session ≢ v.session → after v (on_said v session said box) ≡ v
+said_elsewhere v session (Call inc act n op) box differ = other_session (nat_eq session v.session) v (nat_eq inc v.inc) _ (ne_eqb session v.session differ)
+said_elsewhere v session (Reply inc act n answer) box differ = refl
+said_elsewhere v session (Write inc act s w content) box differ = refl
+said_elsewhere v session (Ask inc act g) box differ = refl
+
+pub other-sessions_stay : OtherSessionsStay
+other-sessions_stay v m box differ = said_elsewhere v m.session m.said box differ
+
+own_session : (b given : Bool) (r : Result Served ServerFault) (told : Served) → cond (b && given) r (Err WrongIncarnation) ≡ Ok told → b ≡ true
+own_session true given r told e = refl
+own_session false given r told e = cc
+
+said_here : (v : Server) (session : ℕ) (said : Said) (box : Option Kind) (told : Served) → on_said v session said box ≡ Ok told → session ≡ v.session
+said_here v session (Call inc act n op) box told e = eqb-true session v.session (own_session (nat_eq session v.session) (nat_eq inc v.inc) _ told e)
+said_here v session (Reply inc act n answer) box told e = cc
+said_here v session (Write inc act s w content) box told e = cc
+said_here v session (Ask inc act g) box told e = cc
+
+pub taken-in_session : TakenInSession
+taken-in_session v m box told e = said_here v m.session m.said box told e
+
 pub others-stay : OthersStay
-others-stay v inc act other n op box differ = inc_leaves (nat_eq inc v.inc) other v _ (call_leaves v act other n op box (find (is_act act) v.acts) differ refl)
+others-stay v session inc act other n op box differ = inc_leaves (is_for v session inc) other v _ (call_leaves v act other n op box (find (is_act act) v.acts) differ refl)
 
 -- What any message leaves of an activation: it comes no less far, and stays as it is where it is closed.
 record Stays (act : ℕ) (a : Activation) (v : Server) : Type 0 where
@@ -223,11 +252,11 @@ inc_stays : (b : Bool) (act : ℕ) (a : Activation) (v : Server) (r : Result Ser
 inc_stays true act a v r e h = h
 inc_stays false act a v r e h = stays_same act a v e
 
-message_stays : (v : Server) (m : Message) (box : Option Kind) (act : ℕ) (a : Activation) → activation act v ≡ Some a → Stays act a (after v (on_call v m box))
-message_stays v (Call inc by n op) box act a e = inc_stays (nat_eq inc v.inc) act a v _ e (call_stays v act by n op box a e)
-message_stays v (Reply inc by n answer) box act a e = stays_same act a v e
-message_stays v (Write inc by s w content) box act a e = stays_same act a v e
-message_stays v (Ask inc by g) box act a e = stays_same act a v e
+said_stays : (v : Server) (session : ℕ) (said : Said) (box : Option Kind) (act : ℕ) (a : Activation) → activation act v ≡ Some a → Stays act a (after v (on_said v session said box))
+said_stays v session (Call inc by n op) box act a e = inc_stays (is_for v session inc) act a v _ e (call_stays v act by n op box a e)
+said_stays v session (Reply inc by n answer) box act a e = stays_same act a v e
+said_stays v session (Write inc by s w content) box act a e = stays_same act a v e
+said_stays v session (Ask inc by g) box act a e = stays_same act a v e
 
 stays_more : (act : ℕ) (a : Activation) (v w : Server) (first : Stays act a v) → Stays act first.now w → Stays act a w
 stays_more act a v w first then =
@@ -241,7 +270,7 @@ stays_more act a v w first then =
 all_stays : (v : Server) (ms : List (Message × Option Kind)) (act : ℕ) (a : Activation) → activation act v ≡ Some a → Stays act a (after_all v ms)
 all_stays v [] act a e = stays_same act a v e
 all_stays v (m ∷ ms) act a e =
-    let first = message_stays v m.0 m.1 act a e in
+    let first = said_stays v m.0.session m.0.said m.1 act a e in
     stays_more act a (after v (on_call v m.0 m.1)) (after_all v (m ∷ ms)) first (all_stays (after v (on_call v m.0 m.1)) ms act first.now first.is)
 
 pub closed-for_good : ClosedForGood
@@ -302,12 +331,12 @@ inc_again : (b : Bool) (v : Server) (r : Result Served ServerFault) → Again v 
 inc_again true v r h = h
 inc_again false v r h = λ told e. cc
 
-pub call_again : (v : Server) (inc act n : ℕ) (op : Operation) (box : Option Kind) (a : Activation) → activation act v ≡ Some a → n ≤ a.last → Again v (on_call v (Call inc act n op) box)
-call_again v inc act n op box a e le =
-    inc_again (nat_eq inc v.inc) v _ (subst (λ r. Again v (called v act n op box r)) (sym e) (known_again v act n op a e le))
+pub call_again : (v : Server) (session inc act n : ℕ) (op : Operation) (box : Option Kind) (a : Activation) → activation act v ≡ Some a → n ≤ a.last → Again v (on_said v session (Call inc act n op) box)
+call_again v session inc act n op box a e le =
+    inc_again (is_for v session inc) v _ (subst (λ r. Again v (called v act n op box r)) (sym e) (known_again v act n op a e le))
 
 pub acts-once : ActsOnce
-acts-once v inc act n op other box more told ms e again h =
-    let reaches = inc_taken (nat_eq inc v.inc) act n _ (call_taken v act n op box (find (is_act act) v.acts) refl) told e in
+acts-once v session inc act n op other box more told ms e again h =
+    let reaches = inc_taken (is_for v session inc) act n _ (call_taken v act n op box (find (is_act act) v.acts) refl) told e in
     let stays = all_stays told.server ms act reaches.now reaches.is in
-    (call_again (after_all told.server ms) inc act n other more stays.now stays.is (omega (arith, reaches.last, stays.last)) again h).0
+    (call_again (after_all told.server ms) session inc act n other more stays.now stays.is (omega (arith, reaches.last, stays.last)) again h).0

@@ -1,13 +1,14 @@
 -- When a message uses an object.
-use Rattle.std.proofs.Common.{◌≡◌, ℕ, Bool, true, false, cond, List, [], ◌∷◌, ◌++◌, length, refl, sym, ◌∙◌, Option, Some, None, Result, Ok, Err, nat_le, nat_eq}
+use Rattle.std.proofs.Common.{◌≡◌, ℕ, Bool, true, false, cond, List, [], ◌∷◌, ◌++◌, length, refl, sym, ◌∙◌, Option, Some, None, Result, Ok, Err, nat_le}
 use Rattle.std.proofs.lemmas.Slice.Eq.{bytes_eq-Decides}
 use Rattle.embed_core.specs.Kinds.{Kind, class_of}
 use Rattle.wire_msgs.specs.Found.{find}
 use Rattle.wire_msgs.specs.declared.operation.Operation.{Operation}
+use Rattle.wire_msgs.specs.declared.message.Said.{Said}
 use Rattle.wire_msgs.specs.declared.message.Said.TheVariants.{Call, Reply, Write, Ask}
 use Rattle.server_model.specs.declared.fault.ServerFault.{ServerFault}
 use Rattle.server_model.specs.declared.fault.ServerFault.TheVariants.{WrongIncarnation, Ignored, NumbersSpent, WrongClass}
-use Rattle.server_model.specs.Server.{Activation, Server, Acted, Served, after_known, after_begun, begins, begun_class, begun_content, called, is_act, is_class, known_call, offered, unknown_call, wanted_unknown}
+use Rattle.server_model.specs.Server.{Activation, Server, Acted, Served, after_known, after_begun, begins, begun_class, begun_content, called, is_act, is_class, is_for, known_call, offered, on_said, unknown_call, wanted_by, wanted_unknown}
 use Rattle.server_model.specs.Laws.{UnwantedUnused, WantedUsed}
 
 abbrev Unused : Result Served ServerFault → Type 0
@@ -39,12 +40,15 @@ inc_unused : (b : Bool) (class : Option (List ℕ)) (r without : Result Served S
 inc_unused true class r without f e = f e
 inc_unused false class r without f e = none_used WrongIncarnation
 
+said_unused : (v : Server) (session : ℕ) (said : Said) (box : Option Kind) → wanted_by v session said ≡ None → Same (on_said v session said box) (on_said v session said None)
+said_unused v session (Call inc act n op) box e =
+    inc_unused (is_for v session inc) (wanted_unknown v (begun_class n op) (find (is_act act) v.acts)) _ _ (call_unused v act n op box (find (is_act act) v.acts)) e
+said_unused v session (Reply inc act n answer) box e = none_used Ignored
+said_unused v session (Write inc act s w content) box e = none_used Ignored
+said_unused v session (Ask inc act g) box e = none_used Ignored
+
 pub unwanted-unused : UnwantedUnused
-unwanted-unused v (Call inc act n op) box e =
-    inc_unused (nat_eq inc v.inc) (wanted_unknown v (begun_class n op) (find (is_act act) v.acts)) _ _ (call_unused v act n op box (find (is_act act) v.acts)) e
-unwanted-unused v (Reply inc act n answer) box e = none_used Ignored
-unwanted-unused v (Write inc act s w content) box e = none_used Ignored
-unwanted-unused v (Ask inc act g) box e = none_used Ignored
+unwanted-unused v m box e = said_unused v m.session m.said box e
 
 abbrev Used : Result Served ServerFault → Type 0
 Used r = (told : Served) × (r ≡ Ok told) × (told.used ≡ true)
@@ -76,9 +80,12 @@ inc_used : (b : Bool) (class : Option (List ℕ)) (given : List ℕ) (r : Result
 inc_used true class given r f e = f e
 inc_used false class given r f e = cc
 
+said_used : (v : Server) (session : ℕ) (said : Said) (given : List ℕ) (kind : Kind) → wanted_by v session said ≡ Some given → given ≡ class_of kind → Used (on_said v session said (Some kind))
+said_used v session (Call inc act n op) given kind e k =
+    inc_used (is_for v session inc) (wanted_unknown v (begun_class n op) (find (is_act act) v.acts)) given _ (λ h. call_used v act n op given kind (find (is_act act) v.acts) h k) e
+said_used v session (Reply inc act n answer) given kind e k = cc
+said_used v session (Write inc act s w content) given kind e k = cc
+said_used v session (Ask inc act g) given kind e k = cc
+
 pub wanted-used : WantedUsed
-wanted-used v (Call inc act n op) given kind e k =
-    inc_used (nat_eq inc v.inc) (wanted_unknown v (begun_class n op) (find (is_act act) v.acts)) given _ (λ h. call_used v act n op given kind (find (is_act act) v.acts) h k) e
-wanted-used v (Reply inc act n answer) given kind e k = cc
-wanted-used v (Write inc act s w content) given kind e k = cc
-wanted-used v (Ask inc act g) given kind e k = cc
+wanted-used v m given kind e k = said_used v m.session m.said given kind e k

@@ -5,11 +5,11 @@ use Rattle.std.proofs.lemmas.Bool.{eqb-true}
 use Rattle.object_state.specs.Persists.{may_write}
 use Rattle.embed_core.specs.Content.{Content}
 use Rattle.wire_msgs.specs.Found.{find, put, IsPlace}
-use Rattle.wire_msgs.specs.declared.message.Message.{Message}
+use Rattle.wire_msgs.specs.declared.message.Said.{Said}
 use Rattle.wire_msgs.specs.declared.message.Said.TheVariants as message
 use Rattle.server_model.specs.declared.fault.ServerFault.{ServerFault}
 use Rattle.server_model.specs.declared.fault.ServerFault.TheVariants.{WrongIncarnation, Ignored, NumbersSpent, NeedObject, WrongClass, NoMemory}
-use Rattle.server_model.specs.Server.{Activation, Server, Told, Refuses, Tells, is_act, scribbled, scribbled_open, stored_of}
+use Rattle.server_model.specs.Server.{Activation, Server, Told, Refuses, Tells, from_server, is_act, scribbled, scribbled_open, stored_of}
 use Rattle.server_model.specs.Opened.{Written, Writes, write_open}
 use Rattle.server_model.proofs.Places.{seen_at, seen_put}
 use Rattle.server_model.proofs.Known.{server}
@@ -25,7 +25,7 @@ found_passes test (y ∷ ys) x e =
 
 abbrev after_write : Server → ℕ → Result Written ServerFault → Result Told ServerFault
 after_write v act (Err fault) = Err fault
-after_write v act (Ok b) = Ok (record { server = record v { acts = put (is_act act) b.activation v.acts }; message = b.message })
+after_write v act (Ok b) = Ok (record { server = record v { acts = put (is_act act) b.activation v.acts }; message = from_server v b.said })
 
 after_both : (v : Server) (act : ℕ) (may spent : Bool) (b : Written)
     → cond may (cond spent (Err NumbersSpent) (after_write v act (Ok b))) (Err Ignored) ≡ after_write v act (cond may (cond spent (Err NumbersSpent) (Ok b)) (Err Ignored))
@@ -37,7 +37,7 @@ writes_after : (v : Server) (a : Activation) (content : Option Content) → scri
 writes_after v a None = refl
 writes_after v a (Some c) =
     after_both v a.act (may_write a.states.persist.state) (nat_le v.numbers a.w)
-    (record { activation = record a { w = a.w + 1 }; message = message.Write v.inc a.act a.s (a.w + 1) (stored_of c) })
+    (record { activation = record a { w = a.w + 1 }; said = message.Write v.inc a.act a.s (a.w + 1) (stored_of c) })
 
 write_ok : (v : Server) (act : ℕ) (told : Result Written ServerFault) → IsOk told → IsOk (after_write v act told)
 write_ok v act (Ok b) h = h
@@ -51,28 +51,28 @@ write_refused v act told NeedObject h = ap (after_write v act) h
 write_refused v act told WrongClass h = ap (after_write v act) h
 write_refused v act told NoMemory h = write_ok v act told h
 
-abbrev told_with : ℕ → ℕ → Message → List Activation → Result Told ServerFault
-told_with inc numbers m acts = Ok (record { server = server inc numbers acts; message = m })
+abbrev told_with : ℕ → ℕ → ℕ → Said → List Activation → Result Told ServerFault
+told_with session inc numbers said acts = Ok (record { server = server session inc numbers acts; message = record { session = session; said = said } })
 
 -- the activation at i writes
-at_place : {A : Type 0} (inc numbers : ℕ) (f : A → Activation) (xs : List A) (i act : ℕ) (x : A) → IsPlace (is_act act) (map f xs) i → x ≡ get_or xs i x
-    → scribbled (server inc numbers (map f xs)) (find (is_act act) (map f xs)) ≡ after_write (server inc numbers (map f xs)) act (write_open inc numbers (f x) (f x).content)
-at_place inc numbers f xs i act x p e =
-    let v = server inc numbers (map f xs) in
+at_place : {A : Type 0} (session inc numbers : ℕ) (f : A → Activation) (xs : List A) (i act : ℕ) (x : A) → IsPlace (is_act act) (map f xs) i → x ≡ get_or xs i x
+    → scribbled (server session inc numbers (map f xs)) (find (is_act act) (map f xs)) ≡ after_write (server session inc numbers (map f xs)) act (write_open inc numbers (f x) (f x).content)
+at_place session inc numbers f xs i act x p e =
+    let v = server session inc numbers (map f xs) in
     let here : find (is_act act) (map f xs) ≡ Some (f x) = seen_at (is_act act) f xs i x p e in
     let number : (f x).act ≡ act = eqb-true _ _ (found_passes (is_act act) (map f xs) (f x) here) in
     ap (scribbled v) here ∙ (writes_after v (f x) (f x).content ∙ ap (λ (n : ℕ). after_write v n (write_open inc numbers (f x) (f x).content)) number)
 
-pub write_told : {A : Type 0} (inc numbers : ℕ) (f : A → Activation) (xs : List A) (i act : ℕ) (x y : A) (m : Message)
-    → IsPlace (is_act act) (map f xs) i → x ≡ get_or xs i x → Writes (write_open inc numbers (f x) (f x).content) (f y) m
-    → Tells (scribbled (server inc numbers (map f xs)) (find (is_act act) (map f xs))) (server inc numbers (map f (set xs i y))) m
-write_told inc numbers f xs i act x y m p e h =
-    at_place inc numbers f xs i act x p e
-    ∙ (ap (after_write (server inc numbers (map f xs)) act) h
-    ∙ ap (told_with inc numbers m) (seen_put (is_act act) f xs i y p))
+pub write_told : {A : Type 0} (session inc numbers : ℕ) (f : A → Activation) (xs : List A) (i act : ℕ) (x y : A) (said : Said)
+    → IsPlace (is_act act) (map f xs) i → x ≡ get_or xs i x → Writes (write_open inc numbers (f x) (f x).content) (f y) said
+    → Tells (scribbled (server session inc numbers (map f xs)) (find (is_act act) (map f xs))) (server session inc numbers (map f (set xs i y))) (record { session = session; said = said })
+write_told session inc numbers f xs i act x y said p e h =
+    at_place session inc numbers f xs i act x p e
+    ∙ (ap (after_write (server session inc numbers (map f xs)) act) h
+    ∙ ap (told_with session inc numbers said) (seen_put (is_act act) f xs i y p))
 
-pub write_refuses : {A : Type 0} (inc numbers : ℕ) (f : A → Activation) (xs : List A) (i act : ℕ) (x : A) (fault : ServerFault)
+pub write_refuses : {A : Type 0} (session inc numbers : ℕ) (f : A → Activation) (xs : List A) (i act : ℕ) (x : A) (fault : ServerFault)
     → IsPlace (is_act act) (map f xs) i → x ≡ get_or xs i x → Refuses (write_open inc numbers (f x) (f x).content) fault
-    → Refuses (scribbled (server inc numbers (map f xs)) (find (is_act act) (map f xs))) fault
-write_refuses inc numbers f xs i act x fault p e h =
-    rw (at_place inc numbers f xs i act x p e) (write_refused (server inc numbers (map f xs)) act (write_open inc numbers (f x) (f x).content) fault h)
+    → Refuses (scribbled (server session inc numbers (map f xs)) (find (is_act act) (map f xs))) fault
+write_refuses session inc numbers f xs i act x fault p e h =
+    rw (at_place session inc numbers f xs i act x p e) (write_refused (server session inc numbers (map f xs)) act (write_open inc numbers (f x) (f x).content) fault h)

@@ -10,9 +10,10 @@ use Rattle.server_model.specs.declared.counted.Counted.{Counted}
 use Rattle.server_model.specs.declared.fault.ServerFault.{ServerFault}
 use Rattle.server_model.specs.declared.fault.ServerFault.TheVariants.{Ignored, NumbersSpent}
 use Rattle.wire_msgs.specs.declared.message.Message.{Message}
+use Rattle.wire_msgs.specs.declared.message.Said.{Said}
 use Rattle.wire_msgs.specs.declared.message.Said.TheVariants.{Reply, Write}
 use Rattle.embed_core.specs.Kinds.{Kind}
-use Rattle.server_model.specs.Server.{Activation, Acted, Server, called, begun_class, does, stored_of, wanted_unknown}
+use Rattle.server_model.specs.Server.{Activation, Acted, Server, called, begun_class, does, from_server, stored_of, wanted_unknown}
 
 -- an operation that the tables take
 abbrev pub does_open : Activation → States → Operation → Option Content → Result Acted ServerFault
@@ -35,7 +36,7 @@ Acts told after answer counted = told ≡ Ok (record { activation = after; answe
 -- a call for this server was taken, where its activation is this one or none
 abbrev pub TakesCall : Server → ℕ → ℕ → Operation → Option Kind → Option Activation → Server → Message → Option Counted → Type 0
 TakesCall v act n op box a after reply counted =
-    (told : Answer) × (called v act n op box a ≡ Ok (record { server = after; answer = told; counted = counted; used = is_some (wanted_unknown v (begun_class n op) a) })) × (reply ≡ Reply v.inc act n told)
+    (told : Answer) × (called v act n op box a ≡ Ok (record { server = after; answer = told; counted = counted; used = is_some (wanted_unknown v (begun_class n op) a) })) × (reply ≡ from_server v (Reply v.inc act n told))
 
 -- a call of a known activation was taken, which uses no object, whatever is handed in
 abbrev pub TakesKnown : Server → ℕ → ℕ → Operation → Option Activation → Server → Answer → Option Counted → Type 0
@@ -47,17 +48,17 @@ abbrev pub first_class : Server → Option (List ℕ) → Result (List ℕ) Serv
 first_class v None = Err Ignored
 first_class v (Some class) = cond (nat_le v.numbers (length v.acts)) (Err NumbersSpent) (Ok class)
 
--- an activation after a write of its own accord, and the message
+-- an activation after a write of its own accord, and what is said
 pub record Written : Type 0 where
   pub activation : Activation
-  pub message : Message
+  pub said : Said
 
 abbrev pub write_open : ℕ → ℕ → Activation → Option Content → Result Written ServerFault
 write_open inc numbers a None = Err Ignored
 write_open inc numbers a (Some c) =
     cond (may_write a.states.persist.state)
-    (cond (nat_le numbers a.w) (Err NumbersSpent) (Ok (record { activation = record a { w = a.w + 1 }; message = Write inc a.act a.s (a.w + 1) (stored_of c) })))
+    (cond (nat_le numbers a.w) (Err NumbersSpent) (Ok (record { activation = record a { w = a.w + 1 }; said = Write inc a.act a.s (a.w + 1) (stored_of c) })))
     (Err Ignored)
 
-abbrev pub Writes : Result Written ServerFault → Activation → Message → Type 0
-Writes told after message = told ≡ Ok (record { activation = after; message = message })
+abbrev pub Writes : Result Written ServerFault → Activation → Said → Type 0
+Writes told after said = told ≡ Ok (record { activation = after; said = said })

@@ -6,7 +6,7 @@ use thiserror::Error;
 /// Why a server takes no message.
 #[derive(Debug, Clone, Copy, Error)]
 pub enum ServerFault {
-    /// A call for another incarnation.
+    /// A call of another session, or for another incarnation.
     #[error("the call is for another incarnation")]
     WrongIncarnation,
     /// A message that a server doesn't act on.

@@ -1,6 +1,6 @@
 //! Laws of servers. Each function is empty: its contract is the law, which is proved.
 
-ghost use Rattle.server_model.specs.Laws.{ActsOnce, ClosedForGood, OthersStay, UnwantedUnused, WantedUsed};
+ghost use Rattle.server_model.specs.Laws.{ActsOnce, ClosedForGood, OtherSessionsStay, OthersStay, TakenInSession, UnwantedUnused, WantedUsed};
 ghost use Rattle.server_model.specs.Stored.{PicturesAreRead, StoredIsWithin};
 
 /// A call that was taken never acts again.
@@ -16,6 +16,16 @@ pub fn closed_for_good()
 /// A call for one activation leaves the others as they are.
 pub fn others_stay()
     ensures { OthersStay }
+{}
+
+/// A message of another session does nothing.
+pub fn other_sessions_stay()
+    ensures { OtherSessionsStay }
+{}
+
+/// A message that is taken is of the server's session.
+pub fn taken_in_session()
+    ensures { TakenInSession }
 {}
 
 /// A message that wants no object does the same with one as without, and doesn't use it.
