@@ -32,7 +32,7 @@ use Rattle.container_model.specs.HandOffs.{hand_off_in, is_answered, unasked}
 use Rattle.container_model.specs.Grants.{Requested, event_of, grant_each, grant_of, is_by, moved, passed_to, regranted, regranted_by, regranted_in, requested}
 use Rattle.container_model.specs.Record.{Record, Took, asked_link, is_alive, is_link, is_linked, is_object, is_unreaped, with_object}
 use Rattle.container_model.specs.Saves.{settle}
-use Rattle.container_model.specs.Messages.{Replied, ask_found, ask_framed, is_held_by, is_open_to, next_link, on_ask, on_write, relieved, replied, replied_fitting, replied_grant, replied_saving, replied_object, write_found, write_link, write_made, written_object, replied_record, reply_pending, reply_link, reply_taken, reply_found, on_reply, on_message}
+use Rattle.container_model.specs.Messages.{Replied, ask_found, ask_framed, is_held_by, is_open_to, next_link, on_ask, on_write, relieved, replied, replied_fitting, replied_grant, replied_saving, replied_object, write_found, write_link, write_made, written_object, replied_record, reply_pending, reply_link, reply_taken, reply_found, on_reply, on_message, is_said_by, said_to}
 use Rattle.container_steady.specs.Roles.{IsClaim, Getting, Giving, Holding, Other, Role, SteadyGrant, Waiting, role_in}
 use Rattle.container_steady.specs.Steady.{SteadyLink, SteadyObject, Steady}
 use Rattle.container_steps.specs.Steps.{FittingAnswersTaken}
@@ -357,6 +357,10 @@ linked_inc inc act o l e h =
     let t : (l.inc == inc) && (l.act == act) ≡ true = sym (ap (is_link inc act) e) ∙ h in
     eqb-true l.inc inc (and_both (l.inc == inc) (l.act == act) t).0
 
+-- what a server says on its own link, in the record's session
+own_taken : (r : Record) (inc : ℕ) (said : Said) → is_said_by inc said ≡ true → IsOk (said_to r said) → IsOk (on_message r (record { session = r.session; inc = inc }) (record { session = r.session; said = said }))
+own_taken r inc said own h = (let same : (r.session == r.session) ≡ true = eq-eqb r.session r.session refl in rw (same, own) h)
+
 pub fitting_answers_taken : FittingAnswersTaken
 fitting_answers_taken r inc act answer o l op s found is pending fits =
     let h = each_found (SteadyObject r) (is_linked inc act) r.objects o s.objects found in
@@ -372,4 +376,4 @@ fitting_answers_taken r inc act answer o l op s found is pending fits =
     let answered : IsOk (reply_link l.last answer o.link) = subst (λ (z : Option Link). IsOk (reply_link l.last answer z)) (sym is) linked in
     let here : IsOk (reply_found r inc act l.last answer (find (is_linked inc act) r.objects)) = subst (λ (z : Option Object). IsOk (reply_found r inc act l.last answer z)) (sym found) (taken_ok r inc act o (reply_link l.last answer o.link) answered) in
     let living : IsOk (on_reply r inc act l.last answer) = subst (λ (b : Bool). IsOk (if b then reply_found r inc act l.last answer (find (is_linked inc act) r.objects) else Err Stale)) (sym alive) here in
-    subst (λ (b : Bool). IsOk (if b then on_reply r inc act l.last answer else Err WrongLink)) (sym (eq-eqb inc inc refl)) living
+    own_taken r inc (Reply inc act l.last answer) (eq-eqb inc inc refl) living

@@ -42,7 +42,7 @@ Fits op answer = ⊥
 
 -- an answer to the pending call that fits it is taken: the tables refuse none
 abbrev pub FittingAnswersTaken : Type 0
-FittingAnswersTaken = (r : Record) (inc act : ℕ) (answer : Answer) (o : Object) (l : Link) (op : Operation) → Steady r → find (is_linked inc act) r.objects ≡ Some o → o.link ≡ Some l → l.pending ≡ Some op → Fits op answer → IsOk (on_message r inc (Reply inc act l.last answer))
+FittingAnswersTaken = (r : Record) (inc act : ℕ) (answer : Answer) (o : Object) (l : Link) (op : Operation) → Steady r → find (is_linked inc act) r.objects ≡ Some o → o.link ≡ Some l → l.pending ≡ Some op → Fits op answer → IsOk (on_message r (record { session = r.session; inc = inc }) (record { session = r.session; said = Reply inc act l.last answer }))
 
 -- so it holds whatever was done from the start on
 abbrev pub SteadyAlways : Type 0

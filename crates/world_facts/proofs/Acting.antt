@@ -3,7 +3,7 @@
 use Rattle.std.proofs.Common.{◌≡◌, ◌⊎◌, ℕ, Bool, slice_get, ◌+◌, ◌<◌, ◌≤◌, List, [], ◌∷◌, ◌++◌, Option, Some, None, refl, sym, ap, ◌∙◌, inl, inr, arith, subst}
 use Rattle.wire_msgs.specs.Found.{nth}
 use Rattle.wire_msgs.specs.Operations.{op_of}
-use Rattle.wire_msgs.specs.declared.message.Message.{Message}
+use Rattle.wire_msgs.specs.declared.message.Said.{Said}
 use Rattle.wire_msgs.specs.declared.message.Said.TheVariants.{Call, Reply}
 use Rattle.wire_msgs.specs.declared.operation.Operation.{Operation}
 use Rattle.wire_msgs.specs.declared.operation.Operation.TheVariants.{Save, SaveCompleted}
@@ -24,11 +24,11 @@ use Rattle.world_facts.specs.Shapes.{IsFirst, IsChanged, Makes, ActsOn, again, n
 use Rattle.world_facts.proofs.Lookups.{among_join, among_old, among_new}
 use Rattle.world_facts.proofs.Issuing.{same_act, once_join, once_entries}
 
-module _ {hostile : List ℕ} (links : Links) (acts after : Acts) (lives : Lives) (sent : List Message) (owners : List ℕ) (last : ℕ) (counted : List Done) (served : List ServerDone)
+module _ {hostile : List ℕ} (links : Links) (acts after : Acts) (lives : Lives) (sent : List Said) (owners : List ℕ) (last : ℕ) (counted : List Done) (served : List ServerDone)
     (inc act n : ℕ) (op : Operation) (a : Activation) (r : Answer) (told : Option Counted)
     (f : Facts hostile links acts lives sent owners last counted served) (ready : IsReady links)
     (call : Among sent (Call inc act n op)) (ch : IsChanged acts after inc act a) (how : ActsOn acts inc act n op a r told) where
-  abbrev pub more : List Message
+  abbrev pub more : List Said
   more = sent ++ Reply inc act n r ∷ []
 
   pub old_call : (i x m : ℕ) (p : Operation) → Among more (Call i x m p) → Among sent (Call i x m p)

@@ -1,6 +1,6 @@
 -- Activations that differ in their contents alone, and in the last content that was written: each fact stays.
 use Rattle.std.proofs.Common.{◌≡◌, ◌<◌, ◌≤◌, ◌+◌, ℕ, List, Option, Some, None, Ok, refl, sym, ap, ◌∙◌, inl, inr, subst}
-use Rattle.wire_msgs.specs.declared.message.Message.{Message}
+use Rattle.wire_msgs.specs.declared.message.Said.{Said}
 use Rattle.wire_msgs.specs.declared.message.Said.TheVariants.{Reply}
 use Rattle.wire_msgs.specs.declared.operation.Operation.{Operation}
 use Rattle.wire_msgs.specs.declared.operation.Operation.TheVariants.{InitNew, Load, InPlace, UiActivate, UiDeactivate, InPlaceDeactivate, OpenWindow, Edit, Save, HandsOff, SaveCompleted, SaveDropped, Close}
@@ -121,7 +121,7 @@ closed_alike None y k h = absurd h
 closed_alike (Some a) None k h = absurd k
 closed_alike (Some a) (Some b) k h = k.closed h
 
-module _ {hostile : List ℕ} (links : Links) (acts after : Acts) (lives now : Lives) (sent : List Message) (owners : List ℕ) (last : ℕ) (counted : List Done) (served : List ServerDone)
+module _ {hostile : List ℕ} (links : Links) (acts after : Acts) (lives now : Lives) (sent : List Said) (owners : List ℕ) (last : ℕ) (counted : List Done) (served : List ServerDone)
     (same : (inc act : ℕ) → Alike (acts inc act) (after inc act)) (still : (inc : ℕ) → now inc ≡ lives inc) (f : Facts hostile links acts lives sent owners last counted served) where
   was : (inc act : ℕ) (b : Activation) → after inc act ≡ Some b → (a : Activation) × (acts inc act ≡ Some a) × IsAlike a b
   was inc act b e = before_of (acts inc act) b (subst (Alike (acts inc act)) e (same inc act))

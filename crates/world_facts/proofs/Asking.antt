@@ -1,7 +1,7 @@
 -- Of each object an operation is asked or none: what stays, and what is issued then.
 use Rattle.std.proofs.Common.{◌≡◌, ◌⊎◌, ℕ, ◌+◌, ◌≤◌, List, [], ◌∷◌, ◌++◌, length, Option, Some, None, refl, sym, ap, ◌∙◌, inl, inr, arith, subst, slice_get}
 use Rattle.wire_msgs.specs.Found.{nth}
-use Rattle.wire_msgs.specs.declared.message.Message.{Message}
+use Rattle.wire_msgs.specs.declared.message.Said.{Said}
 use Rattle.wire_msgs.specs.declared.message.Said.TheVariants.{Call, Reply}
 use Rattle.wire_msgs.specs.declared.operation.Operation.{Operation}
 use Rattle.wire_msgs.specs.declared.operation.Operation.TheVariants.{SaveCompleted}
@@ -37,7 +37,7 @@ pub record IsAsked (Asks : ℕ → Operation → Type 0) (links : Links) (inc ac
   pub number : n ≡ link.last + 1 + length link.waiting
 
 -- a message is the pending call of a link, which had nothing pending and nothing waiting
-pub record IsNewCall (Asks : ℕ → Operation → Type 0) (links after : Links) (m : Message) : Type 0 where
+pub record IsNewCall (Asks : ℕ → Operation → Type 0) (links after : Links) (m : Said) : Type 0 where
   pub o : ℕ
   pub before : Link
   pub link : Link
@@ -49,7 +49,7 @@ pub record IsNewCall (Asks : ℕ → Operation → Type 0) (links after : Links)
   pub asks : Asks o op
   pub call : m ≡ Call link.inc link.act link.last op
 
-module _ {hostile : List ℕ} (Asks : ℕ → Operation → Type 0) (links after : Links) (acts : Acts) (lives : Lives) (log more : List Message) (owners : List ℕ) (last : ℕ) (counted : List Done) (served : List ServerDone)
+module _ {hostile : List ℕ} (Asks : ℕ → Operation → Type 0) (links after : Links) (acts : Acts) (lives : Lives) (log more : List Said) (owners : List ℕ) (last : ℕ) (counted : List Done) (served : List ServerDone)
     (h : AsksAll Asks links after more) (f : Facts hostile links acts lives log owners last counted served) where
   came : (k : ℕ) (l : Link) → after k ≡ Some l → (b : Link) × (links k ≡ Some b) × Came b l
   came k l e = at (h.each k)
@@ -65,10 +65,10 @@ module _ {hostile : List ℕ} (Asks : ℕ → Operation → Type 0) (links after
   same_activation b l (sent op c) = (c.inc, c.act)
 
   -- a message that is sent is a new call
-  new_call : (m : Message) → Among more m → IsNewCall Asks links after m
+  new_call : (m : Said) → Among more m → IsNewCall Asks links after m
   new_call m g = (let p = h.from m g in at p.0 (h.each p.0) p.1)
     where
-      one : (x : Message) → Among (x ∷ []) m → m ≡ x
+      one : (x : Said) → Among (x ∷ []) m → m ≡ x
       one x (inl e) = e
       one x (inr z) = absurd z
 

@@ -1,7 +1,7 @@
 -- An object without a link gets one, with a number that was drawn now: each fact stays.
 use Rattle.std.proofs.Common.{◌≡◌, ◌≢◌, ◌⊎◌, ℕ, ◌+◌, ◌≤◌, Bool, List, [], ◌∷◌, ◌++◌, length, Option, Some, None, refl, sym, ap, ◌∙◌, inl, inr, arith, subst, slice_get}
 use Rattle.wire_msgs.specs.Found.{nth}
-use Rattle.wire_msgs.specs.declared.message.Message.{Message}
+use Rattle.wire_msgs.specs.declared.message.Said.{Said}
 use Rattle.wire_msgs.specs.declared.message.Said.TheVariants.{Call, Reply}
 use Rattle.wire_msgs.specs.declared.operation.Operation.{Operation}
 use Rattle.wire_msgs.specs.declared.operation.Operation.TheVariants.{SaveCompleted}
@@ -23,7 +23,7 @@ use Rattle.world_facts.proofs.Sending.{ahead_sent, only_calls}
 use Rattle.std.proofs.lemmas.Bool.Decides.{eqb_tells}
 
 -- more activations are made: what was counted stays
-pub counts_owned : {hostile : List ℕ} (links : Links) (acts : Acts) (sent : List Message) (owners extra : List ℕ) (counted : List Done) (served : List ServerDone) → Counts hostile links acts sent owners counted served → Counts hostile links acts sent (owners ++ extra) counted served
+pub counts_owned : {hostile : List ℕ} (links : Links) (acts : Acts) (sent : List Said) (owners extra : List ℕ) (counted : List Done) (served : List ServerDone) → Counts hostile links acts sent owners counted served → Counts hostile links acts sent (owners ++ extra) counted served
 counts_owned links acts sent owners extra counted served h = record {
   completed_counted = λ inc act n k s i. (let c = h.completed_counted inc act n k s i in (c.0, c.1, nth_old owners extra act c.0.object c.2, c.3));
   completed_once = λ inc act n inc' act' n' k o s s' i j e e'. h.completed_once inc act n inc' act' n' k o s s' i j (owned inc act n k o s i e) (owned inc' act' n' k o s' j e');
@@ -38,15 +38,15 @@ counts_owned links acts sent owners extra counted served h = record {
         let z : Some c.0.object ≡ Some o = sym (nth_old owners extra act c.0.object c.2) ∙ e in
         let q : c.0.object ≡ o = cc in c.2 ∙ ap Some q)
 
-module _ {hostile : List ℕ} (links after : Links) (acts : Acts) (lives : Lives) (sent more : List Message) (owners extra : List ℕ) (last : ℕ) (counted : List Done) (served : List ServerDone) (o : ℕ)
+module _ {hostile : List ℕ} (links after : Links) (acts : Acts) (lives : Lives) (sent more : List Said) (owners extra : List ℕ) (last : ℕ) (counted : List Done) (served : List ServerDone) (o : ℕ)
     (h : Begins links after lives (owners ++ extra) last o more) (many : length (owners ++ extra) ≡ last + 1) (f : Facts hostile links acts lives sent owners last counted served) where
   abbrev pub link : Link
-  link = begun_link h.inc (last + 1) h.op
+  link = begun_link h.session h.inc (last + 1) h.op
 
   find_link : (k : ℕ) (l : Link) → after k ≡ Some l → ((k ≡ o) × (l ≡ link)) ⊎ ((k ≢ o) × (links k ≡ Some l))
   find_link k l e = which links after o k link l h.is h.others e
 
-  is_new : (m : Message) → Among more m → m ≡ Call h.inc (last + 1) 1 h.op
+  is_new : (m : Said) → Among more m → m ≡ Call h.inc (last + 1) 1 h.op
   is_new m g = at (subst (λ xs. Among xs m) h.sends g)
     where
       at : Among (Call h.inc (last + 1) 1 h.op ∷ []) m → m ≡ Call h.inc (last + 1) 1 h.op

@@ -1,7 +1,7 @@
 -- A save is counted, and activations are told of it: each fact stays.
 use Rattle.std.proofs.Common.{◌≡◌, ◌⊎◌, ℕ, ◌+◌, Bool, List, ◌++◌, length, Some, sym, ap, ◌∙◌, inl, inr, subst}
 use Rattle.wire_msgs.specs.Found.{nth}
-use Rattle.wire_msgs.specs.declared.message.Message.{Message}
+use Rattle.wire_msgs.specs.declared.message.Said.{Said}
 use Rattle.wire_msgs.specs.declared.operation.Operation.{Operation}
 use Rattle.wire_msgs.specs.declared.operation.Operation.TheVariants.{SaveCompleted}
 use Rattle.stored_streams.specs.declared.stored.Stored.{Stored}
@@ -16,7 +16,7 @@ use Rattle.world_facts.specs.Shapes.{IsTold, CountsAll}
 use Rattle.world_facts.proofs.Lookups.{among_old, among_new}
 use Rattle.world_facts.proofs.Asking.{IsAsked, issued_now, asked_with}
 
-module _ {hostile : List ℕ} (links after : Links) (acts : Acts) (lives : Lives) (log more : List Message) (owners : List ℕ) (last : ℕ) (counted fresh : List Done) (served : List ServerDone) (k : ℕ)
+module _ {hostile : List ℕ} (links after : Links) (acts : Acts) (lives : Lives) (log more : List Said) (owners : List ℕ) (last : ℕ) (counted fresh : List Done) (served : List ServerDone) (k : ℕ)
     (h : CountsAll links after counted k fresh more) (f : Facts hostile links acts lives log owners last counted served) where
   abbrev pub Asked : ℕ → ℕ → ℕ → Operation → Type 0
   Asked inc act n op = IsAsked (IsTold links k fresh) links inc act n op

@@ -1,6 +1,6 @@
 -- Links go whose activation is closed, or whose server doesn't run or is hostile: each fact stays.
 use Rattle.std.proofs.Common.{◌≡◌, ◌⊎◌, ℕ, true, false, List, Some, None, sym, ap, ◌∙◌, inl, inr, subst}
-use Rattle.wire_msgs.specs.declared.message.Message.{Message}
+use Rattle.wire_msgs.specs.declared.message.Said.{Said}
 use Rattle.server_model.specs.Server.{Activation}
 use Rattle.container_model.specs.declared.record.Link.{Link}
 use Rattle.world_model.specs.declared.life.Life.TheVariants.{Running}
@@ -12,7 +12,7 @@ use Rattle.world_facts.specs.Facts.{Facts}
 use Rattle.world_facts.specs.Shapes.{MayGo, is_closed, is_over, of_hostile, EndsSome}
 use Rattle.world_facts.proofs.Issuing.{NoMoreEnds, counts_kept}
 
-module _ {hostile : List ℕ} (links after : Links) (acts : Acts) (lives : Lives) (sent : List Message) (owners : List ℕ) (last : ℕ) (counted : List Done) (served : List ServerDone)
+module _ {hostile : List ℕ} (links after : Links) (acts : Acts) (lives : Lives) (sent : List Said) (owners : List ℕ) (last : ℕ) (counted : List Done) (served : List ServerDone)
     (h : EndsSome hostile links after acts lives) (f : Facts hostile links acts lives sent owners last counted served) where
   old : (k : ℕ) (l : Link) → after k ≡ Some l → links k ≡ Some l
   old k l e = elim (h.each k) [ inl s ↦ sym s ∙ e | inr g ↦ absurd (let z : None ≡ Some l = sym g.0 ∙ e in cc) ]

@@ -1,6 +1,6 @@
 -- A server is hostile from now on: what holds of the honest ones holds of fewer.
 use Rattle.std.proofs.Common.{◌≡◌, ◌⊎◌, ◌==◌, ℕ, true, false, List, [], ◌∷◌, ◌++◌, refl, inl, inr, eq-eqb, if◌then◌else◌}
-use Rattle.wire_msgs.specs.declared.message.Message.{Message}
+use Rattle.wire_msgs.specs.declared.message.Said.{Said}
 use Rattle.container_model.specs.declared.answer.Done.{Done}
 use Rattle.world_model.specs.declared.logs.Sent.{Sent}
 use Rattle.world_model.specs.declared.logs.ServerDone.{ServerDone}
@@ -31,7 +31,7 @@ honest_or_hostile hostile inc = elim (is_hostile hostile inc) as (λ b. (b ≡ f
 abbrev pub Fewer : List ℕ → List ℕ → Type 0
 Fewer hostile more = (inc : ℕ) → IsHonest more inc → IsHonest hostile inc
 
-pub fewer_honest : (hostile more : List ℕ) (links : Links) (acts : Acts) (lives : Lives) (sent : List Message) (owners : List ℕ) (last : ℕ) (counted : List Done) (served : List ServerDone)
+pub fewer_honest : (hostile more : List ℕ) (links : Links) (acts : Acts) (lives : Lives) (sent : List Said) (owners : List ℕ) (last : ℕ) (counted : List Done) (served : List ServerDone)
     → Fewer hostile more → Facts hostile links acts lives sent owners last counted served → Facts more links acts lives sent owners last counted served
 fewer_honest hostile more links acts lives sent owners last counted served fewer f = record {
   drawn = f.drawn;
@@ -60,7 +60,7 @@ fewer_views hostile more links acts log fewer v = record {
   closes_sent = λ o l a option e honest. v.closes_sent o l a option e (fewer l.inc honest);
 }
 
-pub turned_facts : (hostile : List ℕ) (inc : ℕ) (links : Links) (acts : Acts) (lives : Lives) (sent : List Message) (owners : List ℕ) (last : ℕ) (counted : List Done) (served : List ServerDone)
+pub turned_facts : (hostile : List ℕ) (inc : ℕ) (links : Links) (acts : Acts) (lives : Lives) (sent : List Said) (owners : List ℕ) (last : ℕ) (counted : List Done) (served : List ServerDone)
     → Facts hostile links acts lives sent owners last counted served → Facts (hostile ++ inc ∷ []) links acts lives sent owners last counted served
 turned_facts hostile inc links acts lives sent owners last counted served f = fewer_honest hostile (hostile ++ inc ∷ []) links acts lives sent owners last counted served (honest_before hostile inc) f
 

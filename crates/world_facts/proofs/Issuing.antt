@@ -1,7 +1,7 @@
 -- What the counts of saves need of a change: which ends of saves are issued after it.
 use Rattle.std.proofs.Common.{◌≡◌, ◌≢◌, ◌⊎◌, ℕ, Bool, List, [], ◌∷◌, ◌++◌, Option, Some, None, refl, sym, ap, ◌∙◌, inl, inr}
 use Rattle.std.proofs.lemmas.Bool.Decides.{eqb_tells}
-use Rattle.wire_msgs.specs.declared.message.Message.{Message}
+use Rattle.wire_msgs.specs.declared.message.Said.{Said}
 use Rattle.wire_msgs.specs.declared.message.Said.TheVariants.{Call}
 use Rattle.wire_msgs.specs.declared.operation.Operation.TheVariants.{SaveCompleted}
 use Rattle.container_model.specs.declared.record.Link.{Link}
@@ -15,11 +15,11 @@ use Rattle.world_facts.specs.Shapes.{entries_of}
 use Rattle.world_facts.proofs.Lookups.{among_join}
 
 -- the ends of saves that are issued after a change were issued before
-abbrev pub NoMoreEnds : Links → Links → List Message → List Message → Type 0
+abbrev pub NoMoreEnds : Links → Links → List Said → List Said → Type 0
 NoMoreEnds links after sent more = (inc act n k : ℕ) (storage : Bool) → Issued after more inc act n (SaveCompleted k storage) → Issued links sent inc act n (SaveCompleted k storage)
 
-pub counts_kept : {hostile : List ℕ} (links after : Links) (acts : Acts) (sent more : List Message) (owners : List ℕ) (counted : List Done) (served : List ServerDone)
-    → NoMoreEnds links after sent more → ((m : Message) → Among sent m → Among more m) → Counts hostile links acts sent owners counted served → Counts hostile after acts more owners counted served
+pub counts_kept : {hostile : List ℕ} (links after : Links) (acts : Acts) (sent more : List Said) (owners : List ℕ) (counted : List Done) (served : List ServerDone)
+    → NoMoreEnds links after sent more → ((m : Said) → Among sent m → Among more m) → Counts hostile links acts sent owners counted served → Counts hostile after acts more owners counted served
 counts_kept links after acts sent more owners counted served back forth h = record {
   completed_counted = λ inc act n k s i. h.completed_counted inc act n k s (back inc act n k s i);
   completed_once = λ inc act n inc' act' n' k o s s' i j. h.completed_once inc act n inc' act' n' k o s s' (back inc act n k s i) (back inc' act' n' k s' j);

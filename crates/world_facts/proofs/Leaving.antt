@@ -1,30 +1,32 @@
 -- What a change of links or of activations leaves of answered closes; and what senders saw stays.
 use Rattle.std.proofs.Common.{◌≡◌, ℕ, ◌+◌, ◌≤◌, List, [], ◌∷◌, ◌++◌, map, Option, Some, None, refl, sym, ap, ◌∙◌, inl, inr, arith, subst}
-use Rattle.wire_msgs.specs.declared.message.Message.{Message}
+use Rattle.wire_msgs.specs.declared.message.Said.{Said}
 use Rattle.wire_msgs.specs.declared.message.Said.TheVariants.{Call, Reply}
 use Rattle.wire_msgs.specs.declared.operation.Operation.{Operation}
 use Rattle.wire_msgs.specs.declared.operation.Operation.TheVariants.{Close}
 use Rattle.server_model.specs.Server.{Activation}
 use Rattle.container_model.specs.declared.record.Link.{Link}
 use Rattle.world_model.specs.declared.logs.Sent.{Sent}
-use Rattle.world_model.specs.World.{of_container}
+use Rattle.world_model.specs.World.{of_container, in_session}
 use Rattle.world_model.specs.Safe.{Among}
-use Rattle.world_facts.specs.Words.{Links, Acts, Lives, IsHonest}
+use Rattle.world_facts.specs.Words.{Links, Acts, Lives, IsHonest, all_said}
 use Rattle.world_facts.specs.Facts.{InStep, not_begun, level, behind, ahead, InSteps}
 use Rattle.world_facts.specs.Shapes.{IsSame, IsCalled, AskedAt, none, stays, queues, sends, AsksAll, Settles, SendsNext, Begins, EndsSome, StartsOrEnds, Alike, Tells}
 use Rattle.world_facts.specs.Views.{IsSentOpen, IsSeen, Views, Grows, WasAnswered, LeavesCloses}
 use Rattle.world_facts.proofs.Lookups.{among_join, among_old, among_mapped}
 use Rattle.world_facts.proofs.Issuing.{which}
 use Rattle.world_facts.proofs.Alike.{before_of}
+use Rattle.wire_msgs.specs.declared.message.Message.{Message}
 
 -- what senders saw stays where no other close is answered
 seen_as : (before after : List Sent) (l m : Link) (a b : Activation) → Grows before after → IsSame l m → b.last ≡ a.last → b.reply ≡ a.reply → IsSeen before l.inc l.act a.last a.reply l.states l.s → IsSeen after m.inc m.act b.last b.reply m.states m.s
 seen_as before after l m a b g e el er h = record {
+  session = h.session;
   view = h.view;
-  among = subst (λ x. Among after (record { message = Reply x m.act b.last b.reply; view = Some h.view })) (sym e.inc)
-      (subst (λ x. Among after (record { message = Reply l.inc x b.last b.reply; view = Some h.view })) (sym e.act)
-      (subst (λ x. Among after (record { message = Reply l.inc l.act x b.reply; view = Some h.view })) (sym el)
-      (subst (λ x. Among after (record { message = Reply l.inc l.act a.last x; view = Some h.view })) (sym er) (g.kept _ h.among))));
+  among = subst (λ x. Among after (record { message = in_session h.session (Reply x m.act b.last b.reply); view = Some h.view })) (sym e.inc)
+      (subst (λ x. Among after (record { message = in_session h.session (Reply l.inc x b.last b.reply); view = Some h.view })) (sym e.act)
+      (subst (λ x. Among after (record { message = in_session h.session (Reply l.inc l.act x b.reply); view = Some h.view })) (sym el)
+      (subst (λ x. Among after (record { message = in_session h.session (Reply l.inc l.act a.last x); view = Some h.view })) (sym er) (g.kept _ h.among))));
   opened = h.opened;
   states = h.states ∙ sym e.states;
   grant = h.grant ∙ sym e.s;
@@ -43,38 +45,43 @@ views_kept {hostile = hostile} links now acts after log longer leaves grows v = 
 pub grows_none : (log : List Sent) → Grows log log
 grows_none log = record { kept = λ x h. h; new = λ x h. inl h }
 
-pub grows_one : (log : List Sent) (y : Sent) → IsSentOpen y.message y.view → Grows log (log ++ y ∷ [])
+pub grows_one : (log : List Sent) (y : Sent) → IsSentOpen y.message.said y.view → Grows log (log ++ y ∷ [])
 grows_one log y h = record {
   kept = λ x g. among_old log (y ∷ []) x g;
   new = λ x g. elim (among_join log (y ∷ []) x g) [
     | inl old ↦ inl old
-    | inr here ↦ elim here [ inl e ↦ inr (subst (λ (z : Sent). IsSentOpen z.message z.view) (sym e) h) | inr z ↦ absurd z ]
+    | inr here ↦ elim here [ inl e ↦ inr (subst (λ (z : Sent). IsSentOpen z.message.said z.view) (sym e) h) | inr z ↦ absurd z ]
   ];
 }
 
 -- the container sends calls alone
-abbrev pub AreCalls : List Message → Type 0
-AreCalls more = (m : Message) → Among more m → (inc act n : ℕ) × (op : Operation) × (m ≡ Call inc act n op)
+abbrev pub AreCalls : List Said → Type 0
+AreCalls more = (m : Said) → Among more m → (inc act n : ℕ) × (op : Operation) × (m ≡ Call inc act n op)
 
-pub grows_calls : (log : List Sent) (more : List Message) → AreCalls more → Grows log (log ++ map of_container more)
+among_said : (ms : List Message) (m : Message) → Among ms m → Among (all_said ms) m.said
+among_said [] m h = absurd h
+among_said (x ∷ xs) m (inl e) = inl (ap (λ (y : Message). y.said) e)
+among_said (x ∷ xs) m (inr h) = inr (among_said xs m h)
+
+pub grows_calls : (log : List Sent) (more : List Message) → AreCalls (all_said more) → Grows log (log ++ map of_container more)
 grows_calls log more calls = record {
   kept = λ x g. among_old log (map of_container more) x g;
   new = λ x g. elim (among_join log (map of_container more) x g) [
     | inl old ↦ inl old
     | inr new ↦ (let p = among_mapped of_container more x new in
-        let c = calls p.0 p.1 in
-        inr (subst (λ (z : Sent). IsSentOpen z.message z.view) (sym p.2) (subst (λ m. IsSentOpen m None) (sym c.4) tt)))
+        let c = calls p.0.said (among_said more p.0 p.1) in
+        inr (subst (λ (z : Sent). IsSentOpen z.message.said z.view) (sym p.2) (subst (λ m. IsSentOpen m None) (sym c.4) tt)))
   ];
 }
 
-one_call : (inc act n : ℕ) (op : Operation) (more : List Message) → more ≡ Call inc act n op ∷ [] → AreCalls more
+one_call : (inc act n : ℕ) (op : Operation) (more : List Said) → more ≡ Call inc act n op ∷ [] → AreCalls more
 one_call inc act n op more e m h = at (subst (λ ms. Among ms m) e h)
   where
     at : Among (Call inc act n op ∷ []) m → (i x k : ℕ) × (p : Operation) × (m ≡ Call i x k p)
     at (inl q) = (inc, act, n, op, q)
     at (inr z) = absurd z
 
-pub asks_calls : (Asks : ℕ → Operation → Type 0) (links after : Links) (more : List Message) → AsksAll Asks links after more → AreCalls more
+pub asks_calls : (Asks : ℕ → Operation → Type 0) (links after : Links) (more : List Said) → AsksAll Asks links after more → AreCalls more
 asks_calls Asks links after more h m g = (let p = h.from m g in at p.0 (h.each p.0) p.1)
   where
     at : (k : ℕ) → AskedAt (Asks k) (links k) (after k) (h.news k) → Among (h.news k) m → (i x j : ℕ) × (p : Operation) × (m ≡ Call i x j p)
@@ -83,10 +90,10 @@ asks_calls Asks links after more h m g = (let p = h.from m g in at p.0 (h.each p
     at k (queues b l op p w i s pe wt ak n) a = absurd (subst (λ xs. Among xs m) n a)
     at k (sends b l op w i c wb wm ak n) a = one_call l.inc l.act l.last op (h.news k) n m a
 
-pub next_calls : (links after : Links) (o : ℕ) (more : List Message) → SendsNext links after o more → AreCalls more
+pub next_calls : (links after : Links) (o : ℕ) (more : List Said) → SendsNext links after o more → AreCalls more
 next_calls links after o more h = one_call h.link.inc h.link.act h.link.last h.op more h.sends
 
-pub begins_calls : (links after : Links) (lives : Lives) (owners : List ℕ) (last o : ℕ) (more : List Message) → Begins links after lives owners last o more → AreCalls more
+pub begins_calls : (links after : Links) (lives : Lives) (owners : List ℕ) (last o : ℕ) (more : List Said) → Begins links after lives owners last o more → AreCalls more
 begins_calls links after lives owners last o more h = one_call h.inc (last + 1) 1 h.op more h.sends
 
 -- a link that was so before
@@ -94,7 +101,7 @@ was_same : (links : Links) (acts : Acts) (o : ℕ) (b l : Link) (a : Activation)
 was_same links acts o b l a e k s = record { link = b; activation = a; linked = e; known = ap (λ x. acts x b.act) (sym s.inc) ∙ (ap (acts l.inc) (sym s.act) ∙ k); same = s; last = refl; reply = refl }
 
 same_link : (l : Link) → IsSame l l
-same_link l = record { inc = refl; act = refl; last = refl; pending = refl; states = refl; s = refl; saved = inl refl }
+same_link l = record { session = refl; inc = refl; act = refl; last = refl; pending = refl; states = refl; s = refl; saved = inl refl }
 
 -- what is called now isn't answered yet
 not_answered : (b l : Link) (op : Operation) (a : Activation) → IsCalled b l op → (x : Option Activation) → x ≡ Some a → InStep b x → a.last ≡ l.last → ⊥
@@ -112,7 +119,7 @@ called_answered hostile links acts o b l op a steps e c honest k el =
     not_answered b l op a c (acts b.inc b.act) (ap (λ x. acts x b.act) (sym c.inc) ∙ (ap (acts l.inc) (sym c.act) ∙ k)) (steps o b e (subst (IsHonest hostile) c.inc honest)) el
 
 -- each shape
-pub asks_leave : (hostile : List ℕ) (Asks : ℕ → Operation → Type 0) (links after : Links) (acts : Acts) (more : List Message) → AsksAll Asks links after more → InSteps hostile links acts → LeavesCloses hostile links after acts acts
+pub asks_leave : (hostile : List ℕ) (Asks : ℕ → Operation → Type 0) (links after : Links) (acts : Acts) (more : List Said) → AsksAll Asks links after more → InSteps hostile links acts → LeavesCloses hostile links after acts acts
 asks_leave hostile Asks links after acts more h steps o l a option e honest k p el = at (h.each o)
   where
     at : AskedAt (Asks o) (links o) (after o) (h.news o) → WasAnswered links acts o l a
@@ -128,13 +135,13 @@ settles_leave hostile links after acts o h n l a option e honest k p el = elim (
   | inr s ↦ was_same links acts n l l a s.1 k (same_link l)
 ]
 
-pub next_leaves : (hostile : List ℕ) (links after : Links) (acts : Acts) (o : ℕ) (more : List Message) → SendsNext links after o more → InSteps hostile links acts → LeavesCloses hostile links after acts acts
+pub next_leaves : (hostile : List ℕ) (links after : Links) (acts : Acts) (o : ℕ) (more : List Said) → SendsNext links after o more → InSteps hostile links acts → LeavesCloses hostile links after acts acts
 next_leaves hostile links after acts o more h steps n l a option e honest k p el = elim (which links after o n h.link l h.is h.others e) [
   | inl s ↦ absurd (called_answered hostile links acts o h.before l h.op a steps h.was (subst (λ x. IsCalled h.before x h.op) (sym s.1) h.called) honest k el)
   | inr s ↦ was_same links acts n l l a s.1 k (same_link l)
 ]
 
-pub begins_leave : (hostile : List ℕ) (links after : Links) (acts : Acts) (lives : Lives) (owners : List ℕ) (last o : ℕ) (more : List Message) → Begins links after lives owners last o more
+pub begins_leave : (hostile : List ℕ) (links after : Links) (acts : Acts) (lives : Lives) (owners : List ℕ) (last o : ℕ) (more : List Said) → Begins links after lives owners last o more
     → ((inc act : ℕ) (a : Activation) → acts inc act ≡ Some a → act ≤ last) → LeavesCloses hostile links after acts acts
 begins_leave hostile links after acts lives owners last o more h drawn n l a option e honest k p el = elim (which links after o n _ l h.is h.others e) [
   | inl s ↦ (let ea : l.act ≡ last + 1 = ap (λ (x : Link). x.act) s.1 in let le : l.act ≤ last = drawn l.inc l.act a k in absurd (omega arith))

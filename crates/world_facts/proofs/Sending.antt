@@ -1,7 +1,7 @@
 -- The first operation that waits is sent: each fact stays.
 use Rattle.std.proofs.Common.{◌≡◌, ◌≢◌, ◌⊎◌, ℕ, suc, ◌+◌, ◌≤◌, List, [], ◌∷◌, ◌++◌, Option, Some, None, sym, ap, ◌∙◌, inl, inr, arith, subst, slice_get}
 use Rattle.wire_msgs.specs.Found.{nth}
-use Rattle.wire_msgs.specs.declared.message.Message.{Message}
+use Rattle.wire_msgs.specs.declared.message.Said.{Said}
 use Rattle.wire_msgs.specs.declared.message.Said.TheVariants.{Call, Reply}
 use Rattle.wire_msgs.specs.declared.operation.Operation.{Operation}
 use Rattle.wire_msgs.specs.declared.operation.Operation.TheVariants.{SaveCompleted}
@@ -35,7 +35,7 @@ last_ahead l _ (behind a op g e v) = (let el : a.last + 1 ≡ l.last = e in omeg
 last_ahead l _ (ahead a op g e d) = (let el : a.last ≡ l.last = e in omega arith)
 
 -- so where each call that is sent is the last one of a link, none is more than one ahead
-pub ahead_sent : (hostile : List ℕ) (links : Links) (acts : Acts) (sent more : List Message) → InSteps hostile links acts
+pub ahead_sent : (hostile : List ℕ) (links : Links) (acts : Acts) (sent more : List Said) → InSteps hostile links acts
     → ((inc act n : ℕ) (op : Operation) → Among more (Call inc act n op) → (o : ℕ) × (l : Link) × (links o ≡ Some l) × (inc ≡ l.inc) × (act ≡ l.act) × (n ≡ l.last))
     → OneAhead hostile acts sent → OneAhead hostile acts (sent ++ more)
 ahead_sent hostile links acts sent more steps new h inc act n op honest g = elim (among_join sent more (Call inc act n op) g) [
@@ -56,7 +56,7 @@ saved_kept acts b m c ei ea k h g = elim k [
 ]
 
 -- replies stay where only calls are sent
-pub only_calls : (acts : Acts) (sent more : List Message) → ((inc act n : ℕ) (r : Answer) → Among more (Reply inc act n r) → ⊥) → Replies acts sent → Replies acts (sent ++ more)
+pub only_calls : (acts : Acts) (sent more : List Said) → ((inc act n : ℕ) (r : Answer) → Among more (Reply inc act n r) → ⊥) → Replies acts sent → Replies acts (sent ++ more)
 only_calls acts sent more no_reply h = record {
   reply_numbered = λ inc act a e. among_old sent more (Reply inc act a.last a.reply) (h.reply_numbered inc act a e);
   replies_kept = λ inc act n r g. h.replies_kept inc act n r (old inc act n r g);
@@ -66,13 +66,13 @@ only_calls acts sent more no_reply h = record {
     old : (inc act n : ℕ) (r : Answer) → Among (sent ++ more) (Reply inc act n r) → Among sent (Reply inc act n r)
     old inc act n r g = elim (among_join sent more (Reply inc act n r) g) [ inl x ↦ x | inr x ↦ absurd (no_reply inc act n r x) ]
 
-module _ {hostile : List ℕ} (links after : Links) (acts : Acts) (lives : Lives) (sent more : List Message) (owners : List ℕ) (last : ℕ) (counted : List Done) (served : List ServerDone) (o : ℕ)
+module _ {hostile : List ℕ} (links after : Links) (acts : Acts) (lives : Lives) (sent more : List Said) (owners : List ℕ) (last : ℕ) (counted : List Done) (served : List ServerDone) (o : ℕ)
     (h : SendsNext links after o more) (f : Facts hostile links acts lives sent owners last counted served) where
   find_link : (k : ℕ) (l : Link) → after k ≡ Some l → ((k ≡ o) × (l ≡ h.link)) ⊎ ((k ≢ o) × (links k ≡ Some l))
   find_link k l e = which links after o k h.link l h.is h.others e
 
   -- the one message that is sent
-  is_new : (m : Message) → Among more m → m ≡ Call h.link.inc h.link.act h.link.last h.op
+  is_new : (m : Said) → Among more m → m ≡ Call h.link.inc h.link.act h.link.last h.op
   is_new m g = at (subst (λ xs. Among xs m) h.sends g)
     where
       at : Among (Call h.link.inc h.link.act h.link.last h.op ∷ []) m → m ≡ Call h.link.inc h.link.act h.link.last h.op

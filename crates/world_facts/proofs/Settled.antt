@@ -1,7 +1,7 @@
 -- The pending operation of one object was answered: each fact stays.
 use Rattle.std.proofs.Common.{◌≡◌, ◌≢◌, ◌⊎◌, ℕ, ◌+◌, ◌≤◌, List, Some, None, sym, ap, ◌∙◌, inl, inr, arith, subst, slice_get}
 use Rattle.wire_msgs.specs.Found.{nth}
-use Rattle.wire_msgs.specs.declared.message.Message.{Message}
+use Rattle.wire_msgs.specs.declared.message.Said.{Said}
 use Rattle.wire_msgs.specs.declared.message.Said.TheVariants.{Call}
 use Rattle.wire_msgs.specs.declared.operation.Operation.{Operation}
 use Rattle.stored_streams.specs.declared.stored.Stored.{Stored}
@@ -15,7 +15,7 @@ use Rattle.world_facts.specs.Facts.{InStep, HasSaved, Facts}
 use Rattle.world_facts.specs.Shapes.{Settles}
 use Rattle.world_facts.proofs.Issuing.{NoMoreEnds, counts_kept, which, linked_kept}
 
-module _ {hostile : List ℕ} (links after : Links) (acts : Acts) (lives : Lives) (sent : List Message) (owners : List ℕ) (last : ℕ) (counted : List Done) (served : List ServerDone) (o : ℕ)
+module _ {hostile : List ℕ} (links after : Links) (acts : Acts) (lives : Lives) (sent : List Said) (owners : List ℕ) (last : ℕ) (counted : List Done) (served : List ServerDone) (o : ℕ)
     (h : Settles hostile links after acts o) (f : Facts hostile links acts lives sent owners last counted served) where
   find_link : (k : ℕ) (l : Link) → after k ≡ Some l → ((k ≡ o) × (l ≡ h.link)) ⊎ ((k ≢ o) × (links k ≡ Some l))
   find_link k l e = which links after o k h.link l h.is h.others e

@@ -1,13 +1,13 @@
 -- A server starts or ends: each fact stays.
 use Rattle.std.proofs.Common.{◌≡◌, ◌≤◌, ◌+◌, ℕ, List, Some, sym, ◌∙◌, inl, inr, subst}
-use Rattle.wire_msgs.specs.declared.message.Message.{Message}
+use Rattle.wire_msgs.specs.declared.message.Said.{Said}
 use Rattle.container_model.specs.declared.answer.Done.{Done}
 use Rattle.world_model.specs.declared.logs.ServerDone.{ServerDone}
 use Rattle.world_facts.specs.Words.{Links, Acts, Lives, IsClosed}
 use Rattle.world_facts.specs.Facts.{InStep, last_acted, HasSaved, Facts}
 use Rattle.world_facts.specs.Shapes.{StartsOrEnds}
 
-module _ {hostile : List ℕ} (links : Links) (acts after : Acts) (lives now : Lives) (sent : List Message) (owners : List ℕ) (last : ℕ) (counted : List Done) (served : List ServerDone)
+module _ {hostile : List ℕ} (links : Links) (acts after : Acts) (lives now : Lives) (sent : List Said) (owners : List ℕ) (last : ℕ) (counted : List Done) (served : List ServerDone)
     (h : StartsOrEnds acts after lives now) (f : Facts hostile links acts lives sent owners last counted served) where
   pub started : Facts hostile links after now sent owners last counted served
   started = record {

@@ -1,6 +1,6 @@
 -- An activation wrote, or asked: each fact stays.
 use Rattle.std.proofs.Common.{◌≡◌, ℕ, List, ◌++◌, inl, inr}
-use Rattle.wire_msgs.specs.declared.message.Message.{Message}
+use Rattle.wire_msgs.specs.declared.message.Said.{Said}
 use Rattle.wire_msgs.specs.declared.message.Said.TheVariants.{Call, Reply}
 use Rattle.wire_msgs.specs.declared.operation.Operation.{Operation}
 use Rattle.wire_msgs.specs.declared.operation.Operation.TheVariants.{SaveCompleted}
@@ -16,8 +16,8 @@ use Rattle.world_facts.proofs.Sending.{only_calls}
 use Rattle.world_facts.proofs.Alike.{facts_alike}
 
 -- messages are sent that are neither calls nor replies
-module _ {hostile : List ℕ} (links : Links) (acts : Acts) (lives : Lives) (sent more : List Message) (owners : List ℕ) (last : ℕ) (counted : List Done) (served : List ServerDone)
-    (own : (m : Message) → Among more m → IsOwn m) (f : Facts hostile links acts lives sent owners last counted served) where
+module _ {hostile : List ℕ} (links : Links) (acts : Acts) (lives : Lives) (sent more : List Said) (owners : List ℕ) (last : ℕ) (counted : List Done) (served : List ServerDone)
+    (own : (m : Said) → Among more m → IsOwn m) (f : Facts hostile links acts lives sent owners last counted served) where
   old : (inc act n : ℕ) (op : Operation) → Among (sent ++ more) (Call inc act n op) → Among sent (Call inc act n op)
   old inc act n op g = elim (among_join sent more (Call inc act n op) g) [ inl x ↦ x | inr x ↦ absurd (own (Call inc act n op) x) ]
 
@@ -49,7 +49,7 @@ module _ {hostile : List ℕ} (links : Links) (acts : Acts) (lives : Lives) (sen
   }
 
 -- and the activation is as it was, but for the number of its last content
-pub told_all : {hostile : List ℕ} (links : Links) (acts after : Acts) (lives now : Lives) (sent more : List Message) (owners : List ℕ) (last : ℕ) (counted : List Done) (served : List ServerDone)
-    → Tells acts after → ((inc : ℕ) → now inc ≡ lives inc) → ((m : Message) → Among more m → IsOwn m) → Facts hostile links acts lives sent owners last counted served → Facts hostile links after now (sent ++ more) owners last counted served
+pub told_all : {hostile : List ℕ} (links : Links) (acts after : Acts) (lives now : Lives) (sent more : List Said) (owners : List ℕ) (last : ℕ) (counted : List Done) (served : List ServerDone)
+    → Tells acts after → ((inc : ℕ) → now inc ≡ lives inc) → ((m : Said) → Among more m → IsOwn m) → Facts hostile links acts lives sent owners last counted served → Facts hostile links after now (sent ++ more) owners last counted served
 told_all links acts after lives now sent more owners last counted served h still own f =
     sent_own links after now sent more owners last counted served own (facts_alike links acts after lives now sent owners last counted served h still f)

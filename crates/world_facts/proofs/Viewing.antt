@@ -1,6 +1,6 @@
 -- A server takes a call: what senders saw stays, and a close is answered at its link's states and grant.
 use Rattle.std.proofs.Common.{◌≡◌, ℕ, true, List, [], ◌∷◌, ◌++◌, Option, Some, None, option_map, is_some, sym, ap, ◌∙◌, inl, inr, subst}
-use Rattle.wire_msgs.specs.declared.message.Message.{Message}
+use Rattle.wire_msgs.specs.declared.message.Said.{Said}
 use Rattle.wire_msgs.specs.declared.message.Said.TheVariants.{Call, Reply}
 use Rattle.wire_msgs.specs.declared.operation.Operation.{Operation}
 use Rattle.wire_msgs.specs.declared.operation.Operation.TheVariants.{Close}
@@ -12,7 +12,7 @@ use Rattle.container_model.specs.declared.record.Link.{Link}
 use Rattle.container_model.specs.declared.answer.Done.{Done}
 use Rattle.world_model.specs.declared.logs.Sent.{Sent}
 use Rattle.world_model.specs.declared.logs.ServerDone.{ServerDone}
-use Rattle.world_model.specs.World.{view_of}
+use Rattle.world_model.specs.World.{view_of, in_session}
 use Rattle.world_model.specs.Safe.{Among}
 use Rattle.world_facts.specs.Words.{Links, Acts, Lives, IsHonest, IsOpen}
 use Rattle.world_facts.specs.Facts.{InStep, not_begun, level, behind, ahead, Facts}
@@ -26,19 +26,19 @@ use Rattle.world_facts.proofs.Acting.{IsPending, of_link, IsNextOf, next_of}
 is_opened : (b : Activation) → IsOpen b → is_some b.content ≡ true
 is_opened b h = ap is_some h.1
 
-module _ {hostile : List ℕ} (links : Links) (acts after : Acts) (lives : Lives) (sent : List Message) (owners : List ℕ) (last : ℕ) (counted : List Done) (served : List ServerDone)
+module _ {hostile : List ℕ} (links : Links) (acts after : Acts) (lives : Lives) (sent : List Said) (owners : List ℕ) (last : ℕ) (counted : List Done) (served : List ServerDone)
     (inc act n : ℕ) (op : Operation) (a : Activation) (r : Answer) (told : Option Counted)
     (f : Facts hostile links acts lives sent owners last counted served) (ready : IsReady links)
-    (call : Among sent (Call inc act n op)) (ch : IsChanged acts after inc act a) (how : ActsOn acts inc act n op a r told) (log : List Sent) (v : Views hostile links acts log) where
+    (call : Among sent (Call inc act n op)) (ch : IsChanged acts after inc act a) (how : ActsOn acts inc act n op a r told) (log : List Sent) (v : Views hostile links acts log) (session : ℕ) where
   -- the reply, with the activation's state before the call
   abbrev pub reply : Sent
-  reply = record { message = Reply inc act n r; view = option_map view_of (acts inc act) }
+  reply = record { message = in_session session (Reply inc act n r); view = option_map view_of (acts inc act) }
 
   pending_of : (o : ℕ) (l : Link) → links o ≡ Some l → l.inc ≡ inc → l.act ≡ act → IsHonest hostile inc → IsPending links acts after lives sent owners last counted served inc act n op a r told f ready call ch how o l
   pending_of o l e ei ea honest = of_link links acts after lives sent owners last counted served inc act n op a r told f ready call ch how o l e ei ea honest
 
   seen_old : (inc' act' m : ℕ) (q : Answer) (l : Link) → IsSeen log inc' act' m q l.states l.s → IsSeen (log ++ reply ∷ []) inc' act' m q l.states l.s
-  seen_old inc' act' m q l h = record { view = h.view; among = among_old log (reply ∷ []) _ h.among; opened = h.opened; states = h.states; grant = h.grant }
+  seen_old inc' act' m q l h = record { session = h.session; view = h.view; among = among_old log (reply ∷ []) _ h.among; opened = h.opened; states = h.states; grant = h.grant }
 
   first_last : (l : Link) (x : Option Activation) → x ≡ None → InStep l x → l.last ≡ 1
   first_last l _ e (not_begun q one v s g) = one
@@ -57,10 +57,10 @@ module _ {hostile : List ℕ} (links : Links) (acts after : Acts) (lives : Lives
       let x : IsNextOf links acts after lives sent owners last counted served inc act n op a r told f ready call ch how l b =
       next_of links acts after lives sent owners last counted served inc act n op a r told f ready call ch how o l b pb en _ at pb.step in
       let la : n ≡ a.last = en ∙ sym m.last in
-      let is : record { message = Reply inc act a.last a.reply; view = Some (view_of b) } ≡ reply =
-      ap (λ k. record { message = Reply inc act k a.reply; view = Some (view_of b) }) (sym la) ∙ (ap (λ q. record { message = Reply inc act n q; view = Some (view_of b) }) m.reply
-      ∙ ap (λ y. record { message = Reply inc act n r; view = option_map view_of y }) (sym at)) in
-      record { view = view_of b; among = among_new log (reply ∷ []) _ (inl is); opened = is_opened b opened; states = x.states; grant = x.grant }
+      let is : record { message = in_session session (Reply inc act a.last a.reply); view = Some (view_of b) } ≡ reply =
+      ap (λ k. record { message = in_session session (Reply inc act k a.reply); view = Some (view_of b) }) (sym la) ∙ (ap (λ q. record { message = in_session session (Reply inc act n q); view = Some (view_of b) }) m.reply
+      ∙ ap (λ y. record { message = in_session session (Reply inc act n r); view = option_map view_of y }) (sym at)) in
+      record { session = session; view = view_of b; among = among_new log (reply ∷ []) _ (inl is); opened = is_opened b opened; states = x.states; grant = x.grant }
   seen_now o l option e ei ea honest p el (makes at en fo al ar d ec eg) =
       let pb = pending_of o l e ei ea honest in
       let l1 : l.last ≡ 1 = first_last l (acts inc act) at pb.step in

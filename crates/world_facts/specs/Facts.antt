@@ -3,7 +3,7 @@
 use Rattle.std.specs.Prelude.{◌≡◌, ◌⊎◌, ◌≤◌, ◌<◌, ◌+◌, ℕ, Bool, List, length, Option, Some, None, Ok}
 use Rattle.wire_msgs.specs.Found.{nth}
 use Rattle.wire_msgs.specs.Operations.{op_of}
-use Rattle.wire_msgs.specs.declared.message.Message.{Message}
+use Rattle.wire_msgs.specs.declared.message.Said.{Said}
 use Rattle.wire_msgs.specs.declared.message.Said.TheVariants.{Call, Reply}
 use Rattle.wire_msgs.specs.declared.operation.Operation.{Operation}
 use Rattle.wire_msgs.specs.declared.operation.Operation.TheVariants.{InitNew, Load, InPlace, UiActivate, UiDeactivate, InPlaceDeactivate, OpenWindow, Edit, Save, HandsOff, SaveCompleted, SaveDropped, Close}
@@ -25,7 +25,7 @@ use Rattle.world_facts.specs.Words.{Links, Acts, Lives, IsHonest, Issued, IsLink
 
 -- Numbers that were drawn: the log of owners has the object of each activation that was made, so a new one has no call, no
 -- reply and no activation yet.
-pub record Drawn (links : Links) (acts : Acts) (lives : Lives) (sent : List Message) (owners : List ℕ) (last_act : ℕ) : Type 0 where
+pub record Drawn (links : Links) (acts : Acts) (lives : Lives) (sent : List Said) (owners : List ℕ) (last_act : ℕ) : Type 0 where
   pub many : length owners ≡ last_act
   -- activations of links, of calls and of servers are among those drawn
   pub acts_drawn : (inc act : ℕ) (a : Activation) → acts inc act ≡ Some a → act ≤ last_act
@@ -39,7 +39,7 @@ pub record Drawn (links : Links) (acts : Acts) (lives : Lives) (sent : List Mess
   pub calls_told : (inc act n : ℕ) (op : Operation) → Among sent (Call inc act n op) → (life : Life) × (lives inc ≡ Some life)
 
 -- Calls of a linked activation: none past its last, and the last one is the pending one.
-pub record CallsBounded (links : Links) (sent : List Message) : Type 0 where
+pub record CallsBounded (links : Links) (sent : List Said) : Type 0 where
   pub bounded : (o inc n : ℕ) (op : Operation) (l : Link) → links o ≡ Some l → Among sent (Call inc l.act n op) → (inc ≡ l.inc) × (n ≤ l.last)
   pub pending : (o inc : ℕ) (op asked : Operation) (l : Link) → links o ≡ Some l → l.pending ≡ Some asked → Among sent (Call inc l.act l.last op) → op ≡ asked
 
@@ -95,18 +95,18 @@ last_acted (Some a) = a.last
 
 -- No call was sent to an activation of an honest server that is more than one ahead of the last call that it has acted on.
 -- This asks for no link and no server that runs, so it stays when both have ended.
-abbrev pub OneAhead : List ℕ → Acts → List Message → Type 0
+abbrev pub OneAhead : List ℕ → Acts → List Said → Type 0
 OneAhead hostile acts sent = (inc act n : ℕ) (op : Operation) → IsHonest hostile inc → Among sent (Call inc act n op) → n ≤ last_acted (acts inc act) + 1
 
 -- At an honest server that runs, an activation that it knows, or that it was called with, and that no link has, is closed
 -- for good; so no call acts after its activation's end.
-pub record UnlinkedClosed (hostile : List ℕ) (links : Links) (acts : Acts) (lives : Lives) (sent : List Message) : Type 0 where
+pub record UnlinkedClosed (hostile : List ℕ) (links : Links) (acts : Acts) (lives : Lives) (sent : List Said) : Type 0 where
   pub called : (inc act n : ℕ) (op : Operation) → IsHonest hostile inc → lives inc ≡ Some Running → Among sent (Call inc act n op) → IsLinked links inc act ⊎ IsClosed (acts inc act)
   pub known : (inc act : ℕ) (a : Activation) → IsHonest hostile inc → lives inc ≡ Some Running → acts inc act ≡ Some a → IsLinked links inc act ⊎ (a.content ≡ None)
 
 -- Replies that servers sent, hostile ones too, since they compare a server with what it really sent: the kept one was sent
 -- as the reply to the last call, a reply is of an activation that came so far, and no call has two.
-pub record Replies (acts : Acts) (sent : List Message) : Type 0 where
+pub record Replies (acts : Acts) (sent : List Said) : Type 0 where
   pub reply_numbered : (inc act : ℕ) (a : Activation) → acts inc act ≡ Some a → Among sent (Reply inc act a.last a.reply)
   pub replies_kept : (inc act n : ℕ) (r : Answer) → Among sent (Reply inc act n r)
       → (a : Activation) × (acts inc act ≡ Some a) × (n ≤ a.last) × (n ≡ a.last → r ≡ a.reply)
@@ -122,7 +122,7 @@ SavedSame hostile links acts = (o : ℕ) (l : Link) (c : Stored) → links o ≡
 
 -- The counts of saves on both sides. What an activation is told of as completed, or will be, the container counted; it is
 -- told once; and until the activation takes it, it keeps the content that was counted.
-pub record Counts (hostile : List ℕ) (links : Links) (acts : Acts) (sent : List Message) (owners : List ℕ) (counted : List Done) (served : List ServerDone) : Type 0 where
+pub record Counts (hostile : List ℕ) (links : Links) (acts : Acts) (sent : List Said) (owners : List ℕ) (counted : List Done) (served : List ServerDone) : Type 0 where
   pub completed_counted : (inc act n k : ℕ) (storage : Bool) → Issued links sent inc act n (SaveCompleted k storage)
       → (d : Done) × Among counted d × (nth owners act ≡ Some d.object) × (d.k ≡ k)
   pub completed_once : (inc act n inc' act' n' k o : ℕ) (storage storage' : Bool) → Issued links sent inc act n (SaveCompleted k storage) → Issued links sent inc' act' n' (SaveCompleted k storage')
@@ -136,7 +136,7 @@ pub record Counts (hostile : List ℕ) (links : Links) (acts : Acts) (sent : Lis
   pub server_counted : (e : ServerDone) → Among served e → IsHonest hostile e.inc → Among counted (record { object = e.object; k = e.k; content = e.content })
 
 -- All of them together.
-pub record Facts (hostile : List ℕ) (links : Links) (acts : Acts) (lives : Lives) (sent : List Message) (owners : List ℕ) (last_act : ℕ) (counted : List Done) (served : List ServerDone) : Type 0 where
+pub record Facts (hostile : List ℕ) (links : Links) (acts : Acts) (lives : Lives) (sent : List Said) (owners : List ℕ) (last_act : ℕ) (counted : List Done) (served : List ServerDone) : Type 0 where
   pub drawn : Drawn links acts lives sent owners last_act
   pub calls : CallsBounded links sent
   pub in_step : InSteps hostile links acts

@@ -1,7 +1,7 @@
 -- The shapes of change, over the lookups. An event of the world is a list of these; each fact is kept once by each.
 use Rattle.std.specs.Prelude.{Bool, true, ◌≡◌, ◌≢◌, ◌⊎◌, ◌+◌, ℕ, List, [], ◌∷◌, ◌++◌, Option, Some, None, Ok, slice_get, ⊤}
 use Rattle.wire_msgs.specs.Found.{nth}
-use Rattle.wire_msgs.specs.declared.message.Message.{Message}
+use Rattle.wire_msgs.specs.declared.message.Said.{Said}
 use Rattle.wire_msgs.specs.Operations.{op_of}
 use Rattle.wire_msgs.specs.declared.message.Said.TheVariants.{Call, Reply, Write, Ask}
 use Rattle.wire_msgs.specs.declared.answer.Answer.{Answer}
@@ -25,6 +25,7 @@ use Rattle.world_facts.specs.Facts.{InStep, HasSaved, Did}
 
 -- the same activation and calls, whose save is as it was or over
 pub record IsSame (before after : Link) : Type 0 where
+  pub session : after.session ≡ before.session
   pub inc : after.inc ≡ before.inc
   pub act : after.act ≡ before.act
   pub last : after.last ≡ before.last
@@ -35,6 +36,7 @@ pub record IsSame (before after : Link) : Type 0 where
 
 -- the same activation, called with an operation where nothing was pending
 pub record IsCalled (before after : Link) (op : Operation) : Type 0 where
+  pub session : after.session ≡ before.session
   pub inc : after.inc ≡ before.inc
   pub act : after.act ≡ before.act
   pub free : before.pending ≡ None
@@ -46,16 +48,16 @@ pub record IsCalled (before after : Link) (op : Operation) : Type 0 where
 
 -- Asks: of each object an operation is asked or none. It is sent where nothing is pending, and waits behind all else
 -- otherwise. What is asked of whom is told by a predicate.
-pub data AskedAt (Asks : Operation → Type 0) (before after : Option Link) (news : List Message) : Type 0 where
+pub data AskedAt (Asks : Operation → Type 0) (before after : Option Link) (news : List Said) : Type 0 where
   none : before ≡ None → after ≡ None → news ≡ [] → AskedAt Asks before after news
   stays : (l m : Link) → before ≡ Some l → after ≡ Some m → IsSame l m → m.waiting ≡ l.waiting → news ≡ [] → AskedAt Asks before after news
   queues : (l m : Link) (op pending : Operation) → before ≡ Some l → after ≡ Some m → IsSame l m → l.pending ≡ Some pending → m.waiting ≡ l.waiting ++ op ∷ [] → Asks op → news ≡ [] → AskedAt Asks before after news
   sends : (l m : Link) (op : Operation) → before ≡ Some l → after ≡ Some m → IsCalled l m op → l.waiting ≡ [] → m.waiting ≡ [] → Asks op → news ≡ Call m.inc m.act m.last op ∷ [] → AskedAt Asks before after news
 
-pub record AsksAll (Asks : ℕ → Operation → Type 0) (links after : Links) (more : List Message) : Type 0 where
-  pub news : ℕ → List Message
+pub record AsksAll (Asks : ℕ → Operation → Type 0) (links after : Links) (more : List Said) : Type 0 where
+  pub news : ℕ → List Said
   pub each : (o : ℕ) → AskedAt (Asks o) (links o) (after o) (news o)
-  pub from : (m : Message) → Among more m → (o : ℕ) × Among (news o) m
+  pub from : (m : Said) → Among more m → (o : ℕ) × Among (news o) m
 
 -- no end of a save is told
 abbrev pub IsQuiet : Operation → Type 0
@@ -66,7 +68,7 @@ IsQuiet op = (k : ℕ) (storage : _) → op ≡ SaveCompleted k storage → ⊥
 abbrev pub IsTold : Links → ℕ → List Done → ℕ → Operation → Type 0
 IsTold links k fresh o op = (storage : Bool) × (op ≡ SaveCompleted k storage) × ((l : Link) → links o ≡ Some l → (c : Stored) × (l.saved ≡ Some c) × Among fresh (record { object = o; k = k; content = c }))
 
-pub record CountsAll (links after : Links) (counted : List Done) (k : ℕ) (fresh : List Done) (more : List Message) : Type 0 where
+pub record CountsAll (links after : Links) (counted : List Done) (k : ℕ) (fresh : List Done) (more : List Said) : Type 0 where
   pub tells : AsksAll (IsTold links k fresh) links after more
   pub apart : (d e : Done) → Among counted d → Among fresh e → d.object ≡ e.object → d.k ≡ k → ⊥
 
@@ -78,6 +80,7 @@ pub record Settles (hostile : List ℕ) (links after : Links) (acts : Acts) (o :
   pub was : links o ≡ Some before
   pub is : after o ≡ Some link
   pub others : (n : ℕ) → n ≢ o → after n ≡ links n
+  pub session : link.session ≡ before.session
   pub inc : link.inc ≡ before.inc
   pub act : link.act ≡ before.act
   pub last : link.last ≡ before.last
@@ -87,7 +90,7 @@ pub record Settles (hostile : List ℕ) (links after : Links) (acts : Acts) (o :
   pub saved : IsHonest hostile link.inc → (c : _) → link.saved ≡ Some c → HasSaved c (acts link.inc link.act)
 
 -- Sends next: the first operation that waits at one object is sent, by the number that it had.
-pub record SendsNext (links after : Links) (o : ℕ) (more : List Message) : Type 0 where
+pub record SendsNext (links after : Links) (o : ℕ) (more : List Said) : Type 0 where
   pub before : Link
   pub link : Link
   pub op : Operation
@@ -101,11 +104,12 @@ pub record SendsNext (links after : Links) (o : ℕ) (more : List Message) : Typ
   pub sends : more ≡ Call link.inc link.act link.last op ∷ []
 
 -- Begins: an object without a link gets one, with a number that was drawn now, and its first call is sent.
-pub record Begins (links after : Links) (lives : Lives) (owners : List ℕ) (last_act o : ℕ) (more : List Message) : Type 0 where
+pub record Begins (links after : Links) (lives : Lives) (owners : List ℕ) (last_act o : ℕ) (more : List Said) : Type 0 where
+  pub session : ℕ
   pub inc : ℕ
   pub op : Operation
   pub was : links o ≡ None
-  pub is : after o ≡ Some (begun_link inc (last_act + 1) op)
+  pub is : after o ≡ Some (begun_link session inc (last_act + 1) op)
   pub others : (n : ℕ) → n ≢ o → after n ≡ links n
   pub quiet : IsQuiet op
   pub owner : nth owners (last_act + 1) ≡ Some o
@@ -198,7 +202,7 @@ abbrev pub Tells : Acts → Acts → Type 0
 Tells acts after = (inc act : ℕ) → Alike (acts inc act) (after inc act)
 
 -- neither a call nor a reply
-abbrev pub IsOwn : Message → Type 0
+abbrev pub IsOwn : Said → Type 0
 IsOwn (Call inc act n op) = ⊥
 IsOwn (Reply inc act n answer) = ⊥
 IsOwn (Write inc act s w content) = ⊤

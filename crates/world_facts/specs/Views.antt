@@ -1,7 +1,7 @@
 -- What senders saw: the state of an activation just before it sent a message. So each content that the container takes was
 -- sent under the storage grant that its record holds open.
 use Rattle.std.specs.Prelude.{◌≡◌, ◌⊎◌, ℕ, true, List, Option, Some, ⊤}
-use Rattle.wire_msgs.specs.declared.message.Message.{Message}
+use Rattle.wire_msgs.specs.declared.message.Said.{Said}
 use Rattle.wire_msgs.specs.declared.message.Said.TheVariants.{Call, Reply, Write, Ask}
 use Rattle.wire_msgs.specs.declared.operation.Operation.TheVariants.{Close}
 use Rattle.wire_msgs.specs.declared.answer.Answer.{Answer}
@@ -12,6 +12,7 @@ use Rattle.server_model.specs.Server.{Activation}
 use Rattle.container_model.specs.declared.record.Link.{Link}
 use Rattle.world_model.specs.declared.logs.Sent.{Sent}
 use Rattle.world_model.specs.declared.logs.View.{View}
+use Rattle.world_model.specs.World.{in_session}
 use Rattle.world_model.specs.Safe.{Among}
 use Rattle.world_facts.specs.Words.{Links, Acts, IsHonest}
 use Rattle.world_facts.specs.Shapes.{IsSame}
@@ -23,22 +24,23 @@ pub record IsOpenUnder (s : ℕ) (view : View) : Type 0 where
   pub grant : view.s ≡ s
 
 -- a write was sent under the storage grant that it names
-abbrev pub IsSentOpen : Message → Option View → Type 0
+abbrev pub IsSentOpen : Said → Option View → Type 0
 IsSentOpen (Call inc act n op) view = ⊤
 IsSentOpen (Reply inc act n answer) view = ⊤
 IsSentOpen (Write inc act s w content) view = (v : View) × (view ≡ Some v) × IsOpenUnder s v
 IsSentOpen (Ask inc act g) view = ⊤
 
--- a reply was sent by an open activation at these states and this grant
+-- a reply was sent, in a session, by an open activation at these states and this grant
 pub record IsSeen (sent : List Sent) (inc act n : ℕ) (answer : Answer) (v : States) (s : ℕ) : Type 0 where
+  pub session : ℕ
   pub view : View
-  pub among : Among sent (record { message = Reply inc act n answer; view = Some view })
+  pub among : Among sent (record { message = in_session session (Reply inc act n answer); view = Some view })
   pub opened : view.opened ≡ true
   pub states : view.states ≡ v
   pub grant : view.s ≡ s
 
 pub record Views (hostile : List ℕ) (links : Links) (acts : Acts) (sent : List Sent) : Type 0 where
-  pub writes_sent : (x : Sent) → Among sent x → IsSentOpen x.message x.view
+  pub writes_sent : (x : Sent) → Among sent x → IsSentOpen x.message.said x.view
   -- an answer to a close that is pending was sent at the link's states and grant
   pub closes_sent : (o : ℕ) (l : Link) (a : Activation) (option : CloseOption) → links o ≡ Some l → IsHonest hostile l.inc → acts l.inc l.act ≡ Some a → l.pending ≡ Some (Close option) → a.last ≡ l.last
       → IsSeen sent l.inc l.act a.last a.reply l.states l.s
@@ -46,7 +48,7 @@ pub record Views (hostile : List ℕ) (links : Links) (acts : Acts) (sent : List
 -- the log of messages grew, by writes that were sent under their grants and by other messages
 pub record Grows (before after : List Sent) : Type 0 where
   pub kept : (x : Sent) → Among before x → Among after x
-  pub new : (x : Sent) → Among after x → Among before x ⊎ IsSentOpen x.message x.view
+  pub new : (x : Sent) → Among after x → Among before x ⊎ IsSentOpen x.message.said x.view
 
 -- links whose close is pending and answered were so before
 pub record WasAnswered (links : Links) (acts : Acts) (o : ℕ) (l : Link) (a : Activation) : Type 0 where

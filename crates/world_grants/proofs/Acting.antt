@@ -1,7 +1,7 @@
 -- A server takes a call: who has frames stays.
 use Rattle.std.proofs.Common.{◌≡◌, ◌⊎◌, ◌+◌, ℕ, List, [], ◌∷◌, ◌++◌, Option, Some, None, Result, Ok, Err, refl, sym, ap, ◌∙◌, inl, inr, subst}
 use Rattle.wire_msgs.specs.Operations.{op_of}
-use Rattle.wire_msgs.specs.declared.message.Message.{Message}
+use Rattle.wire_msgs.specs.declared.message.Said.{Said}
 use Rattle.wire_msgs.specs.declared.message.Said.TheVariants.{Call, Reply}
 use Rattle.wire_msgs.specs.declared.operation.Operation.{Operation}
 use Rattle.wire_msgs.specs.declared.operation.Operation.TheVariants.{InitNew, Load, InPlace, UiActivate, UiDeactivate, InPlaceDeactivate, OpenWindow, Edit, Save, HandsOff, SaveCompleted, SaveDropped, Close}
@@ -126,7 +126,7 @@ took before a (Close NoSave) (told.Refused why) = λ nf g m d has. absurd d
 took before a (Close NoSave) (told.Content c) = λ nf g m d has. absurd d
 took before a (Close NoSave) (told.Tools menus border) = λ nf g m d has. absurd d
 
-module _ {hostile : List ℕ} (links : Links) (acts after : Acts) (lives : Lives) (sent : List Message) (owners : List ℕ) (last : ℕ) (counted : List Done) (served : List ServerDone)
+module _ {hostile : List ℕ} (links : Links) (acts after : Acts) (lives : Lives) (sent : List Said) (owners : List ℕ) (last : ℕ) (counted : List Done) (served : List ServerDone)
     (inc act n : ℕ) (op : Operation) (a : Activation) (r : Answer) (told : Option Counted)
     (f : Facts hostile links acts lives sent owners last counted served) (ready : IsReady links)
     (call : Among sent (Call inc act n op)) (runs : lives inc ≡ Some Runs) (ch : IsChanged acts after inc act a) (how : ActsOn acts inc act n op a r told)

@@ -2,7 +2,7 @@
 use Rattle.std.proofs.Common.{◌≡◌, ◌==◌, ℕ, Bool, true, false, List, [], ◌∷◌, Option, Some, None, refl, sym, ap, ◌∙◌, inl, inr, subst, if◌then◌else◌}
 use Rattle.std.proofs.lemmas.Bool.{eqb-true}
 use Rattle.wire_msgs.specs.Found.{find, nth, set_nth}
-use Rattle.wire_msgs.specs.declared.message.Message.{Message}
+use Rattle.wire_msgs.specs.declared.message.Said.{Said}
 use Rattle.wire_msgs.specs.declared.message.Said.TheVariants.{Reply}
 use Rattle.wire_msgs.specs.declared.operation.Operation.{Operation}
 use Rattle.wire_msgs.specs.declared.operation.Operation.TheVariants.{UiActivate, UiDeactivate}
@@ -103,7 +103,7 @@ ready_for r s = record {
 }
 
 -- a step that takes a message may say so
-pub move_more : (links after : Links) (roles now : Roles) (taken : List Message) → RolesMove links after roles now [] → RolesMove links after roles now taken
+pub move_more : (links after : Links) (roles now : Roles) (taken : List Said) → RolesMove links after roles now [] → RolesMove links after roles now taken
 move_more links after roles now taken h = record {
   named = λ o g m e n. elim (h.named o g m e n) [ inl k ↦ inl k | inr z ↦ absurd z.answered ];
   held = λ o g tools m e n. elim (h.held o g tools m e n) [ inl k ↦ inl k | inr z ↦ absurd z.answered ];

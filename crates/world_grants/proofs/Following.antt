@@ -1,6 +1,6 @@
 -- Links that are followed by links of the same activations.
 use Rattle.std.proofs.Common.{◌≡◌, ℕ, List, Some, None, refl, sym, ap, ◌∙◌, inl, inr}
-use Rattle.wire_msgs.specs.declared.message.Message.{Message}
+use Rattle.wire_msgs.specs.declared.message.Said.{Said}
 use Rattle.wire_msgs.specs.declared.operation.Operation.{Operation}
 use Rattle.container_model.specs.declared.record.Link.{Link}
 use Rattle.world_facts.specs.Words.{Links, Acts, Lives}
@@ -14,7 +14,7 @@ same_follow links after h o m e = (m, sym (h o) ∙ e, refl, refl)
 pub follows_further : (links between after : Links) → Follows links between → Follows between after → Follows links after
 follows_further links between after h k o m e = (let p = k o m e in let q = h o p.0 p.1 in (q.0, q.1, p.2 ∙ q.2, p.3 ∙ q.3))
 
-pub asks_follow : (Asks : ℕ → Operation → Type 0) (links after : Links) (more : List Message) → AsksAll Asks links after more → Follows links after
+pub asks_follow : (Asks : ℕ → Operation → Type 0) (links after : Links) (more : List Said) → AsksAll Asks links after more → Follows links after
 asks_follow Asks links after more h o m e = at (h.each o)
   where
     at : AskedAt (Asks o) (links o) (after o) (h.news o) → (l : Link) × (links o ≡ Some l) × (m.inc ≡ l.inc) × (m.act ≡ l.act)
@@ -29,7 +29,7 @@ settles_follow hostile links after acts o h n m e = elim (which links after o n 
   | inr s ↦ (m, s.1, refl, refl)
 ]
 
-pub next_follows : (links after : Links) (o : ℕ) (more : List Message) → SendsNext links after o more → Follows links after
+pub next_follows : (links after : Links) (o : ℕ) (more : List Said) → SendsNext links after o more → Follows links after
 next_follows links after o more h n m e = elim (which links after o n h.link m h.is h.others e) [
   | inl s ↦ (h.before, ap links s.0 ∙ h.was, ap (λ (x : Link). x.inc) s.1 ∙ h.called.inc, ap (λ (x : Link). x.act) s.1 ∙ h.called.act)
   | inr s ↦ (m, s.1, refl, refl)

@@ -1,6 +1,6 @@
 -- A step of the container leaves who has frames.
 use Rattle.std.proofs.Common.{◌≡◌, ◌⊎◌, ◌+◌, ◌≤◌, ℕ, List, [], ◌++◌, Option, Some, None, refl, sym, ap, ◌∙◌, inl, inr, arith, subst}
-use Rattle.wire_msgs.specs.declared.message.Message.{Message}
+use Rattle.wire_msgs.specs.declared.message.Said.{Said}
 use Rattle.wire_msgs.specs.declared.message.Said.TheVariants.{Call, Reply}
 use Rattle.wire_msgs.specs.declared.operation.Operation.{Operation}
 use Rattle.wire_msgs.specs.declared.operation.Operation.TheVariants.{UiActivate, UiDeactivate}
@@ -22,13 +22,13 @@ use Rattle.world_facts.proofs.Lookups.{among_join, among_old}
 use Rattle.world_grants.specs.Grants.{Roles, Names, WasTold, Grants, AreSent, Follows, GaveUp, RolesMove}
 
 -- more was sent
-pub told_more : (sent more : List Message) (inc act g : ℕ) (tools : Tools) → WasTold sent inc act g tools → WasTold (sent ++ more) inc act g tools
+pub told_more : (sent more : List Said) (inc act g : ℕ) (tools : Tools) → WasTold sent inc act g tools → WasTold (sent ++ more) inc act g tools
 told_more sent more inc act g tools h = record { n = h.n; called = among_old sent more _ h.called; replied = among_old sent more _ h.replied }
 
-told_as : (sent : List Message) (inc act inc' act' g : ℕ) (tools : Tools) → inc' ≡ inc → act' ≡ act → WasTold sent inc act g tools → WasTold sent inc' act' g tools
+told_as : (sent : List Said) (inc act inc' act' g : ℕ) (tools : Tools) → inc' ≡ inc → act' ≡ act → WasTold sent inc act g tools → WasTold sent inc' act' g tools
 told_as sent inc act inc' act' g tools ei ea h = subst (λ x. WasTold sent x act' g tools) (sym ei) (subst (λ x. WasTold sent inc x g tools) (sym ea) h)
 
-module _ {hostile : List ℕ} (links : Links) (acts : Acts) (lives : Lives) (sent : List Message) (owners : List ℕ) (last : ℕ) (counted : List Done) (served : List ServerDone) (f : Facts hostile links acts lives sent owners last counted served) where
+module _ {hostile : List ℕ} (links : Links) (acts : Acts) (lives : Lives) (sent : List Said) (owners : List ℕ) (last : ℕ) (counted : List Done) (served : List ServerDone) (f : Facts hostile links acts lives sent owners last counted served) where
   -- an activation whose answer to the pending call was sent did so
   ahead_by : (l : Link) (op : Operation) (answer : Answer) (b : Activation) → l.pending ≡ Some op → l.last ≤ b.last → (l.last ≡ b.last → answer ≡ b.reply) → (x : Option Activation) → x ≡ Some b → InStep l x → Did l.states l.s op b answer
   ahead_by l op answer b p le kept _ e (not_begun o one v z g) = (let z : None ≡ Some b = e in cc)
@@ -60,7 +60,7 @@ module _ {hostile : List ℕ} (links : Links) (acts : Acts) (lives : Lives) (sen
   abbrev pub Before : ℕ → Link → Type 0
   Before o m = ((l : Link) × (links o ≡ Some l) × (m.inc ≡ l.inc) × (m.act ≡ l.act)) ⊎ ((links o ≡ None) × ((a : Activation) → acts m.inc m.act ≡ Some a → ⊥))
 
-  module _ (after : Links) (more : List Message) (roles now : Roles) (taken : List Message) (g : Grants hostile links roles acts sent) (linked : (o k : ℕ) (tools : Tools) → roles o ≡ Holding k tools → (l : Link) × (links o ≡ Some l))
+  module _ (after : Links) (more : List Said) (roles now : Roles) (taken : List Said) (g : Grants hostile links roles acts sent) (linked : (o k : ℕ) (tools : Tools) → roles o ≡ Holding k tools → (l : Link) × (links o ≡ Some l))
       (moves : RolesMove links after roles now taken) (sends : AreSent hostile sent taken) (calls : AreCalls more) (back : (o : ℕ) (m : Link) → after o ≡ Some m → Before o m) where
     no_g : (o k : ℕ) (l : Link) (a : Activation) → links o ≡ Some l → IsHonest hostile l.inc → acts l.inc l.act ≡ Some a → a.g ≡ Some k → GaveUp links taken o → ⊥
     no_g o k l a e honest at has gave =
@@ -108,14 +108,14 @@ module _ {hostile : List ℕ} (links : Links) (acts : Acts) (lives : Lives) (sen
     stepped = record { g_is_ui = g.g_is_ui; holder_named = named; replied_called = called_now; held_told = told_now }
 
 -- the links follow those before
-pub followed : {hostile : List ℕ} (links after : Links) (acts : Acts) (lives : Lives) (sent more : List Message) (owners : List ℕ) (last : ℕ) (counted : List Done) (served : List ServerDone) (roles now : Roles) (taken : List Message)
+pub followed : {hostile : List ℕ} (links after : Links) (acts : Acts) (lives : Lives) (sent more : List Said) (owners : List ℕ) (last : ℕ) (counted : List Done) (served : List ServerDone) (roles now : Roles) (taken : List Said)
     → Facts hostile links acts lives sent owners last counted served → Grants hostile links roles acts sent → ((o k : ℕ) (tools : Tools) → roles o ≡ Holding k tools → (l : Link) × (links o ≡ Some l))
     → RolesMove links after roles now taken → AreSent hostile sent taken → AreCalls more → Follows links after → Grants hostile after now acts (sent ++ more)
 followed links after acts lives sent more owners last counted served roles now taken f g linked moves sends calls follows =
     stepped links acts lives sent owners last counted served f after more roles now taken g linked moves sends calls (λ o m e. inl (follows o m e))
 
 -- one more begins
-pub begun : {hostile : List ℕ} (links after : Links) (acts : Acts) (lives : Lives) (sent more : List Message) (owners : List ℕ) (extra : List ℕ) (last o : ℕ) (counted : List Done) (served : List ServerDone) (roles now : Roles)
+pub begun : {hostile : List ℕ} (links after : Links) (acts : Acts) (lives : Lives) (sent more : List Said) (owners : List ℕ) (extra : List ℕ) (last o : ℕ) (counted : List Done) (served : List ServerDone) (roles now : Roles)
     → Facts hostile links acts lives sent owners last counted served → Grants hostile links roles acts sent → ((o k : ℕ) (tools : Tools) → roles o ≡ Holding k tools → (l : Link) × (links o ≡ Some l))
     → RolesMove links after roles now [] → AreCalls more → Begins links after lives (owners ++ extra) last o more → Grants hostile after now acts (sent ++ more)
 begun links after acts lives sent more owners extra last o counted served roles now f g linked moves calls h =

@@ -1,7 +1,7 @@
 -- What each step of the container makes of roles.
 use Rattle.std.proofs.Common.{◌≡◌, ◌==◌, ℕ, ◌+◌, Bool, true, false, List, [], ◌∷◌, length, Option, Some, None, Result, Ok, Err, refl, sym, ◌∙◌, subst, if◌then◌else◌}
 use Rattle.wire_msgs.specs.Found.{find, nth}
-use Rattle.wire_msgs.specs.declared.message.Message.{Message}
+use Rattle.wire_msgs.specs.declared.message.Said.{Said}
 use Rattle.wire_msgs.specs.declared.message.Said.TheVariants.{Call, Reply, Write, Ask}
 use Rattle.object_parts.specs.Limits.{is_within}
 use Rattle.document_model.specs.declared.object.DocObject.{DocObject}
@@ -30,7 +30,7 @@ use Rattle.world_grants.proofs.Verbs.{command_leaves, ask_leaves}
 use Rattle.world_grants.proofs.Replies.{reply_is}
 use Rattle.world_grants.proofs.Answering.{move_more, reply_moves}
 
-abbrev pub MovesBy : Record → Record → List Message → Type 0
+abbrev pub MovesBy : Record → Record → List Said → Type 0
 MovesBy r u taken = RolesMove (links_of r.objects) (links_of u.objects) (roles_of r) (roles_of u) taken
 
 left_moves : (r u : Record) → Steady r → Leaves r u → MovesBy r u []
@@ -95,7 +95,7 @@ ask_leaves_on r link inc act g t e = at (inc == link) e
     at true k = ask_leaves r inc act g t k
     at false k = cc
 
-pub message_moves : (r : Record) (link : ℕ) (m : Message) (t : Took) → Steady r → on_message r link m ≡ Ok t → MovesBy r t.rec (m ∷ [])
+pub message_moves : (r : Record) (link : ℕ) (m : Said) (t : Took) → Steady r → on_message r link m ≡ Ok t → MovesBy r t.rec (m ∷ [])
 message_moves r link (Call inc act n op) t s e = cc
 message_moves r link (Reply inc act n answer) t s e = reply_moves r s inc act n answer t (reply_is r inc act n answer t link e)
 message_moves r link (Write inc act k w content) t s e = move_more (links_of r.objects) (links_of t.rec.objects) (roles_of r) (roles_of t.rec) (Write inc act k w content ∷ []) (left_moves r t.rec s (write_leaves r inc act k w content t link e))

@@ -2,7 +2,7 @@
 -- answered to it.
 use Rattle.std.specs.Prelude.{◌≡◌, ◌⊎◌, ℕ, List, Option, Some, None}
 use Rattle.wire_msgs.specs.Found.{find, nth}
-use Rattle.wire_msgs.specs.declared.message.Message.{Message}
+use Rattle.wire_msgs.specs.declared.message.Said.{Said}
 use Rattle.wire_msgs.specs.declared.message.Said.TheVariants.{Call, Reply}
 use Rattle.wire_msgs.specs.declared.operation.Operation.{Operation}
 use Rattle.wire_msgs.specs.declared.operation.Operation.TheVariants.{UiActivate, UiDeactivate}
@@ -48,7 +48,7 @@ Names (Waiting h) g = ⊥
 Names Other g = ⊥
 
 -- these tools were answered to the grant
-pub record WasTold (sent : List Message) (inc act g : ℕ) (tools : Tools) : Type 0 where
+pub record WasTold (sent : List Said) (inc act g : ℕ) (tools : Tools) : Type 0 where
   pub n : ℕ
   pub called : Among sent (Call inc act n (UiActivate g))
   pub replied : Among sent (Reply inc act n (told.Tools tools.menus tools.border))
@@ -57,7 +57,7 @@ pub record WasTold (sent : List Message) (inc act g : ℕ) (tools : Tools) : Typ
 abbrev pub IsUi : Activation → Type 0
 IsUi a = IsOpen a × (a.states.object ≡ UiActive)
 
-pub record Grants (hostile : List ℕ) (links : Links) (roles : Roles) (acts : Acts) (sent : List Message) : Type 0 where
+pub record Grants (hostile : List ℕ) (links : Links) (roles : Roles) (acts : Acts) (sent : List Said) : Type 0 where
   -- an activation that has a grant is open, with its menus and border
   pub g_is_ui : (inc act g : ℕ) (a : Activation) → IsHonest hostile inc → acts inc act ≡ Some a → a.g ≡ Some g → IsUi a
   -- and its frame names it
@@ -77,17 +77,17 @@ abbrev pub Follows : Links → Links → Type 0
 Follows links after = (o : ℕ) (m : Link) → after o ≡ Some m → (l : Link) × (links o ≡ Some l) × (m.inc ≡ l.inc) × (m.act ≡ l.act)
 
 -- What a step took of honest servers was sent. Of hostile ones it takes what was forged.
-abbrev pub AreSent : List ℕ → List Message → List Message → Type 0
-AreSent hostile sent taken = (m : Message) → Among taken m → IsHonest hostile (server_of m) → Among sent m
+abbrev pub AreSent : List ℕ → List Said → List Said → Type 0
+AreSent hostile sent taken = (m : Said) → Among taken m → IsHonest hostile (server_of m) → Among sent m
 
 -- A step took the answer of an object that it gave its frame up, or with which tools it holds its frame.
-pub record GaveUp (links : Links) (taken : List Message) (o : ℕ) : Type 0 where
+pub record GaveUp (links : Links) (taken : List Said) (o : ℕ) : Type 0 where
   pub link : Link
   pub linked : links o ≡ Some link
   pub pending : link.pending ≡ Some UiDeactivate
   pub answered : Among taken (Reply link.inc link.act link.last told.Done)
 
-pub record GotTools (links : Links) (taken : List Message) (o g : ℕ) (tools : Tools) : Type 0 where
+pub record GotTools (links : Links) (taken : List Said) (o g : ℕ) (tools : Tools) : Type 0 where
   pub link : Link
   pub linked : links o ≡ Some link
   pub pending : link.pending ≡ Some (UiActivate g)
@@ -95,7 +95,7 @@ pub record GotTools (links : Links) (taken : List Message) (o g : ℕ) (tools : 
 
 -- What a step of the container makes of roles: whoever is named stays named until it has given its frame up, and nobody
 -- holds a frame that didn't, until it has answered its tools.
-pub record RolesMove (links after : Links) (roles now : Roles) (taken : List Message) : Type 0 where
+pub record RolesMove (links after : Links) (roles now : Roles) (taken : List Said) : Type 0 where
   pub named : (o g : ℕ) (m : Link) → after o ≡ Some m → Names (roles o) g → Names (now o) g ⊎ GaveUp links taken o
   pub held : (o g : ℕ) (tools : Tools) (m : Link) → after o ≡ Some m → now o ≡ Holding g tools → (roles o ≡ Holding g tools) ⊎ GotTools links taken o g tools
 

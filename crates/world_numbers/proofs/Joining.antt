@@ -2,7 +2,7 @@
 use Rattle.std.proofs.Common.{◌≡◌, ◌≤◌, ℕ, List, [], ◌∷◌, ◌++◌, length, map, Option, Some, None, refl, sym, ap, ◌∙◌, inl, inr, arith, subst}
 use Rattle.std.specs.List.{AllByRecursion}
 use Rattle.wire_msgs.specs.Found.{nth, set_nth}
-use Rattle.wire_msgs.specs.declared.message.Message.{Message}
+use Rattle.wire_msgs.specs.declared.message.Said.{Said}
 use Rattle.container_model.specs.Record.{Record, Took}
 use Rattle.container_model.specs.declared.answer.Action.{Action}
 use Rattle.container_model.specs.declared.answer.Action.TheVariants.{Send, Start, End, Commit}
@@ -10,7 +10,7 @@ use Rattle.container_queues.proofs.SteadyLookups.{each_nth, each_set}
 use Rattle.container_numbers.specs.Sound.{IsNumbered}
 use Rattle.world_model.specs.declared.logs.Sent.{Sent}
 use Rattle.world_model.specs.World.{World, Instance, end_of, ended_at, ended_by, fresh, joined, messages_of, of_container, started_by}
-use Rattle.world_model.specs.Safe.{Among, IsWithin, WasSent, links_of, messages}
+use Rattle.world_model.specs.Safe.{Among, IsWithin, WasSent, links_of, sayings}
 use Rattle.world_facts.proofs.Lookups.{among_join}
 use Rattle.world_steps.proofs.Objects.{messages_of_log, messages_told}
 use Rattle.world_numbers.specs.Numbers.{ArePending, Follow, IsServerWithin, Numbers, RunsWithin}
@@ -41,7 +41,7 @@ ended_within limit (Commit f ∷ rest) is h = ended_within limit rest is h
 -- a step of the container sends what is pending then, and starts servers within the limit
 pub record IsTaken (limit : ℕ) (t : Took) : Type 0 where
   pub recorded : IsNumbered limit t.rec
-  pub pending : ArePending (links_of t.rec.objects) (messages_of t.answer.actions)
+  pub pending : ArePending (links_of t.rec.objects) (sayings_of t.answer.actions)
   pub starts : AllByRecursion (RunsWithin limit) (started_by t.rec.numbers t.answer.actions)
 
 pub joined_follows : (limit : ℕ) (w : World) (t : Took) → Numbers limit w → IsTaken limit t → Follow limit (joined w t)
@@ -51,18 +51,18 @@ joined_follows limit w t h k within = record {
   servers = each_joined (RunsWithin limit) (ended_by t.answer.actions w.instances) (started_by t.rec.numbers t.answer.actions) (ended_within limit t.answer.actions w.instances h.servers) k.starts;
 }
   where
-    log : messages (w.sent ++ map of_container (messages_of t.answer.actions)) ≡ messages w.sent ++ messages_of t.answer.actions
-    log = messages_of_log w.sent (map of_container (messages_of t.answer.actions)) ∙ ap (λ ms. messages w.sent ++ ms) (messages_told (messages_of t.answer.actions))
+    log : sayings (w.sent ++ map of_container (sayings_of t.answer.actions)) ≡ sayings w.sent ++ sayings_of t.answer.actions
+    log = messages_of_log w.sent (map of_container (sayings_of t.answer.actions)) ∙ ap (λ ms. sayings w.sent ++ ms) (messages_told (sayings_of t.answer.actions))
 
-    all_sent : (m : Message) → WasSent (joined w t) m → IsWithin limit m
-    all_sent m g = elim (among_join (messages w.sent) (messages_of t.answer.actions) m (subst (λ ms. Among ms m) log g)) [
+    all_sent : (m : Said) → WasSent (joined w t) m → IsWithin limit m
+    all_sent m g = elim (among_join (sayings w.sent) (sayings_of t.answer.actions) m (subst (λ ms. Among ms m) log g)) [
       | inl old ↦ h.sent m old
       | inr new ↦ within m k.recorded (k.pending m new) g
     ]
 
 -- one message more
-pub sent_one : (limit : ℕ) (w : World) (x : Sent) → ((m : Message) → WasSent w m → IsWithin limit m) → IsWithin limit x.message → (m : Message) → Among (messages (w.sent ++ x ∷ [])) m → IsWithin limit m
-sent_one limit w x h k m g = elim (among_join (messages w.sent) (x.message ∷ []) m (subst (λ ms. Among ms m) (messages_of_log w.sent (x ∷ [])) g)) [
+pub sent_one : (limit : ℕ) (w : World) (x : Sent) → ((m : Said) → WasSent w m → IsWithin limit m) → IsWithin limit x.message → (m : Said) → Among (sayings (w.sent ++ x ∷ [])) m → IsWithin limit m
+sent_one limit w x h k m g = elim (among_join (sayings w.sent) (x.message ∷ []) m (subst (λ ms. Among ms m) (messages_of_log w.sent (x ∷ [])) g)) [
   | inl old ↦ h m old
   | inr new ↦ at new
 ]

@@ -1,6 +1,6 @@
 -- Whatever a step sends is pending once it is taken.
 use Rattle.std.proofs.Common.{◌≡◌, ◌+◌, ℕ, List, [], ◌∷◌, Some, None, refl, sym, ◌∙◌, ap, inl, inr, subst}
-use Rattle.wire_msgs.specs.declared.message.Message.{Message}
+use Rattle.wire_msgs.specs.declared.message.Said.{Said}
 use Rattle.wire_msgs.specs.declared.message.Said.TheVariants.{Call}
 use Rattle.wire_msgs.specs.declared.operation.Operation.{Operation}
 use Rattle.container_model.specs.Commands.{begun_link}
@@ -12,10 +12,10 @@ use Rattle.world_facts.proofs.Lookups.{among_join}
 use Rattle.world_steps.specs.Steps.{IsAnswered, settled, goes_on, ended, AsksInTurn, asks_none, asks_first, IsReplied, IsReaped}
 use Rattle.world_numbers.specs.Numbers.{ArePending, IsPending}
 
-pub none_pending : (links : Links) (more : List Message) → more ≡ [] → ArePending links more
+pub none_pending : (links : Links) (more : List Said) → more ≡ [] → ArePending links more
 none_pending links more e m g = absurd (subst (λ ms. Among ms m) e g)
 
-one_pending : (links : Links) (o : ℕ) (l : Link) (op : Operation) (more : List Message) → links o ≡ Some l → l.pending ≡ Some op → more ≡ Call l.inc l.act l.last op ∷ [] → ArePending links more
+one_pending : (links : Links) (o : ℕ) (l : Link) (op : Operation) (more : List Said) → links o ≡ Some l → l.pending ≡ Some op → more ≡ Call l.inc l.act l.last op ∷ [] → ArePending links more
 one_pending links o l op more is p e m g = at (subst (λ ms. Among ms m) e g)
   where
     at : Among (Call l.inc l.act l.last op ∷ []) m → IsPending links m
@@ -23,7 +23,7 @@ one_pending links o l op more is p e m g = at (subst (λ ms. Among ms m) e g)
     at (inr z) = absurd z
 
 -- operations that are asked
-pub asks_pending : (Asks : ℕ → Operation → Type 0) (links after : Links) (more : List Message) → AsksAll Asks links after more → ArePending after more
+pub asks_pending : (Asks : ℕ → Operation → Type 0) (links after : Links) (more : List Said) → AsksAll Asks links after more → ArePending after more
 asks_pending Asks links after more h m g = (let p = h.from m g in at p.0 (h.each p.0) p.1)
   where
     at : (o : ℕ) → AskedAt (Asks o) (links o) (after o) (h.news o) → Among (h.news o) m → IsPending after m
@@ -33,7 +33,7 @@ asks_pending Asks links after more h m g = (let p = h.from m g in at p.0 (h.each
     at o (sends b l op w i c wb wm ak n) a = one_pending after o l op (h.news o) i c.pending n m a
 
 -- what is pending stays so
-same_pending : (after : Links) (o : ℕ) (b l : Link) (op : Operation) (m : Message) → after o ≡ Some l → IsSame b l → b.pending ≡ Some op → m ≡ Call b.inc b.act b.last op → IsPending after m
+same_pending : (after : Links) (o : ℕ) (b l : Link) (op : Operation) (m : Said) → after o ≡ Some l → IsSame b l → b.pending ≡ Some op → m ≡ Call b.inc b.act b.last op → IsPending after m
 same_pending after o b l op m is s p e = record {
   object = o;
   link = l;
@@ -43,7 +43,7 @@ same_pending after o b l op m is s p e = record {
   call = e ∙ (ap (λ n. Call n b.act b.last op) (sym s.inc) ∙ (ap (λ n. Call l.inc n b.last op) (sym s.act) ∙ ap (λ n. Call l.inc l.act n op) (sym s.last)));
 }
 
-asks_keep : (Asks : ℕ → Operation → Type 0) (links after : Links) (more : List Message) (m : Message) → AsksAll Asks links after more → IsPending links m → IsPending after m
+asks_keep : (Asks : ℕ → Operation → Type 0) (links after : Links) (more : List Said) (m : Said) → AsksAll Asks links after more → IsPending links m → IsPending after m
 asks_keep Asks links after more m h p = at (h.each p.object)
   where
     own : (b : Link) → links p.object ≡ Some b → b ≡ p.link
@@ -60,11 +60,11 @@ asks_keep Asks links after more m h p = at (h.each p.object)
     at (sends b l op w i c wb wm ak n) = absurd (let z : None ≡ Some p.operation = sym c.free ∙ (ap (λ (x : Link). x.pending) (own b w) ∙ p.pending) in cc)
 
 -- in turn
-turned_keeps : (links after : Links) (more : List Message) (m : Message) → AsksInTurn links after more → IsPending links m → IsPending after m
+turned_keeps : (links after : Links) (more : List Said) (m : Said) → AsksInTurn links after more → IsPending links m → IsPending after m
 turned_keeps _ _ _ m (asks_none links after more same e) p = record { object = p.object; link = p.link; operation = p.operation; linked = same p.object ∙ p.linked; pending = p.pending; call = p.call }
 turned_keeps _ _ _ m (asks_first links between after first rest more h t e) p = turned_keeps between after rest m t (asks_keep (λ o op. IsQuiet op) links between first m h p)
 
-pub turned_pending : (links after : Links) (more : List Message) → AsksInTurn links after more → ArePending after more
+pub turned_pending : (links after : Links) (more : List Said) → AsksInTurn links after more → ArePending after more
 turned_pending _ _ _ (asks_none links after more same e) = none_pending after more e
 turned_pending _ _ _ (asks_first links between after first rest more h t e) = λ m g. elim (among_join first rest m (subst (λ ms. Among ms m) e g)) [
   | inl a ↦ turned_keeps between after rest m t (asks_pending (λ o op. IsQuiet op) links between first h m a)
@@ -72,21 +72,21 @@ turned_pending _ _ _ (asks_first links between after first rest more h t e) = λ
 ]
 
 -- an answer is taken, and what waits is sent
-answered_pending : (hostile : List ℕ) (links after : Links) (acts : Acts) (lives : Lives) (more : List Message) → IsAnswered hostile links after acts lives more → ArePending after more
+answered_pending : (hostile : List ℕ) (links after : Links) (acts : Acts) (lives : Lives) (more : List Said) → IsAnswered hostile links after acts lives more → ArePending after more
 answered_pending hostile links after acts lives more (settled o s e) = none_pending after more e
 answered_pending hostile links after acts lives more (goes_on o between s n) = one_pending after o n.link n.op more n.is n.called.pending n.sends
 answered_pending hostile links after acts lives more (ended s e) = none_pending after more e
 
-pub replied_pending : (hostile : List ℕ) (links after : Links) (acts : Acts) (lives : Lives) (more : List Message) → IsReplied hostile links after acts lives more → ArePending after more
+pub replied_pending : (hostile : List ℕ) (links after : Links) (acts : Acts) (lives : Lives) (more : List Said) → IsReplied hostile links after acts lives more → ArePending after more
 replied_pending hostile links after acts lives more h = λ m g. elim (among_join h.first h.rest m (subst (λ ms. Among ms m) h.joined g)) [
   | inl a ↦ turned_keeps h.between after h.rest m h.asked (answered_pending hostile links h.between acts lives h.first h.answered m a)
   | inr a ↦ turned_pending h.between after h.rest h.asked m a
 ]
 
 -- a server ends
-pub reaped_pending : (hostile : List ℕ) (links after : Links) (acts : Acts) (lives : Lives) (more : List Message) → IsReaped hostile links after acts lives more → ArePending after more
+pub reaped_pending : (hostile : List ℕ) (links after : Links) (acts : Acts) (lives : Lives) (more : List Said) → IsReaped hostile links after acts lives more → ArePending after more
 reaped_pending hostile links after acts lives more h = turned_pending h.between after more h.asked
 
 -- an activation begins
-pub begins_pending : (links after : Links) (lives : Lives) (owners : List ℕ) (last o : ℕ) (more : List Message) → Begins links after lives owners last o more → ArePending after more
+pub begins_pending : (links after : Links) (lives : Lives) (owners : List ℕ) (last o : ℕ) (more : List Said) → Begins links after lives owners last o more → ArePending after more
 begins_pending links after lives owners last o more h = one_pending after o (begun_link h.inc (last + 1) h.op) h.op more h.is refl h.sends

@@ -2,7 +2,7 @@
 use Rattle.std.proofs.Common.{◌≡◌, ◌⊎◌, ◌==◌, ℕ, ◌+◌, ◌<◌, Bool, true, false, List, [], ◌∷◌, ◌++◌, map, Option, Some, None, option_map, refl, sym, ap, ◌∙◌, inl, inr, arith, subst, if◌then◌else◌, eq-eqb}
 use Rattle.std.specs.List.{AllByRecursion}
 use Rattle.wire_msgs.specs.Found.{find, put}
-use Rattle.wire_msgs.specs.declared.message.Message.{Message}
+use Rattle.wire_msgs.specs.declared.message.Said.{Said}
 use Rattle.wire_msgs.specs.declared.operation.Operation.{Operation}
 use Rattle.stored_streams.specs.declared.stored.Stored.{Stored}
 use Rattle.container_model.specs.declared.record.Link.{Link}
@@ -46,10 +46,10 @@ pub none_asked : (links after : Links) → ((n : ℕ) → after n ≡ links n) �
 none_asked links after same = record { news = λ n. []; each = λ n. unasked_as IsQuiet (links n) (after n) (same n); from = λ m h. absurd h }
 
 -- each object is changed under its number
-module _ (Asks : ℕ → Operation → Type 0) (os : List Object) (g : Object → Object) (news : Object → List Message) (more : List Message) (number : (o : Object) → (g o).number ≡ o.number)
+module _ (Asks : ℕ → Operation → Type 0) (os : List Object) (g : Object → Object) (news : Object → List Said) (more : List Said) (number : (o : Object) → (g o).number ≡ o.number)
     (each : (n : ℕ) (o : Object) → find (is_object n) os ≡ Some o → AskedAt (Asks n) o.link (g o).link (news o))
-    (from : (m : Message) → Among more m → (o : Object) × (find (is_object o.number) os ≡ Some o) × Among (news o) m) where
-  abbrev news_in : Option Object → List Message
+    (from : (m : Said) → Among more m → (o : Object) × (find (is_object o.number) os ≡ Some o) × Among (news o) m) where
+  abbrev news_in : Option Object → List Said
   news_in None = []
   news_in (Some o) = news o
 
@@ -87,7 +87,7 @@ found_above n k (x ∷ os) o h e = elim (x.number == k) as (λ b. (if b then Som
 ] e
 
 -- who is asked by a message to a whole frame
-pub who_is_asked : (os : List Object) (f : ℕ) (op : Operation) (m : Message) → Rising os → Among (asked_all f op os) m → (o : Object) × (find (is_object o.number) os ≡ Some o) × Among (asked_of f op o) m
+pub who_is_asked : (os : List Object) (f : ℕ) (op : Operation) (m : Said) → Rising os → Among (asked_all f op os) m → (o : Object) × (find (is_object o.number) os ≡ Some o) × Among (asked_of f op o) m
 who_is_asked [] f op m s h = absurd h
 who_is_asked (x ∷ os) f op m s h =
     let later : Among (asked_all f op os) m → (o : Object) × (find (is_object o.number) (x ∷ os) ≡ Some o) × Among (asked_of f op o) m = λ g.

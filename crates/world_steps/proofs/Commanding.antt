@@ -29,8 +29,8 @@ use Rattle.world_steps.proofs.Verbing.{claiming_turned, leaving_turned}
 -- where no link changes, and nothing is sent, started or ended, nobody is asked
 still_turned : (r : Record) (t : Took) → ((k : ℕ) → links_of t.rec.objects k ≡ links_of r.objects k) → t.rec.last_act ≡ r.last_act → t.rec.servers ≡ r.servers → t.answer.actions ≡ [] → IsTurned r t
 still_turned r t same last servers none = (
-  asks_none (links_of r.objects) (links_of t.rec.objects) (messages_of t.answer.actions) same (ap messages_of none),
-  record { last_act = last; servers = ap length servers; starts = λ numbers. ap (started_by numbers) none; ends = λ is. ap (λ actions. ended_by actions is) none },
+  asks_none (links_of r.objects) (links_of t.rec.objects) (sayings_of t.answer.actions) same (ap messages_of none),
+  record { last_act = last; servers = ap length servers; starts = λ numbers. ap (started_by session numbers) none; ends = λ is. ap (λ actions. ended_by actions is) none },
 )
 
 -- a new object is passive

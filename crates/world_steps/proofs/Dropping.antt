@@ -21,7 +21,7 @@ use Rattle.world_steps.proofs.Objects.{found_held, messages_sends, no_start_sent
 use Rattle.world_steps.proofs.Asking.{unasked, is_asked, all_mapped, none_asked, ordered_rise, who_is_asked}
 
 abbrev pub AsksQuietly : Record → Took → Type 0
-AsksQuietly r t = AsksAll (λ o op. IsQuiet op) (links_of r.objects) (links_of t.rec.objects) (messages_of t.answer.actions) × IsPlain r t
+AsksQuietly r t = AsksAll (λ o op. IsQuiet op) (links_of r.objects) (links_of t.rec.objects) (sayings_of t.answer.actions) × IsPlain r t
 
 pub failed_asks : (r : Record) (f : ℕ) (t : Took) → commit_failed r f ≡ Ok t → AsksQuietly r t
 failed_asks r f t e =

@@ -4,7 +4,7 @@ use Rattle.std.specs.Prelude.{IfSome}
 use Rattle.std.proofs.lemmas.Bool.{eqb-true}
 use Rattle.std.proofs.lemmas.List.{append-nil}
 use Rattle.wire_msgs.specs.Found.{find, put, nth}
-use Rattle.wire_msgs.specs.declared.message.Message.{Message}
+use Rattle.wire_msgs.specs.declared.message.Said.{Said}
 use Rattle.container_model.specs.Record.{Record, is_object, sends}
 use Rattle.container_model.specs.Saves.{settled_action, settled_actions, is_ready}
 use Rattle.container_model.specs.declared.answer.Action.{Action}
@@ -19,7 +19,7 @@ use Rattle.container_steady.proofs.SteadyRecords.{if_at, some_and}
 use Rattle.container_steady.proofs.SteadyFinds.{found_by_number, put_by_number, find-put_same, find-put_other, find-map}
 use Rattle.world_model.specs.World.{Instance, messages_of, of_container, started_by, ended_by}
 use Rattle.world_model.specs.declared.logs.Sent.{Sent}
-use Rattle.world_model.specs.Safe.{link_at, links_of, messages}
+use Rattle.world_model.specs.Safe.{link_at, links_of, sayings}
 use Rattle.world_facts.specs.Words.{Links}
 use Rattle.world_facts.proofs.Lookups.{find_passes}
 
@@ -76,8 +76,8 @@ module _ (os : List Object) (test : Object → Bool) (x a : Object) (order : Eac
 pub link_mapped : (g : Object → Object) (os : List Object) (n : ℕ) → ((o : Object) → (g o).number ≡ o.number) → links_of (map g os) n ≡ link_at (option_map g (find (is_object n) os))
 link_mapped g os n number = ap link_at (find-map n g os number)
 
--- messages of actions
-pub messages_sends : (ms : List Message) → messages_of (sends ms) ≡ ms
+-- sayings of actions
+pub messages_sends : (ms : List Said) → messages_of (sends ms) ≡ ms
 messages_sends [] = refl
 messages_sends (m ∷ ms) = ap (λ v. m ∷ v) (messages_sends ms)
 
@@ -95,33 +95,33 @@ pub messages_settled : (f : ℕ) (os : List Object) (frames : List Frame) → me
 messages_settled f os [] = refl
 messages_settled f os (frame ∷ frames) = messages_settled_one f os frame (settled_actions (f + 1) os frames) ∙ messages_settled (f + 1) os frames
 
--- the messages of an answer that sends some and goes on with saves
-pub sent_of : (ms : List Message) (f : ℕ) (os : List Object) (frames : List Frame) → messages_of (sends ms ++ settled_actions f os frames) ≡ ms
+-- the sayings of an answer that sends some and goes on with saves
+pub sent_of : (ms : List Said) (f : ℕ) (os : List Object) (frames : List Frame) → messages_of (sends ms ++ settled_actions f os frames) ≡ ms
 sent_of ms f os frames = messages_join (sends ms) (settled_actions f os frames) ∙ (ap (λ v. messages_of (sends ms) ++ v) (messages_settled f os frames) ∙ (append-nil (messages_of (sends ms)) ∙ messages_sends ms))
 
 -- no server is started by what is sent, nor by saves that go on
-pub no_start : (numbers : ℕ) (ms : List Message) (rest : List Action) → started_by numbers rest ≡ [] → started_by numbers (sends ms ++ rest) ≡ []
+pub no_start : (numbers : ℕ) (ms : List Said) (rest : List Action) → started_by session numbers rest ≡ [] → started_by session numbers (sends ms ++ rest) ≡ []
 no_start numbers [] rest h = h
 no_start numbers (m ∷ ms) rest h = no_start numbers ms rest h
 
-pub no_start_sent : (numbers : ℕ) (ms : List Message) → started_by numbers (sends ms) ≡ []
+pub no_start_sent : (numbers : ℕ) (ms : List Said) → started_by session numbers (sends ms) ≡ []
 no_start_sent numbers [] = refl
 no_start_sent numbers (m ∷ ms) = no_start_sent numbers ms
 
-pub no_start_settled : (numbers f : ℕ) (os : List Object) (frames : List Frame) → started_by numbers (settled_actions f os frames) ≡ []
+pub no_start_settled : (numbers f : ℕ) (os : List Object) (frames : List Frame) → started_by session numbers (settled_actions f os frames) ≡ []
 no_start_settled numbers f os [] = refl
 no_start_settled numbers f os (frame ∷ frames) =
-    elim (is_ready f os frame) as (λ b. started_by numbers ((if b then Commit f ∷ [] else []) ++ settled_actions (f + 1) os frames) ≡ []) [
+    elim (is_ready f os frame) as (λ b. started_by session numbers ((if b then Commit f ∷ [] else []) ++ settled_actions (f + 1) os frames) ≡ []) [
       | true ↦ no_start_settled numbers (f + 1) os frames
       | false ↦ no_start_settled numbers (f + 1) os frames
     ]
 
 -- nor is one ended
-pub no_end : (ms : List Message) (rest : List Action) (is : List Instance) → ended_by rest is ≡ is → ended_by (sends ms ++ rest) is ≡ is
+pub no_end : (ms : List Said) (rest : List Action) (is : List Instance) → ended_by rest is ≡ is → ended_by (sends ms ++ rest) is ≡ is
 no_end [] rest is h = h
 no_end (m ∷ ms) rest is h = no_end ms rest is h
 
-pub no_end_sent : (ms : List Message) (is : List Instance) → ended_by (sends ms) is ≡ is
+pub no_end_sent : (ms : List Said) (is : List Instance) → ended_by (sends ms) is ≡ is
 no_end_sent [] is = refl
 no_end_sent (m ∷ ms) is = no_end_sent ms is
 
@@ -134,10 +134,10 @@ no_end_settled f os (frame ∷ frames) is =
     ]
 
 -- the log of what is sent
-pub messages_of_log : (xs ys : List Sent) → messages (xs ++ ys) ≡ messages xs ++ messages ys
+pub messages_of_log : (xs ys : List Sent) → sayings (xs ++ ys) ≡ sayings xs ++ sayings ys
 messages_of_log [] ys = refl
 messages_of_log (x ∷ xs) ys = ap (λ v. x.message ∷ v) (messages_of_log xs ys)
 
-pub messages_told : (ms : List Message) → messages (map of_container ms) ≡ ms
+pub messages_told : (ms : List Said) → sayings (map of_container ms) ≡ ms
 messages_told [] = refl
 messages_told (m ∷ ms) = ap (λ v. m ∷ v) (messages_told ms)

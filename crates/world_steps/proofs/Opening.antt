@@ -22,7 +22,7 @@ links_opened : (os : List Object) (last f : ℕ) (ds : List DocObject) (n : ℕ)
 links_opened [] last f ds n = opened_unlinked last f ds n
 links_opened (z ∷ os) last f ds n = elim (z.number == n) as (λ b. link_at (if b then Some z else find (is_object n) (os ++ opened_objects last f ds)) ≡ link_at (if b then Some z else find (is_object n) os)) [ true ↦ refl | false ↦ links_opened os last f ds n ]
 
-pub open_asks : (r : Record) (name : List ℕ) (w h : ℕ) (given : Given) (t : Took) → opened r name w h given ≡ Ok t → AsksAll (λ o op. IsQuiet op) (links_of r.objects) (links_of t.rec.objects) (messages_of t.answer.actions) × IsPlain r t
+pub open_asks : (r : Record) (name : List ℕ) (w h : ℕ) (given : Given) (t : Took) → opened r name w h given ≡ Ok t → AsksAll (λ o op. IsQuiet op) (links_of r.objects) (links_of t.rec.objects) (sayings_of t.answer.actions) × IsPlain r t
 open_asks r name w h given t e =
     let k = is_opened r name w h given t e in
     subst (λ (v : Took). AsksAll (λ o op. IsQuiet op) (links_of r.objects) (links_of v.rec.objects) (messages_of v.answer.actions) × IsPlain r v) k.made

@@ -90,5 +90,5 @@ module _ (hostile : List ℕ) (r : Record) (acts0 : Acts) (lives : Lives) (inc :
         },
       )
 
-  pub reap_ends : (t : Took) → on_reap r inc ≡ Ok t → IsReaped hostile (links_of r.objects) (links_of t.rec.objects) acts0 lives (messages_of t.answer.actions) × IsPlain r t
+  pub reap_ends : (t : Took) → on_reap r inc ≡ Ok t → IsReaped hostile (links_of r.objects) (links_of t.rec.objects) acts0 lives (sayings_of t.answer.actions) × IsPlain r t
   reap_ends t e = subst (λ (x : Took). IsReaped hostile (links_of r.objects) (links_of x.rec.objects) acts0 lives (messages_of x.answer.actions) × IsPlain r x) (taken (is_alive r inc) (reap_made r inc) t e) made_reaped

@@ -26,7 +26,7 @@ ui_quiet = λ k storage e. cc
 
 module _ (r : Record) (s : Steady r) where
   abbrev Result_of : Took → Type 0
-  Result_of t = AsksAll (λ o op. IsQuiet op) (links_of r.objects) (links_of t.rec.objects) (messages_of t.answer.actions) × IsPlain r t
+  Result_of t = AsksAll (λ o op. IsQuiet op) (links_of r.objects) (links_of t.rec.objects) (sayings_of t.answer.actions) × IsPlain r t
 
   relieved_asks : (o : Object) (act g : ℕ) (frame : Frame) → Result_of (counts_none (relieved r o act g frame).rec (acts (sends (relieved r o act g frame).sent)))
   relieved_asks o act g frame =
@@ -50,11 +50,11 @@ module _ (r : Record) (s : Steady r) where
 
 -- Ask
 pub ask_asks : (r : Record) (inc act g : ℕ) (t : Took) → Steady r → on_message r inc (Ask inc act g) ≡ Ok t
-    → AsksAll (λ o op. IsQuiet op) (links_of r.objects) (links_of t.rec.objects) (messages_of t.answer.actions) × IsPlain r t
+    → AsksAll (λ o op. IsQuiet op) (links_of r.objects) (links_of t.rec.objects) (sayings_of t.answer.actions) × IsPlain r t
 ask_asks r inc act g t s e = at (inc == inc) (is_alive r inc) e
   where
     at : (a b : Bool) → ◌≡◌ {A = Result Took ContainerFault} (if a then (if b then ask_found r act g (find (is_linked inc act) r.objects) else Err Stale) else Err WrongLink) (Ok t)
-        → AsksAll (λ o op. IsQuiet op) (links_of r.objects) (links_of t.rec.objects) (messages_of t.answer.actions) × IsPlain r t
+        → AsksAll (λ o op. IsQuiet op) (links_of r.objects) (links_of t.rec.objects) (sayings_of t.answer.actions) × IsPlain r t
     at true true q = found_asks r s act g (find (is_linked inc act) r.objects) t q
     at true false q = cc
     at false b q = cc

@@ -5,7 +5,7 @@ use Rattle.std.proofs.lemmas.Bool.{eqb-true}
 use Rattle.std.proofs.lemmas.List.{append_assoc}
 use Rattle.std.proofs.lemmas.Bool.Decides.{eqb_tells}
 use Rattle.wire_msgs.specs.Found.{find, put}
-use Rattle.wire_msgs.specs.declared.message.Message.{Message}
+use Rattle.wire_msgs.specs.declared.message.Said.{Said}
 use Rattle.wire_msgs.specs.declared.message.Said.TheVariants.{Reply}
 use Rattle.wire_msgs.specs.declared.operation.Operation.{Operation}
 use Rattle.wire_msgs.specs.declared.operation.Operation.TheVariants.{Close}
@@ -76,7 +76,7 @@ linked_is inc act (Some y) l e h = (let is : y ≡ l = cc in at (y.inc == inc) (
     at true false p q h is = cc
     at false b p q h is = cc
 
-module _ {hostile : List ℕ} (r : Record) (acts : Acts) (lives : Lives) (sent : List Message) (owners : List ℕ) (last : ℕ) (counted : List Done) (served : List ServerDone) (inc act n : ℕ) (answer : Answer)
+module _ {hostile : List ℕ} (r : Record) (acts : Acts) (lives : Lives) (sent : List Said) (owners : List ℕ) (last : ℕ) (counted : List Done) (served : List ServerDone) (inc act n : ℕ) (answer : Answer)
     (s : Steady r) (f : Facts hostile (links_of r.objects) acts lives sent owners last counted served) (told : IsHonest hostile inc → Among sent (Reply inc act n answer)) where
   module _ (x : Object) (p : Replied) (h : IsAnswer inc act n answer x p) (found : find (is_linked inc act) r.objects ≡ Some x) where
     abbrev l : Link
@@ -186,7 +186,7 @@ module _ {hostile : List ℕ} (r : Record) (acts : Acts) (lives : Lives) (sent :
           sends = refl;
         }
 
-    abbrev Shown : Option Link → List Message → Type 0
+    abbrev Shown : Option Link → List Said → Type 0
     Shown link more = IsAnswered hostile (links_of r.objects) (links_of (objects link)) acts lives more
 
     by_waiting : (after : Link) → IsSettled h.l after → Levels after → (ws : List Operation) → after.waiting ≡ ws → Shown (Some (next_at after ws).link) (next_at after ws).sent
@@ -249,7 +249,7 @@ module _ {hostile : List ℕ} (r : Record) (acts : Acts) (lives : Lives) (sent :
         (subst (λ i. IsSeen log h.l.inc h.l.act a.last i h.l.states h.l.s) w.1.reply seen)))
 
   abbrev pub Result_of : Took → Type 0
-  Result_of t = IsReplied hostile (links_of r.objects) (links_of t.rec.objects) acts lives (messages_of t.answer.actions) × IsPlain r t
+  Result_of t = IsReplied hostile (links_of r.objects) (links_of t.rec.objects) acts lives (sayings_of t.answer.actions) × IsPlain r t
 
   -- the next one that waits is sent, then whoever waits for the frame may be told of its grant, and then storages may be
   -- asked for
@@ -291,7 +291,7 @@ module _ {hostile : List ℕ} (r : Record) (acts : Acts) (lives : Lives) (sent :
   found_shows None t found e = cc
   found_shows (Some x) t found e = taken_shows x (reply_link n answer x.link) t found refl e
 
-  pub reply_answers : (t : Took) → on_message r inc (Reply inc act n answer) ≡ Ok t → IsReplied hostile (links_of r.objects) (links_of t.rec.objects) acts lives (messages_of t.answer.actions) × IsPlain r t
+  pub reply_answers : (t : Took) → on_message r inc (Reply inc act n answer) ≡ Ok t → IsReplied hostile (links_of r.objects) (links_of t.rec.objects) acts lives (sayings_of t.answer.actions) × IsPlain r t
   reply_answers t e = at (inc == inc) (is_alive r inc) e
     where
       at : (a b : Bool) → ◌≡◌ {A = Result Took ContainerFault} (if a then (if b then reply_found r inc act n answer (find (is_linked inc act) r.objects) else Err Stale) else Err WrongLink) (Ok t) → Result_of t
@@ -299,7 +299,7 @@ module _ {hostile : List ℕ} (r : Record) (acts : Acts) (lives : Lives) (sent :
       at true false g = cc
       at false b g = cc
 
-module _ {hostile : List ℕ} (r : Record) (acts : Acts) (lives : Lives) (sent : List Message) (owners : List ℕ) (last : ℕ) (counted : List Done) (served : List ServerDone) (inc act n : ℕ) (answer : Answer)
+module _ {hostile : List ℕ} (r : Record) (acts : Acts) (lives : Lives) (sent : List Said) (owners : List ℕ) (last : ℕ) (counted : List Done) (served : List ServerDone) (inc act n : ℕ) (answer : Answer)
     (s : Steady r) (f : Facts hostile (links_of r.objects) acts lives sent owners last counted served) (honest : IsHonest hostile inc) (told : Among sent (Reply inc act n answer)) where
   -- a content that is taken with a reply of an honest server is the answer to a close
   pub record IsClosing (log : List Sent) : Type 0 where

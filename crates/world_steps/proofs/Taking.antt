@@ -196,7 +196,7 @@ write_asks_made r inc act w content x l s found xl =
     }
 
 pub write_asks : (r : Record) (inc act s w : ℕ) (content : Stored) (t : Took) → Steady r → on_message r inc (Write inc act s w content) ≡ Ok t
-    → AsksAll (λ o op. IsQuiet op) (links_of r.objects) (links_of t.rec.objects) (messages_of t.answer.actions) × IsPlain r t
+    → AsksAll (λ o op. IsQuiet op) (links_of r.objects) (links_of t.rec.objects) (sayings_of t.answer.actions) × IsPlain r t
 write_asks r inc act s w content t steady e =
     let h = write_is r inc act s w content t e in
     subst (λ (v : Took). AsksAll (λ o op. IsQuiet op) (links_of r.objects) (links_of v.rec.objects) (messages_of v.answer.actions) × IsPlain r v) h.made (

@@ -5,7 +5,7 @@ use Rattle.std.proofs.lemmas.Bool.Decides.{eqb_tells}
 use Rattle.std.proofs.lemmas.List.{append_assoc, append-nil}
 use Rattle.std.specs.List.{AllByRecursion}
 use Rattle.wire_msgs.specs.Found.{find, put, nth}
-use Rattle.wire_msgs.specs.declared.message.Message.{Message}
+use Rattle.wire_msgs.specs.declared.message.Said.{Said}
 use Rattle.wire_msgs.specs.declared.operation.Operation.{Operation}
 use Rattle.wire_msgs.specs.declared.operation.Operation.TheVariants.{UiActivate}
 use Rattle.grant_core.specs.declared.grant_states.Claim.{Claim}
@@ -28,7 +28,7 @@ use Rattle.world_steps.specs.Steps.{AsksInTurn, asks_none, asks_first}
 use Rattle.world_steps.proofs.Objects.{Waits, found_number}
 use Rattle.world_steps.proofs.Asking.{none_asked, is_asked, unasked_as}
 
-waits_at : (Asks : Operation → Type 0) (before after : Option Link) (news : List Message) → AskedAt Asks before after news → ((l : Link) → before ≡ Some l → WaitsBehind l.pending l.waiting) → (m : Link) → after ≡ Some m
+waits_at : (Asks : Operation → Type 0) (before after : Option Link) (news : List Said) → AskedAt Asks before after news → ((l : Link) → before ≡ Some l → WaitsBehind l.pending l.waiting) → (m : Link) → after ≡ Some m
     → WaitsBehind m.pending m.waiting
 waits_at Asks before after news (none b a q) w m e = (let z : None ≡ Some m = sym a ∙ e in cc)
 waits_at Asks before after news (stays l k b a same ws q) w m e =
@@ -44,7 +44,7 @@ waits_at Asks before after news (sent l k op b a called lw kw asks q) w m e =
     let km : k ≡ m = cc in
     subst (λ (x : Link). WaitsBehind x.pending x.waiting) km (subst (λ y. WaitsBehind y k.waiting) (sym called.pending) tt)
 
-pub waits_asked : (Asks : ℕ → Operation → Type 0) (links after : Links) (more : List Message) → AsksAll Asks links after more → Waits links → Waits after
+pub waits_asked : (Asks : ℕ → Operation → Type 0) (links after : Links) (more : List Said) → AsksAll Asks links after more → Waits links → Waits after
 waits_asked Asks links after more h w o m e = waits_at (Asks o) (links o) (after o) (h.news o) (h.each o) (w o) m e
 
 pub waits_ended : {hostile : List ℕ} (links after : Links) (acts : Acts) (lives : Lives) → EndsSome hostile links after acts lives → Waits links → Waits after
@@ -54,22 +54,22 @@ waits_ended links after acts lives h w o l e = elim (h.each o) [
 ]
 
 -- operations that are asked at once are asked in turn
-pub one_turn : (links after : Links) (more : List Message) → AsksAll (λ o op. IsQuiet op) links after more → AsksInTurn links after more
+pub one_turn : (links after : Links) (more : List Said) → AsksAll (λ o op. IsQuiet op) links after more → AsksInTurn links after more
 one_turn links after more h = asks_first links after after more [] more h (asks_none after after [] (λ o. refl) refl) (sym (append-nil more))
 
-pub turns_wait : (links after : Links) (more : List Message) → AsksInTurn links after more → Waits links → Waits after
+pub turns_wait : (links after : Links) (more : List Said) → AsksInTurn links after more → Waits links → Waits after
 turns_wait _ _ _ (asks_none links after more same e) w = λ o l q. w o l (sym (same o) ∙ q)
 turns_wait _ _ _ (asks_first links between after first rest more h t e) w = turns_wait between after rest t (waits_asked (λ o op. IsQuiet op) links between first h w)
 
 -- the same links, told another way
-asks_from : (a b after : Links) (more : List Message) → ((o : ℕ) → b o ≡ a o) → AsksAll (λ o op. IsQuiet op) b after more → AsksAll (λ o op. IsQuiet op) a after more
+asks_from : (a b after : Links) (more : List Said) → ((o : ℕ) → b o ≡ a o) → AsksAll (λ o op. IsQuiet op) b after more → AsksAll (λ o op. IsQuiet op) a after more
 asks_from a b after more same h = record { news = h.news; each = λ o. subst (λ z. AskedAt IsQuiet z (after o) (h.news o)) (same o) (h.each o); from = h.from }
 
-pub turns_from : (a b after : Links) (more : List Message) → ((o : ℕ) → b o ≡ a o) → AsksInTurn b after more → AsksInTurn a after more
+pub turns_from : (a b after : Links) (more : List Said) → ((o : ℕ) → b o ≡ a o) → AsksInTurn b after more → AsksInTurn a after more
 turns_from a _ _ _ same (asks_none b after more g e) = asks_none a after more (λ o. g o ∙ same o) e
 turns_from a _ _ _ same (asks_first b between after first rest more h t e) = asks_first a between after first rest more (asks_from a b between first same h) t e
 
-pub turns_join : (links between after : Links) (first rest : List Message) → AsksInTurn links between first → AsksInTurn between after rest → AsksInTurn links after (first ++ rest)
+pub turns_join : (links between after : Links) (first rest : List Said) → AsksInTurn links between first → AsksInTurn between after rest → AsksInTurn links after (first ++ rest)
 turns_join _ _ after _ rest (asks_none a b more g e) t = subst (λ ms. AsksInTurn a after (ms ++ rest)) (sym e) (turns_from a b after rest g t)
 turns_join _ _ after _ rest (asks_first a m b first later more h u e) t =
     asks_first a m after first (later ++ rest) (more ++ rest) h (turns_join m b after later rest u t) (ap (λ v. v ++ rest) e ∙ append_assoc first later rest)
