@@ -9,7 +9,7 @@ use Rattle.server_model.specs.declared.counted.Counted.{Counted}
 use Rattle.container_model.specs.declared.answer.Done.{Done}
 use Rattle.world_model.specs.declared.logs.ServerDone.{ServerDone}
 use Rattle.world_model.specs.declared.logs.Sent.{Sent}
-use Rattle.world_model.specs.World.{view_of}
+use Rattle.world_model.specs.World.{view_of, in_session}
 use Rattle.world_model.specs.Safe.{Among}
 use Rattle.world_facts.specs.Words.{Links, Acts, Lives}
 use Rattle.world_facts.specs.Facts.{Facts}
@@ -73,7 +73,7 @@ abbrev pub ActingKeepsViews : Type 0
 ActingKeepsViews = (hostile : List ℕ) (links : Links) (acts after : Acts) (lives : Lives) (sent : List Said) (owners : List ℕ) (last : ℕ) (counted : List Done) (served : List ServerDone)
     (inc act n : ℕ) (op : Operation) (a : Activation) (r : Answer) (told : Option Counted)
     → Facts hostile links acts lives sent owners last counted served → IsReady links → Among sent (Call inc act n op) → IsChanged acts after inc act a → ActsOn acts inc act n op a r told
-    → (log : List Sent) → Views hostile links acts log → Views hostile links after (log ++ record { message = Reply inc act n r; view = option_map view_of (acts inc act) } ∷ [])
+    → (log : List Sent) → Views hostile links acts log → (session : ℕ) → Views hostile links after (log ++ record { message = in_session session (Reply inc act n r); view = option_map view_of (acts inc act) } ∷ [])
 
 -- What holds of honest servers holds where one of them is hostile from now on.
 abbrev pub TurningHostileKeeps : Type 0
