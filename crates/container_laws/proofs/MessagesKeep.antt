@@ -23,7 +23,7 @@ use Rattle.container_model.specs.HandOffs.{hand_off_in, is_answered, unasked}
 use Rattle.container_model.specs.Record.{Record, Took, is_alive, is_linked, is_object}
 use Rattle.container_model.specs.Messages.{Replied, ask_found, ask_framed, is_held_by, on_ask, on_message, on_reply, relieved, replied_grant, replied_object, replied_record, reply_found, reply_link, reply_taken, written_object}
 use Rattle.container_model.proofs.SaidOn.{is_said_on, said_on}
-use Rattle.container_laws.specs.Laws.{StaysOrIsAsked, StaysOrIsGranted, is_about}
+use Rattle.container_laws.specs.Laws.{StaysOrIsAsked, StaysOrIsGranted, is_about, MessagesKeepOthers}
 use Rattle.container_steady.specs.Roles.{IsClaim}
 use Rattle.container_steady.specs.Steady.{EachPair, InOrder, Steady, SteadyObject}
 use Rattle.container_laws.proofs.KeepLaws.{IsTold, as_before, of_grant, all_among, grants_tell, order_put, put_keeps, request_keeps}
