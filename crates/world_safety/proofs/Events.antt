@@ -31,7 +31,7 @@ use Rattle.world_model.specs.declared.event.Event.{Event}
 use Rattle.world_model.specs.declared.event.Event.TheVariants as event
 use Rattle.world_model.specs.declared.event.Stop.{Stop}
 use Rattle.world_model.specs.World.{World, Instance, messages_of, of_container, started_by, ended_by, joined, took, commanded, owners_by, delivered, taken_at, with_taken, server_of, deliver, forged_on, forged, forge, crashed, crash, ended, reap, kept_commit, done_taken, done_imaged, done_in, only_taken, resolved, happened, Choice}
-use Rattle.world_model.specs.Safe.{Among, IsHonest, is_hostile, links_of, acts_of, messages}
+use Rattle.world_model.specs.Safe.{Among, IsHonest, is_hostile, links_of, acts_of, sayings}
 use Rattle.world_facts.specs.Words.{life_at, lives_of}
 use Rattle.world_facts.specs.Shapes.{IsTold}
 use Rattle.world_facts.proofs.Lookups.{among_map}
@@ -67,7 +67,7 @@ ok_is x y e = cc
 
 -- commands
 plain_owners : (w : World) (t : Took) → AgreesIn (joined w t) → AgreesIn (record (joined w t) { owners = w.owners ++ [] })
-plain_owners w t h = subst (λ o. Agrees w.hostile t.rec (ended_by t.answer.actions w.instances ++ started_by t.rec.numbers t.answer.actions) (w.sent ++ map of_container (messages_of t.answer.actions)) o w.container_done w.server_done) (sym (append-nil w.owners)) h
+plain_owners w t h = subst (λ o. Agrees w.hostile t.rec (ended_by t.answer.actions w.instances ++ started_by t.rec.session t.rec.numbers t.answer.actions) (w.sent ++ map of_container (messages_of t.answer.actions)) o w.container_done w.server_done) (sym (append-nil w.owners)) h
 
 -- by the shapes that it is
 agrees_shaped : (w : World) (ns : List ℕ) (t : Took) → AgreesIn w → Steady t.rec → MovesBy w.rec t.rec [] → IsCommanded w.rec (lives_of w.instances) w.owners t ns → AgreesIn (record (joined w t) { owners = w.owners ++ ns })
@@ -90,11 +90,11 @@ agrees_commanded w c (Err fault) h e = h
 agrees_commanded w c (Ok t) h e = agrees_command w c t h e
 
 -- deliveries
-pub among_place : (sent : List Sent) (p : ℕ) (x : Sent) → nth sent p ≡ Some x → Among (messages sent) x.message
+pub among_place : (sent : List Sent) (p : ℕ) (x : Sent) → nth sent p ≡ Some x → Among (sayings sent) x.message
 among_place sent zero x e = cc
 among_place sent (suc i) x e = at sent i e
   where
-    at : (xs : List Sent) (i : ℕ) → slice_get xs i ≡ Some x → Among (messages xs) x.message
+    at : (xs : List Sent) (i : ℕ) → slice_get xs i ≡ Some x → Among (sayings xs) x.message
     at [] i e = cc
     at (y ∷ ys) zero e = (let q : y ≡ x = cc in inl (ap (λ (z : Sent). z.message) (sym q)))
     at (y ∷ ys) (suc i) e = inr (at ys i e)
@@ -104,28 +104,28 @@ agrees_took w (Err fault) h g = h
 agrees_took w (Ok t) h g = g t refl
 
 -- the message that is taken was sent, or it is of a hostile server
-sent_one : (w : World) (m : Message) → (IsHonest w.hostile (server_of m) → Among (messages w.sent) m) → AreSent w.hostile (messages w.sent) (m ∷ [])
-sent_one w m g x (inl e) honest = subst (Among (messages w.sent)) (sym e) (g (subst (λ v. IsHonest w.hostile (server_of v)) e honest))
+sent_one : (w : World) (m : Message) → (IsHonest w.hostile (server_of m) → Among (sayings w.sent) m) → AreSent w.hostile (sayings w.sent) (m ∷ [])
+sent_one w m g x (inl e) honest = subst (Among (sayings w.sent)) (sym e) (g (subst (λ v. IsHonest w.hostile (server_of v)) e honest))
 sent_one w m g x (inr z) honest = absurd z
 
-agrees_replied : (w : World) (inc act n : ℕ) (answer : _) (t : Took) → AgreesIn w → (IsHonest w.hostile inc → Among (messages w.sent) (Reply inc act n answer)) → on_message w.rec inc (Reply inc act n answer) ≡ Ok t → AgreesIn (joined w t)
+agrees_replied : (w : World) (inc act n : ℕ) (answer : _) (t : Took) → AgreesIn w → (IsHonest w.hostile inc → Among (sayings w.sent) (Reply inc act n answer)) → on_message w.rec inc (Reply inc act n answer) ≡ Ok t → AgreesIn (joined w t)
 agrees_replied w inc act n answer t h g e =
     let m = Reply inc act n answer in
     answered_joined w t (m ∷ []) h (on_message_keeps w.rec inc m t h.steady e) (message_moves w.rec inc m t h.steady e) (sent_one w m g)
-    (reply_answers w.rec (acts_of w.instances) (lives_of w.instances) (messages w.sent) w.owners w.rec.last_act w.container_done w.server_done inc act n answer h.steady h.facts g t e)
+    (reply_answers w.rec (acts_of w.instances) (lives_of w.instances) (sayings w.sent) w.owners w.rec.last_act w.container_done w.server_done inc act n answer h.steady h.facts g t e)
 
 -- a message that asks, or nothing
-agrees_asked : (w : World) (inc : ℕ) (m : Message) (t : Took) → AgreesIn w → (IsHonest w.hostile (server_of m) → Among (messages w.sent) m) → on_message w.rec inc m ≡ Ok t → IsTurned w.rec t → AgreesIn (joined w t)
+agrees_asked : (w : World) (inc : ℕ) (m : Message) (t : Took) → AgreesIn w → (IsHonest w.hostile (server_of m) → Among (sayings w.sent) m) → on_message w.rec inc m ≡ Ok t → IsTurned w.rec t → AgreesIn (joined w t)
 agrees_asked w inc m t h g e turned = turned_joined w t (m ∷ []) h (on_message_keeps w.rec inc m t h.steady e) (message_moves w.rec inc m t h.steady e) (sent_one w m g) turned
 
 -- a message on the link of its own server
-agrees_own : (w : World) (m : Message) (t : Took) → AgreesIn w → (IsHonest w.hostile (server_of m) → Among (messages w.sent) m) → on_message w.rec (server_of m) m ≡ Ok t → AgreesIn (joined w t)
+agrees_own : (w : World) (m : Message) (t : Took) → AgreesIn w → (IsHonest w.hostile (server_of m) → Among (sayings w.sent) m) → on_message w.rec (server_of m) m ≡ Ok t → AgreesIn (joined w t)
 agrees_own w (Call inc act n op) t h g e = cc
 agrees_own w (Reply inc act n answer) t h g e = agrees_replied w inc act n answer t h g e
 agrees_own w (Write inc act s n content) t h g e = agrees_asked w inc (Write inc act s n content) t h g e (asks_turned w.rec t (write_asks w.rec inc act s n content t h.steady e))
 agrees_own w (Ask inc act j) t h g e = agrees_asked w inc (Ask inc act j) t h g e (asks_turned w.rec t (ask_asks w.rec inc act j t h.steady e))
 
-agrees_delivered : (w : World) (m : Message) (v : World) → AgreesIn w → Among (messages w.sent) m → delivered w m ≡ Ok v → AgreesIn v
+agrees_delivered : (w : World) (m : Message) (v : World) → AgreesIn w → Among (sayings w.sent) m → delivered w m ≡ Ok v → AgreesIn v
 agrees_delivered w (Call inc act n op) v h g e = agrees_called w h inc act n op g (nth w.instances inc) v refl e
 agrees_delivered w (Reply inc act n answer) v h g e = subst AgreesIn (ok_is _ v e) (agrees_took w (on_message w.rec inc (Reply inc act n answer)) h (λ t q. agrees_own w (Reply inc act n answer) t h (λ honest. g) q))
 agrees_delivered w (Write inc act s n content) v h g e = subst AgreesIn (ok_is _ v e) (agrees_took w (on_message w.rec inc (Write inc act s n content)) h (λ t q. agrees_own w (Write inc act s n content) t h (λ honest. g) q))
@@ -139,13 +139,13 @@ pub agrees_turned : (w : World) (inc : ℕ) → AgreesIn w → AgreesIn (turned 
 agrees_turned w inc h = record {
   steady = h.steady;
   servers = h.servers;
-  facts = turned_facts w.hostile inc (links_of w.rec.objects) (acts_of w.instances) (lives_of w.instances) (messages w.sent) w.owners w.rec.last_act w.container_done w.server_done h.facts;
+  facts = turned_facts w.hostile inc (links_of w.rec.objects) (acts_of w.instances) (lives_of w.instances) (sayings w.sent) w.owners w.rec.last_act w.container_done w.server_done h.facts;
   views = turned_views w.hostile inc (links_of w.rec.objects) (acts_of w.instances) w.sent h.views;
-  grants = fewer_grants w.hostile (w.hostile ++ inc ∷ []) (links_of w.rec.objects) (roles_of w.rec) (acts_of w.instances) (messages w.sent) (honest_before w.hostile inc) h.grants;
+  grants = fewer_grants w.hostile (w.hostile ++ inc ∷ []) (links_of w.rec.objects) (roles_of w.rec) (acts_of w.instances) (sayings w.sent) (honest_before w.hostile inc) h.grants;
 }
 
 -- so no message of it has to be one that was sent
-pub none_honest : (w : World) (inc i : ℕ) (m : Message) → i ≡ inc → IsHonest (w.hostile ++ inc ∷ []) i → Among (messages w.sent) m
+pub none_honest : (w : World) (inc i : ℕ) (m : Message) → i ≡ inc → IsHonest (w.hostile ++ inc ∷ []) i → Among (sayings w.sent) m
 none_honest w inc i m e honest = absurd (let z : true ≡ false = sym (just_hostile w.hostile inc) ∙ (ap (is_hostile (w.hostile ++ inc ∷ [])) (sym e) ∙ honest) in cc)
 
 -- a forged message
@@ -221,18 +221,18 @@ module _ (w : World) (k : Files w) (h : AgreesIn w) (f : ℕ) (frame : Frame) (a
       absurd (omega arith)
 
   -- what is told of the commit is pending then
-  pub commit_pending : ArePending (links_of made.rec.objects) (messages_of made.answer.actions)
-  commit_pending = asks_pending (IsTold (links_of w.rec.objects) frame.k fresh) (links_of w.rec.objects) (links_of made.rec.objects) (messages_of made.answer.actions)
+  pub commit_pending : ArePending (links_of made.rec.objects) (sayings_of made.answer.actions)
+  commit_pending = asks_pending (IsTold (links_of w.rec.objects) frame.k fresh) (links_of w.rec.objects) (links_of made.rec.objects) (sayings_of made.answer.actions)
       (commit_counts w.rec f frame h.steady at unsettled w.container_done apart).tells
 
   pub commit_agrees : Steady (commit_made w.rec f frame).rec
       → Agrees w.hostile (commit_made w.rec f frame).rec (ended_by (commit_made w.rec f frame).answer.actions w.instances ++ started_by (commit_made w.rec f frame).rec.numbers (commit_made w.rec f frame).answer.actions)
       (w.sent ++ map of_container (messages_of (commit_made w.rec f frame).answer.actions)) w.owners (w.container_done ++ map (done_entry frame.k) (parts_in f w.rec.objects)) w.server_done
   commit_agrees steady = (let counts = commit_counts w.rec f frame h.steady at unsettled w.container_done apart in plain_joined w made (w.container_done ++ fresh) h steady (commit_plain w.rec f frame h.steady at unsettled)
-      (all_counted (links_of w.rec.objects) (links_of made.rec.objects) (acts_of w.instances) (lives_of w.instances) (messages w.sent) (messages_of made.answer.actions) w.owners w.rec.last_act w.container_done fresh w.server_done frame.k
+      (all_counted (links_of w.rec.objects) (links_of made.rec.objects) (acts_of w.instances) (lives_of w.instances) (sayings w.sent) (sayings_of made.answer.actions) w.owners w.rec.last_act w.container_done fresh w.server_done frame.k
       counts h.facts)
       (asked_views (IsTold (links_of w.rec.objects) frame.k fresh) w made h counts.tells)
-      (joined_grants w made [] h (committed_moves w.rec f frame h.steady at) (λ x z honest. absurd z) (asks_followed (IsTold (links_of w.rec.objects) frame.k fresh) (links_of w.rec.objects) (links_of made.rec.objects) (messages_of made.answer.actions) counts.tells)))
+      (joined_grants w made [] h (committed_moves w.rec f frame h.steady at) (λ x z honest. absurd z) (asks_followed (IsTold (links_of w.rec.objects) frame.k fresh) (links_of w.rec.objects) (links_of made.rec.objects) (sayings_of made.answer.actions) counts.tells)))
 
 -- a step that keeps a record steady
 abbrev Keeps : Result Took ContainerFault → Type 0

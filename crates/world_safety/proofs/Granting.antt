@@ -35,7 +35,7 @@ use Rattle.world_model.specs.declared.life.Life.TheVariants.{Running, Ended, Rea
 use Rattle.world_model.specs.declared.logs.Sent.{Sent}
 use Rattle.world_model.specs.declared.logs.Taken.{Taken}
 use Rattle.world_model.specs.World.{World, Instance, messages_of, of_container, took, commanded, view_in, served, is_of, stocked, called_wanting, called_in, called, delivered, taken_link, taken_of, taken_by, taken_at, with_taken, server_of, deliver, forged_on, forged, forge, spoken_by, spoken, scribble, ask, crashed, crash, ended, reap, done_taken, done_imaged, done_in, only_taken, resolved, happened, Choice}
-use Rattle.world_model.specs.Safe.{Among, WasSent, link_at, links_of, acts_of, messages, Brings, IsGranted, IsHonest, is_hostile}
+use Rattle.world_model.specs.Safe.{Among, WasSent, link_at, links_of, acts_of, sayings, Brings, IsGranted, IsHonest, is_hostile}
 use Rattle.world_facts.specs.Words.{lives_of}
 use Rattle.world_facts.specs.Views.{IsSentOpen}
 use Rattle.world_facts.proofs.Honest.{honest_before, just_hostile}
@@ -158,7 +158,7 @@ grew_resolved w f false bytes v e = grew_only w (resolve w.rec f false) v e
 
 -- what was granted stays so
 sent_more : (w v : World) (more : List Sent) (m : Message) → v.sent ≡ w.sent ++ more → WasSent w m → WasSent v m
-sent_more w v more m e g = subst (λ xs. Among xs m) (sym (ap messages e ∙ messages_of_log w.sent more)) (among_old (messages w.sent) (messages more) m g)
+sent_more w v more m e g = subst (λ xs. Among xs m) (sym (ap messages e ∙ messages_of_log w.sent more)) (among_old (sayings w.sent) (messages more) m g)
 
 brings_more : (w v : World) (more : List Sent) (m : Message) (t : Taken) → v.sent ≡ w.sent ++ more → Brings w m t → Brings v m t
 brings_more w v more (Call inc act n op) t e b = absurd b
@@ -174,7 +174,7 @@ granted_more w v more t e g = (let s = g.sent in record {
   message = g.message;
   place = g.place;
   placed = g.placed;
-  delivered = ap (λ xs. nth (messages xs) g.place) e ∙ (ap (λ xs. nth xs g.place) (messages_of_log w.sent more) ∙ nth_old (messages w.sent) (messages more) g.place g.message g.delivered);
+  delivered = ap (λ xs. nth (sayings xs) g.place) e ∙ (ap (λ xs. nth xs g.place) (sayings_of_log w.sent more) ∙ nth_old (sayings w.sent) (sayings more) g.place g.message g.delivered);
   brings = brings_more w v more g.message t e g.brings;
   sent = (s.0, subst (λ xs. Among xs (record { message = g.message; view = Some s.0 })) (sym e) (among_old w.sent more _ s.1), s.2, s.3, s.4);
   held_open = g.held_open;
@@ -182,16 +182,16 @@ granted_more w v more t e g = (let s = g.sent in record {
 })
 
 -- the message at a place
-nth_message : (xs : List Sent) (p : ℕ) (x : Sent) → nth xs p ≡ Some x → (nth (messages xs) p ≡ Some x.message) × Among xs x
+nth_message : (xs : List Sent) (p : ℕ) (x : Sent) → nth xs p ≡ Some x → (nth (sayings xs) p ≡ Some x.message) × Among xs x
 nth_message xs zero x e = cc
 nth_message xs (suc i) x e = at xs i e
   where
-    at : (ys : List Sent) (i : ℕ) → slice_get ys i ≡ Some x → (slice_get (messages ys) i ≡ Some x.message) × Among ys x
+    at : (ys : List Sent) (i : ℕ) → slice_get ys i ≡ Some x → (slice_get (sayings ys) i ≡ Some x.message) × Among ys x
     at [] i e = cc
     at (y ∷ ys) zero e = (let q : y ≡ x = cc in (ap (λ (z : Sent). Some z.message) q, inl (sym q)))
     at (y ∷ ys) (suc i) e = (let r = at ys i e in (r.0, inr r.1))
 
-message_among : (xs : List Sent) (x : Sent) → Among xs x → Among (messages xs) x.message
+message_among : (xs : List Sent) (x : Sent) → Among xs x → Among (sayings xs) x.message
 message_among xs x h = among_map (λ (y : Sent). y.message) xs x h
 
 -- the entry of what is taken
@@ -251,7 +251,7 @@ taken_inc r p inc act t (Some o) f g = at_link o.link refl g
     at_link (Some l) q (inr z) = absurd z
 
 module _ (w : World) (h : AgreesIn w) (p : ℕ) (x : Sent) (at : nth w.sent p ≡ Some x) where
-  message_at : (m : Message) → x.message ≡ m → nth (messages w.sent) p ≡ Some m
+  message_at : (m : Message) → x.message ≡ m → nth (sayings w.sent) p ≡ Some m
   message_at m e = (nth_message w.sent p x at).0 ∙ ap Some e
 
   write_granted : (inc act s n : ℕ) (content : Stored) (t : Taken) → x.message ≡ Write inc act s n content → Among (taken_by w.rec (Some p) inc act (on_message w.rec inc (Write inc act s n content))) t → IsGranted w t
@@ -277,22 +277,22 @@ module _ (w : World) (h : AgreesIn w) (p : ℕ) (x : Sent) (at : nth w.sent p �
       })
 
   -- and the close was sent that was answered
-  close_called : (inc act n : ℕ) (answer : Answer) (honest : IsHonest w.hostile inc) (there : Among (messages w.sent) (Reply inc act n answer))
-      → IsClosing w.rec (acts_of w.instances) (lives_of w.instances) (messages w.sent) w.owners w.rec.last_act w.container_done w.server_done inc act n answer h.steady h.facts honest there w.sent → WasSent w (Call inc act n (Close SaveIfDirty))
+  close_called : (inc act n : ℕ) (answer : Answer) (honest : IsHonest w.hostile inc) (there : Among (sayings w.sent) (Reply inc act n answer))
+      → IsClosing w.rec (acts_of w.instances) (lives_of w.instances) (sayings w.sent) w.owners w.rec.last_act w.container_done w.server_done inc act n answer h.steady h.facts honest there w.sent → WasSent w (Call inc act n (Close SaveIfDirty))
   close_called inc act n answer honest there c =
       let l = c.link in
       let at_l : links_of w.rec.objects c.object.number ≡ Some l = ap link_at (found_by_number (is_linked inc act) w.rec.objects c.object h.steady.order c.found) ∙ c.linked in
-      let replied : Among (messages w.sent) (Reply l.inc l.act l.last answer) = subst (λ i. Among (messages w.sent) (Reply i l.act l.last answer)) (sym c.inc_is)
-      (subst (λ a. Among (messages w.sent) (Reply inc a l.last answer)) (sym c.act_is) (subst (λ k. Among (messages w.sent) (Reply inc act k answer)) c.number there)) in
+      let replied : Among (sayings w.sent) (Reply l.inc l.act l.last answer) = subst (λ i. Among (sayings w.sent) (Reply i l.act l.last answer)) (sym c.inc_is)
+      (subst (λ a. Among (sayings w.sent) (Reply inc a l.last answer)) (sym c.act_is) (subst (λ k. Among (sayings w.sent) (Reply inc act k answer)) c.number there)) in
       subst (λ i. WasSent w (Call i act n (Close SaveIfDirty))) c.inc_is (subst (λ a. WasSent w (Call l.inc a n (Close SaveIfDirty))) c.act_is (subst (λ k. WasSent w (Call l.inc l.act k (Close SaveIfDirty))) (sym c.number)
-      (pending_called (links_of w.rec.objects) (acts_of w.instances) (lives_of w.instances) (messages w.sent) w.owners w.rec.last_act w.container_done w.server_done h.facts c.object.number l (Close SaveIfDirty) (roles_of w.rec) answer h.grants at_l c.pending replied)))
+      (pending_called (links_of w.rec.objects) (acts_of w.instances) (lives_of w.instances) (sayings w.sent) w.owners w.rec.last_act w.container_done w.server_done h.facts c.object.number l (Close SaveIfDirty) (roles_of w.rec) answer h.grants at_l c.pending replied)))
 
   close_granted : (inc act n : ℕ) (answer : Answer) (t : Taken) → x.message ≡ Reply inc act n answer → Among (taken_by w.rec (Some p) inc act (on_message w.rec inc (Reply inc act n answer))) t → IsHonest w.hostile t.inc → IsGranted w t
   close_granted inc act n answer t e g honest_taken =
       let k = took_some w.rec (Some p) inc act (on_message w.rec inc (Reply inc act n answer)) t g in
-      let there : Among (messages w.sent) (Reply inc act n answer) = subst (Among (messages w.sent)) e (message_among w.sent x (nth_message w.sent p x at).1) in
+      let there : Among (sayings w.sent) (Reply inc act n answer) = subst (Among (sayings w.sent)) e (message_among w.sent x (nth_message w.sent p x at).1) in
       let honest : IsHonest w.hostile inc = subst (IsHonest w.hostile) (taken_inc w.rec (Some p) inc act t (find (is_linked inc act) w.rec.objects) refl k.3) honest_taken in
-      let c = reply_closes w.rec (acts_of w.instances) (lives_of w.instances) (messages w.sent) w.owners w.rec.last_act w.container_done w.server_done inc act n answer h.steady h.facts honest there w.sent k.0 k.1 k.2 h.views in
+      let c = reply_closes w.rec (acts_of w.instances) (lives_of w.instances) (sayings w.sent) w.owners w.rec.last_act w.container_done w.server_done inc act n answer h.steady h.facts honest there w.sent k.0 k.1 k.2 h.views in
       let m : Message = Reply inc act n (Content c.content) in
       let same : Reply inc act n answer ≡ m = ap (Reply inc act n) c.brings in
       let normal = normal_of c.link.states.persist.state c.held.storage in

@@ -15,7 +15,7 @@ use Rattle.container_steady.specs.Roles.{Holding, IsClaim, role_in}
 use Rattle.container_steady.proofs.SteadyRecords.{if_at}
 use Rattle.world_model.specs.declared.life.Life.TheVariants.{Running}
 use Rattle.world_model.specs.World.{World, nth_or_zero, owner}
-use Rattle.world_model.specs.Safe.{link_at, links_of, act_at, acts_of, messages, IsHonest, HoldsFrame, IsHolder, WasAnswered}
+use Rattle.world_model.specs.Safe.{link_at, links_of, act_at, acts_of, sayings, IsHonest, HoldsFrame, IsHolder, WasAnswered}
 use Rattle.world_facts.specs.Words.{life_at, lives_of, IsLinked, IsOpen}
 use Rattle.world_grants.specs.Grants.{Names, WasTold, roles_of}
 use Rattle.world_grants.proofs.Moving.{IsIn, in_frame}
@@ -125,7 +125,7 @@ module _ (w : World) (h : AgreesIn w) where
   answered inc act g f honest n holder tools e =
       let hc : holder ≡ n.claim = (let z : Some holder ≡ Some n.claim = ap who (sym e) ∙ n.named in cc) in
       let role : roles_of w.rec n.number ≡ Holding g tools = n.role ∙ (ap (λ s. role_in s n.number) (e ∙ ap (λ c. Held c tools) hc) ∙ (ap (role_in (Held n.claim tools)) (sym n.object_is) ∙ (is_holding n.claim tools ∙ ap (λ x. Holding x tools) n.g_is))) in
-      let t : WasTold (messages w.sent) inc act g tools = subst (λ i. WasTold (messages w.sent) i act g tools) n.inc_is (subst (λ a. WasTold (messages w.sent) n.link.inc a g tools) n.act_is (h.grants.held_told n.number g tools n.link n.linked (subst (IsHonest w.hostile) (sym n.inc_is) honest) role)) in
+      let t : WasTold (sayings w.sent) inc act g tools = subst (λ i. WasTold (sayings w.sent) i act g tools) n.inc_is (subst (λ a. WasTold (sayings w.sent) n.link.inc a g tools) n.act_is (h.grants.held_told n.number g tools n.link n.linked (subst (IsHonest w.hostile) (sym n.inc_is) honest) role)) in
       record { n = t.n; called = t.called; replied = t.replied }
 
   pub holder : (f inc act g : ℕ) → IsHonest w.hostile inc → HoldsFrame w inc act g f → IsHolder w inc act g f

@@ -36,7 +36,7 @@ use Rattle.world_model.specs.declared.life.Life.TheVariants.{Running, Ended, Rea
 use Rattle.world_model.specs.declared.logs.Sent.{Sent}
 use Rattle.world_model.specs.declared.logs.Taken.{Taken}
 use Rattle.world_model.specs.World.{World, Instance, called, called_in, called_wanting, commanded, crash, crashed, deliver, delivered, done_imaged, done_in, done_taken, empty_world, ended, forge, forged, forged_on, happened, is_of, joined, kept_commit, messages_of, only_taken, reap, resolved, served, server_of, spoken, spoken_by, scribble, ask, started_by, stocked, taken_at, took, view_in, with_taken, Choice}
-use Rattle.world_model.specs.Safe.{Among, IsHonest, IsWithin, WasSent, acts_of, links_of, messages}
+use Rattle.world_model.specs.Safe.{Among, IsHonest, IsWithin, WasSent, acts_of, links_of, sayings}
 use Rattle.world_facts.specs.Words.{called as was_called, life_at, lives_of}
 use Rattle.world_facts.proofs.Lookups.{among_map, find_among}
 use Rattle.world_files.specs.Files.{Files, id_of}
@@ -65,12 +65,12 @@ ok_is : (x y : World) → ◌≡◌ {A = Result World Stop} (Ok x) (Ok y) → x 
 ok_is x y e = cc
 
 -- ---- the container's steps
-plain_taken : (limit : ℕ) (t : Took) → IsNumbered limit t.rec → ArePending (links_of t.rec.objects) (messages_of t.answer.actions) → ((numbers : ℕ) → started_by numbers t.answer.actions ≡ []) → IsTaken limit t
+plain_taken : (limit : ℕ) (t : Took) → IsNumbered limit t.rec → ArePending (links_of t.rec.objects) (sayings_of t.answer.actions) → ((session numbers : ℕ) → started_by session numbers t.answer.actions ≡ []) → IsTaken limit t
 plain_taken limit t r p none = record { recorded = r; pending = p; starts = subst (AllByRecursion (RunsWithin limit)) (sym (none t.rec.numbers)) tt }
 
 module _ (limit : ℕ) (w : World) (h : AgreesIn w) (k : Numbers limit w) where
   turned_taken : (t : Took) → IsNumbered limit t.rec → IsTurned w.rec t → IsTaken limit t
-  turned_taken t r m = plain_taken limit t r (turned_pending (links_of w.rec.objects) (links_of t.rec.objects) (messages_of t.answer.actions) m.0) m.1.starts
+  turned_taken t r m = plain_taken limit t r (turned_pending (links_of w.rec.objects) (links_of t.rec.objects) (sayings_of t.answer.actions) m.0) m.1.starts
 
   start_taken : (t : Took) → IsNumbered limit t.rec → start_made w.rec ≡ t → IsTaken limit t
   start_taken t r is =
@@ -84,7 +84,7 @@ module _ (limit : ℕ) (w : World) (h : AgreesIn w) (k : Numbers limit w) where
   shaped_taken _ t r (command_asks turned) = turned_taken t r turned
   shaped_taken _ t r (command_starts made) = start_taken t r made
   shaped_taken _ t r (command_begins o b) = plain_taken limit t r
-      (begins_pending (links_of w.rec.objects) (links_of t.rec.objects) (lives_of w.instances) (w.owners ++ o ∷ []) w.rec.last_act o (messages_of t.answer.actions) b.begins) b.starts
+      (begins_pending (links_of w.rec.objects) (links_of t.rec.objects) (lives_of w.instances) (w.owners ++ o ∷ []) w.rec.last_act o (sayings_of t.answer.actions) b.begins) b.starts
   shaped_taken _ t r (command_ends inc made) = subst (IsTaken limit) made (record { recorded = k.recorded; pending = none_pending (links_of w.rec.objects) [] refl; starts = tt })
 
   command_taken : (c : Command) (t : Took) → on_command w.rec c ≡ Ok t → IsTaken limit t
@@ -97,8 +97,8 @@ module _ (limit : ℕ) (w : World) (h : AgreesIn w) (k : Numbers limit w) where
   reply_taken inc act n answer t g e =
       let acts = acts_of w.instances in
       let lives = lives_of w.instances in
-      let m = reply_answers w.rec acts lives (messages w.sent) w.owners w.rec.last_act w.container_done w.server_done inc act n answer h.steady h.facts g t e in
-      plain_taken limit t (message_numbered inc (Reply inc act n answer) t e) (replied_pending w.hostile (links_of w.rec.objects) (links_of t.rec.objects) acts lives (messages_of t.answer.actions) m.0) m.1.starts
+      let m = reply_answers w.rec acts lives (sayings w.sent) w.owners w.rec.last_act w.container_done w.server_done inc act n answer h.steady h.facts g t e in
+      plain_taken limit t (message_numbered inc (Reply inc act n answer) t e) (replied_pending w.hostile (links_of w.rec.objects) (links_of t.rec.objects) acts lives (sayings_of t.answer.actions) m.0) m.1.starts
 
   write_taken : (inc act s n : ℕ) (content : _) (t : Took) → on_message w.rec inc (Write inc act s n content) ≡ Ok t → IsTaken limit t
   write_taken inc act s n content t e = turned_taken t (message_numbered inc (Write inc act s n content) t e) (asks_turned w.rec t (write_asks w.rec inc act s n content t h.steady e))
@@ -116,7 +116,7 @@ module _ (limit : ℕ) (w : World) (h : AgreesIn w) (k : Numbers limit w) where
   reap_taken : (is : List Instance) (inc : ℕ) (t : Took) → (lives_of is inc ≡ Some Running → ⊥) → on_reap w.rec inc ≡ Ok t → IsTaken limit t
   reap_taken is inc t over e =
       let m = reap_ends w.hostile w.rec (acts_of is) (lives_of is) inc h.steady over t e in
-      plain_taken limit t (numbers_after limit w.rec (Input.Reaped inc) t h.steady k.recorded e) (reaped_pending w.hostile (links_of w.rec.objects) (links_of t.rec.objects) (acts_of is) (lives_of is) (messages_of t.answer.actions) m.0) m.1.starts
+      plain_taken limit t (numbers_after limit w.rec (Input.Reaped inc) t h.steady k.recorded e) (reaped_pending w.hostile (links_of w.rec.objects) (links_of t.rec.objects) (acts_of is) (lives_of is) (sayings_of t.answer.actions) m.0) m.1.starts
 
   commit_taken : (f : ℕ) (frame : Frame) (told : Result Took ContainerFault) (t : Took) → Files w → nth w.rec.frames f ≡ Some frame → IsCommitOf w.rec f frame told → IsNumbered limit t.rec → told ≡ Ok t → IsTaken limit t
   commit_taken f frame told t files at commits numbered e =
@@ -137,7 +137,7 @@ module _ (limit : ℕ) (w : World) (h : AgreesIn w) (k : Numbers limit w) where
 stays : (limit : ℕ) (w v : World) → v.rec ≡ w.rec → v.sent ≡ w.sent → v.instances ≡ w.instances → Numbers limit w → Numbers limit v
 stays limit w v r s i k = record {
   recorded = subst (IsNumbered limit) (sym r) k.recorded;
-  sent = λ m g. k.sent m (subst (λ xs. Among (messages xs) m) s g);
+  sent = λ m g. k.sent m (subst (λ xs. Among (sayings xs) m) s g);
   servers = subst (AllByRecursion (RunsWithin limit)) (sym i) k.servers;
 }
 

@@ -11,7 +11,7 @@ use Rattle.world_model.specs.declared.life.Life.{Life}
 use Rattle.world_model.specs.declared.life.Life.TheVariants.{Running, Ended, Reaped}
 use Rattle.world_model.specs.declared.logs.Sent.{Sent}
 use Rattle.world_model.specs.World.{World, Instance, view_in, spoken_by, spoken, scribble, ask}
-use Rattle.world_model.specs.Safe.{Among, links_of, act_at, acts_of, messages}
+use Rattle.world_model.specs.Safe.{Among, links_of, act_at, acts_of, sayings}
 use Rattle.world_facts.specs.Words.{life_at, lives_of}
 use Rattle.world_facts.specs.Facts.{Facts}
 use Rattle.world_facts.specs.Shapes.{Alike, Tells, IsOwn}
@@ -56,14 +56,14 @@ module _ (w : World) (h : AgreesIn w) (inc act : ℕ) (i : Instance) (at : nth w
     spoke_agrees : Agrees w.hostile w.rec js (w.sent ++ entry ∷ []) w.owners w.container_done w.server_done
     spoke_agrees =
         let links = links_of w.rec.objects in
-        let ms : messages (w.sent ++ entry ∷ []) ≡ messages w.sent ++ t.message ∷ [] = messages_of_log w.sent (entry ∷ []) in
+        let ms : sayings (w.sent ++ entry ∷ []) ≡ sayings w.sent ++ t.message ∷ [] = messages_of_log w.sent (entry ∷ []) in
         record {
           steady = h.steady;
           servers = h.servers ∙ sym (length_set_nth w.instances inc later);
           facts = subst (λ s. Facts w.hostile links (acts_of js) (lives_of js) s w.owners w.rec.last_act w.container_done w.server_done) (sym ms)
-              (told_all links (acts_of w.instances) (acts_of js) (lives_of w.instances) (lives_of js) (messages w.sent) (t.message ∷ []) w.owners w.rec.last_act w.container_done w.server_done tells still own_only h.facts);
+              (told_all links (acts_of w.instances) (acts_of js) (lives_of w.instances) (lives_of js) (sayings w.sent) (t.message ∷ []) w.owners w.rec.last_act w.container_done w.server_done tells still own_only h.facts);
           views = views_kept links links (acts_of w.instances) (acts_of js) w.sent (w.sent ++ entry ∷ []) (tells_leave w.hostile links (acts_of w.instances) (acts_of js) tells) (grows_one w.sent entry spoke.sent_open) h.views;
-          grants = subst (λ s. Grants w.hostile links (roles_of w.rec) (acts_of js) s) (sym ms) (grants_told links (roles_of w.rec) (acts_of w.instances) (acts_of js) (messages w.sent) (t.message ∷ []) tells own_only h.grants);
+          grants = subst (λ s. Grants w.hostile links (roles_of w.rec) (acts_of js) s) (sym ms) (grants_told links (roles_of w.rec) (acts_of w.instances) (acts_of js) (sayings w.sent) (t.message ∷ []) tells own_only h.grants);
         }
 
   agrees_spoken_by : (told : Result Told ServerFault) → ((t : Told) → told ≡ Ok t → IsTelling i.core act t) → AgreesIn (spoken_by w inc act i told)

@@ -14,7 +14,7 @@ use Rattle.world_model.specs.declared.life.Life.TheVariants.{Running, Ended, Rea
 use Rattle.world_model.specs.declared.logs.Sent.{Sent}
 use Rattle.world_model.specs.declared.logs.View.{View}
 use Rattle.world_model.specs.World.{World, Instance, nth_or_zero, view_of, view_in, counted_by, served, stocked, called_wanting, called_in, called, is_of}
-use Rattle.world_model.specs.Safe.{Among, links_of, act_at, acts_of, messages}
+use Rattle.world_model.specs.Safe.{Among, links_of, act_at, acts_of, sayings}
 use Rattle.world_facts.specs.Words.{life_at, lives_of}
 use Rattle.world_facts.specs.Facts.{Facts}
 use Rattle.world_facts.specs.Shapes.{entries_of}
@@ -37,7 +37,7 @@ entries_same : (w : World) (inc act : ℕ) (c : Option Counted) → ((v : Counte
 entries_same w inc act None g = refl
 entries_same w inc act (Some v) g = ap (λ x. record { inc = inc; object = nth_or_zero (nth w.owners x); k = v.k; content = v.content } ∷ []) (sym (g v refl))
 
-module _ (w : World) (h : AgreesIn w) (inc act n : ℕ) (op : Operation) (call : Among (messages w.sent) (Call inc act n op)) where
+module _ (w : World) (h : AgreesIn w) (inc act n : ℕ) (op : Operation) (call : Among (sayings w.sent) (Call inc act n op)) where
   module _ (i : Instance) (told : Served) (box : Option Kind) (at : nth w.instances inc ≡ Some i) (runs : i.life ≡ Running) (e : on_call i.core (Call inc act n op) box ≡ Ok told) where
     taken : IsTaken w.instances inc act n op i told
     taken = call_taken w.instances inc act n op i at box told e
@@ -60,7 +60,7 @@ module _ (w : World) (h : AgreesIn w) (inc act n : ℕ) (op : Operation) (call :
 
     views_served : Views w.hostile (links_of w.rec.objects) (acts_of (set_nth w.instances inc (record i { core = told.server }))) (w.sent ++ record { message = Reply inc act n told.answer; view = view_in i.core act } ∷ [])
     views_served = subst (λ y. Views w.hostile (links_of w.rec.objects) (acts_of (set_nth w.instances inc (record i { core = told.server }))) (w.sent ++ y ∷ [])) reply_seen
-        (views_acted (links_of w.rec.objects) (acts_of w.instances) (acts_of (set_nth w.instances inc (record i { core = told.server }))) (lives_of w.instances) (messages w.sent) w.owners w.rec.last_act w.container_done w.server_done inc act n op taken.after told.answer told.counted
+        (views_acted (links_of w.rec.objects) (acts_of w.instances) (acts_of (set_nth w.instances inc (record i { core = told.server }))) (lives_of w.instances) (sayings w.sent) w.owners w.rec.last_act w.container_done w.server_done inc act n op taken.after told.answer told.counted
         h.facts (ready w.rec h.steady) call taken.changed taken.how w.sent h.views)
 
     pub served_agrees : Agrees w.hostile w.rec (set_nth w.instances inc (record i { core = told.server })) (w.sent ++ record { message = Reply inc act n told.answer; view = view_in i.core act } ∷ []) w.owners w.container_done (w.server_done ++ counted_by w inc told.counted)
@@ -68,11 +68,11 @@ module _ (w : World) (h : AgreesIn w) (inc act n : ℕ) (op : Operation) (call :
         let links = links_of w.rec.objects in
         let js = set_nth w.instances inc (record i { core = told.server }) in
         let x : Sent = record { message = Reply inc act n told.answer; view = view_in i.core act } in
-        let more = messages w.sent ++ Reply inc act n told.answer ∷ [] in
-        let ms : messages (w.sent ++ x ∷ []) ≡ more = messages_of_log w.sent (x ∷ []) in
+        let more = sayings w.sent ++ Reply inc act n told.answer ∷ [] in
+        let ms : sayings (w.sent ++ x ∷ []) ≡ more = messages_of_log w.sent (x ∷ []) in
         let es : entries_of inc act w.owners told.counted ≡ counted_by w inc told.counted = entries_same w inc act told.counted taken.of in
         let f : Facts w.hostile links (acts_of js) (lives_of w.instances) more w.owners w.rec.last_act w.container_done (w.server_done ++ entries_of inc act w.owners told.counted) =
-        acted links (acts_of w.instances) (acts_of js) (lives_of w.instances) (messages w.sent) w.owners w.rec.last_act w.container_done w.server_done inc act n op taken.after told.answer told.counted
+        acted links (acts_of w.instances) (acts_of js) (lives_of w.instances) (sayings w.sent) w.owners w.rec.last_act w.container_done w.server_done inc act n op taken.after told.answer told.counted
         h.facts (ready w.rec h.steady) call taken.changed taken.how in
         let g : Facts w.hostile links (acts_of js) (lives_of js) more w.owners w.rec.last_act w.container_done (w.server_done ++ entries_of inc act w.owners told.counted) =
         started links (acts_of js) (acts_of js) (lives_of w.instances) (lives_of js) more w.owners w.rec.last_act w.container_done (w.server_done ++ entries_of inc act w.owners told.counted)
@@ -84,7 +84,7 @@ module _ (w : World) (h : AgreesIn w) (inc act n : ℕ) (op : Operation) (call :
               (subst (λ y. Facts w.hostile links (acts_of js) (lives_of js) more w.owners w.rec.last_act w.container_done (w.server_done ++ y)) es g);
           views = views_served;
           grants = subst (λ s. Grants w.hostile links (roles_of w.rec) (acts_of js) s) (sym ms)
-              (grants_acted links (acts_of w.instances) (acts_of js) (lives_of w.instances) (messages w.sent) w.owners w.rec.last_act w.container_done w.server_done inc act n op taken.after told.answer told.counted
+              (grants_acted links (acts_of w.instances) (acts_of js) (lives_of w.instances) (sayings w.sent) w.owners w.rec.last_act w.container_done w.server_done inc act n op taken.after told.answer told.counted
               h.facts (ready w.rec h.steady) call (ap life_at at ∙ ap Some runs) taken.changed taken.how (roles_of w.rec) (ready_for w.rec h.steady).getting h.grants);
         }
 

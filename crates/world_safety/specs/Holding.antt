@@ -7,7 +7,7 @@ use Rattle.world_model.specs.declared.logs.Sent.{Sent}
 use Rattle.world_model.specs.declared.logs.ServerDone.{ServerDone}
 use Rattle.world_model.specs.declared.logs.Taken.{Taken}
 use Rattle.world_model.specs.World.{World, Instance}
-use Rattle.world_model.specs.Safe.{Among, acts_of, links_of, messages, IsGranted, IsHonest}
+use Rattle.world_model.specs.Safe.{Among, acts_of, links_of, sayings, IsGranted, IsHonest}
 use Rattle.world_facts.specs.Words.{lives_of}
 use Rattle.world_facts.specs.Facts.{Facts}
 use Rattle.world_facts.specs.Views.{Views}
@@ -20,9 +20,9 @@ use Rattle.world_numbers.specs.Numbers.{Numbers}
 pub record Agrees (hostile : List ℕ) (rec : Record) (instances : List Instance) (sent : List Sent) (owners : List ℕ) (counted : List Done) (served : List ServerDone) : Type 0 where
   pub steady : Steady rec
   pub servers : length rec.servers ≡ length instances
-  pub facts : Facts hostile (links_of rec.objects) (acts_of instances) (lives_of instances) (messages sent) owners rec.last_act counted served
+  pub facts : Facts hostile (links_of rec.objects) (acts_of instances) (lives_of instances) (sayings sent) owners rec.last_act counted served
   pub views : Views hostile (links_of rec.objects) (acts_of instances) sent
-  pub grants : Grants hostile (links_of rec.objects) (roles_of rec) (acts_of instances) (messages sent)
+  pub grants : Grants hostile (links_of rec.objects) (roles_of rec) (acts_of instances) (sayings sent)
 
 abbrev pub AgreesIn : World → Type 0
 AgreesIn w = Agrees w.hostile w.rec w.instances w.sent w.owners w.container_done w.server_done
