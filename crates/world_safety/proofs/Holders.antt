@@ -24,7 +24,7 @@ use Rattle.world_safety.specs.Holding.{AgreesIn}
 use Rattle.world_safety.proofs.Granting.{AllIn, sent_said}
 use Rattle.wire_msgs.specs.declared.message.Said.TheVariants.{Call, Reply}
 use Rattle.wire_msgs.specs.declared.operation.Operation.TheVariants.{UiActivate}
-use Rattle.wire_msgs.specs.declared.answer.Answer.TheVariants.{Tools}
+use Rattle.wire_msgs.specs.declared.answer.Answer.TheVariants as told
 
 claim_is : (c : Claim) (o a g : ℕ) → c.object ≡ o → c.act ≡ a → c.g ≡ g → c ≡ record { object = o; act = a; g = g }
 claim_is c o a g eo ea eg = ap (λ x. record { object = x; act = c.act; g = c.g }) eo ∙ (ap (λ x. record { object = o; act = x; g = c.g }) ea ∙ ap (λ x. record { object = o; act = a; g = x }) eg)
@@ -130,7 +130,7 @@ module _ (w : World) (h : AgreesIn w) where
       let hc : holder ≡ n.claim = (let z : Some holder ≡ Some n.claim = ap who (sym e) ∙ n.named in cc) in
       let role : roles_of w.rec n.number ≡ Holding g tools = n.role ∙ (ap (λ s. role_in s n.number) (e ∙ ap (λ c. Held c tools) hc) ∙ (ap (role_in (Held n.claim tools)) (sym n.object_is) ∙ (is_holding n.claim tools ∙ ap (λ x. Holding x tools) n.g_is))) in
       let t : WasTold (sayings w.sent) inc act g tools = subst (λ i. WasTold (sayings w.sent) i act g tools) n.inc_is (subst (λ a. WasTold (sayings w.sent) n.link.inc a g tools) n.act_is (h.grants.held_told n.number g tools n.link n.linked (subst (IsHonest w.hostile) (sym n.inc_is) honest) role)) in
-      record { n = t.n; called = sent_said w w.rec.session (Call inc act t.n (UiActivate g)) all refl t.called; replied = sent_said w w.rec.session (Reply inc act t.n (Tools tools.menus tools.border)) all refl t.replied }
+      record { n = t.n; called = sent_said w w.rec.session (Call inc act t.n (UiActivate g)) all refl t.called; replied = sent_said w w.rec.session (Reply inc act t.n (told.Tools tools.menus tools.border)) all refl t.replied }
 
   pub holder : AllIn w → (f inc act g : ℕ) → IsHonest w.hostile inc → HoldsFrame w inc act g f → IsHolder w inc act g f
   holder all f inc act g honest x =
