@@ -18,7 +18,7 @@ use Rattle.world_model.specs.declared.event.Stop.{Stop}
 use Rattle.world_model.specs.declared.life.Life.{Life}
 use Rattle.world_model.specs.declared.life.Life.TheVariants.{Ended, Reaped}
 use Rattle.world_model.specs.declared.event.Stop.TheVariants.{EventLimit}
-use Rattle.world_model.specs.World.{World, Instance, joined, took, commanded, started_by, ended, ended_by, fresh, limited, reap, done, done_in, done_imaged, done_taken, kept_commit, only_taken, resolved, MOST_EVENTS}
+use Rattle.world_model.specs.World.{World, Instance, joined, took, commanded, started_by, ended, ended_by, fresh, limited, reap, done, done_in, done_imaged, done_taken, kept_commit, only_taken, resolved, MOST_EVENTS, link_to}
 use Rattle.world_host.specs.Logging.{heard, heard_as, forged, forged_as, brought}
 use Rattle.world_host.specs.Servers.{ends_by, ends_in, ends_of}
 use Rattle.world_host.specs.View.{started}
@@ -30,7 +30,7 @@ use Rattle.world_run.proofs.Lifts.{emptied}
 use Rattle.container_model.specs.declared.server_link.ServerLink.{ServerLink}
 
 -- a world whose servers were told of, with those that ended and started
-abbrev pub finished : World → World → ℕ → List ℕ → List ℕ → World
+abbrev pub finished : World → World → ℕ → ℕ → List ℕ → List ℕ → World
 finished w b session numbers ends starts = record b { instances = ends_by ends w.instances ++ map (fresh session numbers) starts; stock = w.stock }
 
 abbrev lifted : World → List ℕ → World → World
@@ -106,14 +106,14 @@ pub open_taken : (w b v : World) (name : List ℕ) (x y : ℕ) (given : Given) (
     → v ≡ finished w b session numbers ends starts → limited w (Ok (took w (opened w.rec name x y given))) ≡ Ok v
 open_taken w b v name x y given session numbers ends starts room h e is = free w _ room ∙ ap Ok (took_lifted w b (opened w.rec name x y given) session numbers ends starts h (e ∙ sym (opens_end_none w.rec name x y given)) ∙ sym is)
 
-pub told_taken : (w b v : World) (p : Option ℕ) (link : ServerLink) (m : Message) (session numbers : ℕ) (ends starts : List ℕ) → nat_le MOST_EVENTS (length w.answers) ≡ false → heard (emptied w) p inc m ≡ started b session numbers starts → ends ≡ ends_in (on_message w.rec inc m)
-    → v ≡ finished w b session numbers ends starts → limited w (Ok (heard w p inc m)) ≡ Ok v
-told_taken w b v p inc m session numbers ends starts room h e is = free w _ room ∙ ap Ok (heard_lifted w b (brought p w.rec.objects m) (on_message w.rec inc m) session numbers ends starts h e ∙ sym is)
+pub told_taken : (w b v : World) (p : Option ℕ) (link : ServerLink) (m : Message) (session numbers : ℕ) (ends starts : List ℕ) → nat_le MOST_EVENTS (length w.answers) ≡ false → heard (emptied w) p link m ≡ started b session numbers starts → ends ≡ ends_in (on_message w.rec link m)
+    → v ≡ finished w b session numbers ends starts → limited w (Ok (heard w p link m)) ≡ Ok v
+told_taken w b v p link m session numbers ends starts room h e is = free w _ room ∙ ap Ok (heard_lifted w b (brought p w.rec.objects m.said) (on_message w.rec link m) session numbers ends starts h e ∙ sym is)
 
-pub forge_taken : (w b v : World) (inc : ℕ) (m : Message) (session numbers : ℕ) (ends starts : List ℕ) → nat_le MOST_EVENTS (length w.answers) ≡ false → forged (emptied w) inc m ≡ started b session numbers starts → ends ≡ ends_in (on_message w.rec inc m)
+pub forge_taken : (w b v : World) (inc : ℕ) (m : Message) (session numbers : ℕ) (ends starts : List ℕ) → nat_le MOST_EVENTS (length w.answers) ≡ false → forged (emptied w) inc m ≡ started b session numbers starts → ends ≡ ends_in (on_message w.rec (link_to w inc) m)
     → v ≡ finished w b session numbers ends starts → forging w inc m ≡ Ok v
 forge_taken w b v inc m session numbers ends starts room h e is =
-    free w _ room ∙ ap Ok (forged_same w inc m ∙ forged_lifted w b inc (brought None w.rec.objects m) (on_message w.rec inc m) session numbers ends starts h e ∙ sym is)
+    free w _ room ∙ ap Ok (forged_same w inc m ∙ forged_lifted w b inc (brought None w.rec.objects m.said) (on_message w.rec (link_to w inc) m) session numbers ends starts h e ∙ sym is)
 
 reap_some : (w b m v : World) (inc : ℕ) (life : Life) (z : Instance) (session numbers : ℕ) (ends starts : List ℕ) → nth w.instances inc ≡ Some z → z.life ≡ Ended → nat_le MOST_EVENTS (length w.answers) ≡ false
     → took (emptied w) (on_reap w.rec inc) ≡ started b session numbers starts → ends ≡ ends_in (on_reap w.rec inc)
