@@ -37,7 +37,7 @@ use Rattle.container_queues.proofs.SteadyQueues.{goes_on, joined_ok, taken}
 use Rattle.container_steady.proofs.SteadyRecords.{if_at}
 use Rattle.container_numbers.specs.Sound.{IsNumbered}
 use Rattle.container_numbers.proofs.SoundRooms.{IsSaved, each_of}
-use Rattle.world_model.specs.Safe.{CarriesWithin, IsWithin}
+use Rattle.world_model.specs.Safe.{CarriesWithin, IsSaidWithin}
 use Rattle.world_facts.proofs.Lookups.{nth_bound}
 use Rattle.world_steps.proofs.Objects.{IsHeld}
 
@@ -222,5 +222,5 @@ module _ (limit : ℕ) (r : Record) (steady : Steady r) (numbers : IsNumbered li
   carries (SaveDropped k) is completed = (let own = dropped_within k is in let most = saved_within in omega arith)
   carries _ is completed = tt
 
-  pub call_within : ((k : ℕ) (storage : Bool) → asked ≡ SaveCompleted k storage → k ≤ limit) → IsWithin limit (Call l.inc l.act l.last asked)
+  pub call_within : ((k : ℕ) (storage : Bool) → asked ≡ SaveCompleted k storage → k ≤ limit) → IsSaidWithin limit (Call l.inc l.act l.last asked)
   call_within completed = (inc_within, act_within, last_within, carries asked refl completed)

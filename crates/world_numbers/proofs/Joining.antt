@@ -2,7 +2,7 @@
 use Rattle.std.proofs.Common.{◌≡◌, ◌≤◌, ℕ, List, [], ◌∷◌, ◌++◌, length, map, Option, Some, None, refl, sym, ap, ◌∙◌, inl, inr, arith, subst}
 use Rattle.std.specs.List.{AllByRecursion}
 use Rattle.wire_msgs.specs.Found.{nth, set_nth}
-use Rattle.wire_msgs.specs.declared.message.Said.{Said}
+use Rattle.wire_msgs.specs.declared.message.Message.{Message}
 use Rattle.container_model.specs.Record.{Record, Took}
 use Rattle.container_model.specs.declared.answer.Action.{Action}
 use Rattle.container_model.specs.declared.answer.Action.TheVariants.{Send, Start, End, Commit}
@@ -10,9 +10,9 @@ use Rattle.container_queues.proofs.SteadyLookups.{each_nth, each_set}
 use Rattle.container_numbers.specs.Sound.{IsNumbered}
 use Rattle.world_model.specs.declared.logs.Sent.{Sent}
 use Rattle.world_model.specs.World.{World, Instance, end_of, ended_at, ended_by, fresh, joined, messages_of, of_container, started_by}
-use Rattle.world_model.specs.Safe.{Among, IsWithin, WasSent, links_of, sayings}
+use Rattle.world_model.specs.Safe.{Among, IsWithin, WasSent, links_of, messages}
+use Rattle.world_facts.specs.Words.{all_said, sayings_of}
 use Rattle.world_facts.proofs.Lookups.{among_join}
-use Rattle.world_steps.proofs.Objects.{messages_of_log, messages_told}
 use Rattle.world_numbers.specs.Numbers.{ArePending, Follow, IsServerWithin, Numbers, RunsWithin}
 
 each_joined : {A : Type 0} (P : A → Type 0) (xs ys : List A) → AllByRecursion P xs → AllByRecursion P ys → AllByRecursion P (xs ++ ys)
@@ -42,27 +42,42 @@ ended_within limit (Commit f ∷ rest) is h = ended_within limit rest is h
 pub record IsTaken (limit : ℕ) (t : Took) : Type 0 where
   pub recorded : IsNumbered limit t.rec
   pub pending : ArePending (links_of t.rec.objects) (sayings_of t.answer.actions)
-  pub starts : AllByRecursion (RunsWithin limit) (started_by t.rec.numbers t.answer.actions)
+  pub starts : AllByRecursion (RunsWithin limit) (started_by t.rec.session t.rec.numbers t.answer.actions)
+
+-- a log that grew has the messages of both
+log_joined : (xs ys : List Sent) → messages (xs ++ ys) ≡ messages xs ++ messages ys
+log_joined [] ys = refl
+log_joined (x ∷ xs) ys = ap (λ v. x.message ∷ v) (log_joined xs ys)
+
+log_told : (ms : List Message) → messages (map of_container ms) ≡ ms
+log_told [] = refl
+log_told (m ∷ ms) = ap (λ v. m ∷ v) (log_told ms)
+
+log_longer : (log : List Sent) (more : List Message) → messages (log ++ map of_container more) ≡ messages log ++ more
+log_longer log more = log_joined log (map of_container more) ∙ ap (λ ms. messages log ++ ms) (log_told more)
+
+-- what a message of a list says is said by the list
+among_said : (ms : List Message) (m : Message) → Among ms m → Among (all_said ms) m.said
+among_said [] m h = absurd h
+among_said (x ∷ xs) m (inl e) = inl (ap (λ (y : Message). y.said) e)
+among_said (x ∷ xs) m (inr h) = inr (among_said xs m h)
 
 pub joined_follows : (limit : ℕ) (w : World) (t : Took) → Numbers limit w → IsTaken limit t → Follow limit (joined w t)
 joined_follows limit w t h k within = record {
   recorded = k.recorded;
   sent = all_sent;
-  servers = each_joined (RunsWithin limit) (ended_by t.answer.actions w.instances) (started_by t.rec.numbers t.answer.actions) (ended_within limit t.answer.actions w.instances h.servers) k.starts;
+  servers = each_joined (RunsWithin limit) (ended_by t.answer.actions w.instances) (started_by t.rec.session t.rec.numbers t.answer.actions) (ended_within limit t.answer.actions w.instances h.servers) k.starts;
 }
   where
-    log : sayings (w.sent ++ map of_container (sayings_of t.answer.actions)) ≡ sayings w.sent ++ sayings_of t.answer.actions
-    log = messages_of_log w.sent (map of_container (sayings_of t.answer.actions)) ∙ ap (λ ms. sayings w.sent ++ ms) (messages_told (sayings_of t.answer.actions))
-
-    all_sent : (m : Said) → WasSent (joined w t) m → IsWithin limit m
-    all_sent m g = elim (among_join (sayings w.sent) (sayings_of t.answer.actions) m (subst (λ ms. Among ms m) log g)) [
+    all_sent : (m : Message) → WasSent (joined w t) m → IsWithin limit m
+    all_sent m g = elim (among_join (messages w.sent) (messages_of t.answer.actions) m (subst (λ ms. Among ms m) (log_longer w.sent (messages_of t.answer.actions)) g)) [
       | inl old ↦ h.sent m old
-      | inr new ↦ within m k.recorded (k.pending m new) g
+      | inr new ↦ within m k.recorded (k.pending m.said (among_said (messages_of t.answer.actions) m new)) g
     ]
 
 -- one message more
-pub sent_one : (limit : ℕ) (w : World) (x : Sent) → ((m : Said) → WasSent w m → IsWithin limit m) → IsWithin limit x.message → (m : Said) → Among (sayings (w.sent ++ x ∷ [])) m → IsWithin limit m
-sent_one limit w x h k m g = elim (among_join (sayings w.sent) (x.message ∷ []) m (subst (λ ms. Among ms m) (messages_of_log w.sent (x ∷ [])) g)) [
+pub sent_one : (limit : ℕ) (w : World) (x : Sent) → ((m : Message) → WasSent w m → IsWithin limit m) → IsWithin limit x.message → (m : Message) → Among (messages (w.sent ++ x ∷ [])) m → IsWithin limit m
+sent_one limit w x h k m g = elim (among_join (messages w.sent) (x.message ∷ []) m (subst (λ ms. Among ms m) (log_joined w.sent (x ∷ [])) g)) [
   | inl old ↦ h m old
   | inr new ↦ at new
 ]
@@ -72,5 +87,5 @@ sent_one limit w x h k m g = elim (among_join (sayings w.sent) (x.message ∷ []
     at (inr z) = absurd z
 
 -- a new server is numbered by the record
-pub fresh_within : (limit : ℕ) (r : Record) (inc : ℕ) → IsNumbered limit r → inc ≤ length r.servers → IsServerWithin limit (fresh r.numbers inc).core
+pub fresh_within : (limit : ℕ) (r : Record) (inc : ℕ) → IsNumbered limit r → inc ≤ length r.servers → IsServerWithin limit (fresh r.session r.numbers inc).core
 fresh_within limit r inc h le = record { inc = (let most = h.servers in let e = h.limit in omega arith); numbers = (let e = h.limit in omega arith); acts = tt }

@@ -89,4 +89,4 @@ reaped_pending hostile links after acts lives more h = turned_pending h.between 
 
 -- an activation begins
 pub begins_pending : (links after : Links) (lives : Lives) (owners : List ℕ) (last o : ℕ) (more : List Said) → Begins links after lives owners last o more → ArePending after more
-begins_pending links after lives owners last o more h = one_pending after o (begun_link h.inc (last + 1) h.op) h.op more h.is refl h.sends
+begins_pending links after lives owners last o more h = one_pending after o (begun_link h.session h.inc (last + 1) h.op) h.op more h.is refl h.sends

@@ -18,11 +18,12 @@ use Rattle.embed_core.specs.Content.{Content}
 use Rattle.embed_core.specs.Kinds.{Kind}
 use Rattle.embed_core.specs.Objects as object
 use Rattle.embed_core.specs.declared.fault.EmbedFault.{EmbedFault}
-use Rattle.server_model.specs.Server.{Activation, Server, Acted, Served, counts, refuses, edits, closes, does, acted, next_call, known_call, begun_class, begun_content, begins, after_known, after_begun, is_class, offered, unknown_call, called, is_act, on_call}
+use Rattle.server_model.specs.Server.{Activation, Server, Acted, Served, counts, refuses, edits, closes, does, acted, next_call, known_call, begun_class, begun_content, begins, after_known, after_begun, is_class, offered, unknown_call, called, is_act, is_for, on_call}
 use Rattle.server_model.specs.declared.fault.ServerFault.{ServerFault}
 use Rattle.server_model.specs.declared.fault.ServerFault.TheVariants.{WrongIncarnation, Ignored, NumbersSpent, WrongClass}
 use Rattle.container_queues.proofs.SteadyLookups.{each_append, each_found, each_put}
 use Rattle.world_model.specs.Safe.{CarriesWithin}
+use Rattle.world_model.specs.World.{in_session}
 use Rattle.world_numbers.specs.Numbers.{IsActivationWithin, IsServerWithin}
 
 -- an activation that does a call
@@ -138,5 +139,5 @@ module _ (limit : ℕ) (v : Server) (act n : ℕ) (op : Operation) (box : Option
   at_server true e = called_at (find (is_act act) v.acts) refl e
   at_server false e = cc
 
-  pub served_within : (inc : ℕ) → on_call v (Call inc act n op) box ≡ Ok told → IsServerWithin limit told.server
-  served_within inc e = at_server (nat_eq inc v.inc) e
+  pub served_within : (session inc : ℕ) → on_call v (in_session session (Call inc act n op)) box ≡ Ok told → IsServerWithin limit told.server
+  served_within session inc e = at_server (is_for v session inc) e

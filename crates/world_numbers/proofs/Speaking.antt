@@ -6,7 +6,7 @@ use Rattle.wire_msgs.specs.Found.{find, put}
 use Rattle.wire_msgs.specs.declared.message.Said.TheVariants.{Write, Ask}
 use Rattle.object_state.specs.Persists.{may_write}
 use Rattle.embed_core.specs.Content.{Content}
-use Rattle.server_model.specs.Server.{Server, Activation, Told, is_act, stored_of, writes, scribbled_open, asks, asked}
+use Rattle.server_model.specs.Server.{Server, Activation, Told, is_act, from_server, stored_of, writes, scribbled_open, asks, asked}
 use Rattle.server_model.specs.Server as server
 use Rattle.server_model.specs.declared.fault.ServerFault.{ServerFault}
 use Rattle.server_model.specs.declared.fault.ServerFault.TheVariants.{Ignored, NumbersSpent}
@@ -24,7 +24,7 @@ module _ (limit : ℕ) (v : Server) (act : ℕ) (h : IsServerWithin limit v) (t 
 
   -- a write
   wrote : (a : Activation) (c : Content) → IsActivationWithin limit a → a.w < v.numbers
-      → SpeaksWithin limit (record { server = record v { acts = put (is_act a.act) (record a { w = a.w + 1 }) v.acts }; message = Write v.inc a.act a.s (a.w + 1) (stored_of c) })
+      → SpeaksWithin limit (record { server = record v { acts = put (is_act a.act) (record a { w = a.w + 1 }) v.acts }; message = from_server v (Write v.inc a.act a.s (a.w + 1) (stored_of c)) })
   wrote a c k lt =
       let most = h.numbers in
       let last = k.last in
@@ -38,10 +38,10 @@ module _ (limit : ℕ) (v : Server) (act : ℕ) (h : IsServerWithin limit v) (t 
       }
 
   room : (a : Activation) (c : Content) (b : Bool) → IsActivationWithin limit a → nat_le v.numbers a.w ≡ b
-      → ◌≡◌ {A = Result Told ServerFault} (cond b (Err NumbersSpent) (Ok (record { server = record v { acts = put (is_act a.act) (record a { w = a.w + 1 }) v.acts }; message = Write v.inc a.act a.s (a.w + 1) (stored_of c) }))) (Ok t) → SpeaksWithin limit t
+      → ◌≡◌ {A = Result Told ServerFault} (cond b (Err NumbersSpent) (Ok (record { server = record v { acts = put (is_act a.act) (record a { w = a.w + 1 }) v.acts }; message = from_server v (Write v.inc a.act a.s (a.w + 1) (stored_of c)) }))) (Ok t) → SpeaksWithin limit t
   room a c true k q e = cc
   room a c false k q e =
-      let made : Told = record { server = record v { acts = put (is_act a.act) (record a { w = a.w + 1 }) v.acts }; message = Write v.inc a.act a.s (a.w + 1) (stored_of c) } in
+      let made : Told = record { server = record v { acts = put (is_act a.act) (record a { w = a.w + 1 }) v.acts }; message = from_server v (Write v.inc a.act a.s (a.w + 1) (stored_of c)) } in
       let is : made ≡ t = cc in
       subst (SpeaksWithin limit) is (wrote a c k (leb-false v.numbers a.w q))
 
@@ -64,7 +64,7 @@ module _ (limit : ℕ) (v : Server) (act : ℕ) (h : IsServerWithin limit v) (t 
   asking_by : (a : Activation) (g : Option ℕ) → IsActivationWithin limit a → a.g ≡ g → asks v a g ≡ Ok t → SpeaksWithin limit t
   asking_by a None k q e = cc
   asking_by a (Some g) k q e =
-      let made : Told = record { server = v; message = Ask v.inc a.act g } in
+      let made : Told = record { server = v; message = from_server v (Ask v.inc a.act g) } in
       let is : made ≡ t = cc in
       subst (SpeaksWithin limit) is (record { server = h; message = (h.inc, k.act, k.granted g q) })
 

@@ -1,7 +1,8 @@
--- The numbers of a world: those of its record, of its sayings and of its servers. No reader has to believe them; what they
+-- The numbers of a world: those of its record, of its messages and of its servers. No reader has to believe them; what they
 -- are for stands in Safe.
 use Rattle.std.specs.Prelude.{◌≡◌, ◌≤◌, ℕ, List, Some}
 use Rattle.std.specs.List.{AllByRecursion}
+use Rattle.wire_msgs.specs.declared.message.Message.{Message}
 use Rattle.wire_msgs.specs.declared.message.Said.{Said}
 use Rattle.wire_msgs.specs.declared.message.Said.TheVariants.{Call}
 use Rattle.wire_msgs.specs.declared.operation.Operation.{Operation}
@@ -31,10 +32,10 @@ RunsWithin limit i = IsServerWithin limit i.core
 -- all of them; the limit is that of the record
 pub record Numbers (limit : ℕ) (w : World) : Type 0 where
   pub recorded : IsNumbered limit w.rec
-  pub sent : (m : Said) → WasSent w m → IsWithin limit m
+  pub sent : (m : Message) → WasSent w m → IsWithin limit m
   pub servers : AllByRecursion (RunsWithin limit) w.instances
 
--- a message is the pending call of a link, as it was sent
+-- what is said is the pending call of a link, as it was sent
 pub record IsPending (links : Links) (m : Said) : Type 0 where
   pub object : ℕ
   pub link : Link
@@ -48,7 +49,7 @@ ArePending links ms = (m : Said) → Among ms m → IsPending links m
 
 -- What is sent of pending calls is within the limit, once the record is: so are the numbers of the world.
 abbrev pub PendingWithin : ℕ → World → Type 0
-PendingWithin limit w = (m : Said) → IsNumbered limit w.rec → IsPending (links_of w.rec.objects) m → WasSent w m → IsWithin limit m
+PendingWithin limit w = (m : Message) → IsNumbered limit w.rec → IsPending (links_of w.rec.objects) m.said → WasSent w m → IsWithin limit m
 
 abbrev pub Follow : ℕ → World → Type 0
 Follow limit w = PendingWithin limit w → Numbers limit w

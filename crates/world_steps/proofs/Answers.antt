@@ -20,6 +20,7 @@ use Rattle.world_facts.specs.Facts.{IsEven, HasDone, Did}
 
 -- The link after the reply: nothing is pending, and what waited waits.
 pub record IsSettled (l after : Link) : Type 0 where
+  pub session : after.session ≡ l.session
   pub inc : after.inc ≡ l.inc
   pub act : after.act ≡ l.act
   pub last : after.last ≡ l.last
@@ -49,7 +50,7 @@ done_settles l op answer (Err fault) p e did h = cc
 done_settles l op answer (Ok v) p e did h =
     let new : Link = record l { pending = None; states = v; s = next_s op l.s } in
     let q : record { link = Some new; taken = None; refused = None; grant = None } ≡ p = cc in
-    settles new (ap (λ (y : Replied). y.link) (sym q)) (record { inc = refl; act = refl; last = refl; pending = refl; waiting = refl })
+    settles new (ap (λ (y : Replied). y.link) (sym q)) (record { session = refl; inc = refl; act = refl; last = refl; pending = refl; waiting = refl })
     (λ a d. record { even = even_done l op v a e (did a d); saved = inl refl })
 
 saved_settles : (l : Link) (k : ℕ) (content : Stored) (x : Result States StateFault) (p : Replied) → both.step l.states (op_of (Save k)) ≡ x → saved_link content (done_link l (next_s (Save k) l.s) x) ≡ Ok p → Outcome l (Save k) (told.Content content) p
@@ -57,7 +58,7 @@ saved_settles l k content (Err fault) p e h = cc
 saved_settles l k content (Ok v) p e h =
     let new : Link = record l { pending = None; states = v; s = next_s (Save k) l.s; saved = Some content } in
     let q : record { link = Some new; taken = None; refused = None; grant = None } ≡ p = cc in
-    settles new (ap (λ (y : Replied). y.link) (sym q)) (record { inc = refl; act = refl; last = refl; pending = refl; waiting = refl })
+    settles new (ap (λ (y : Replied). y.link) (sym q)) (record { session = refl; inc = refl; act = refl; last = refl; pending = refl; waiting = refl })
     (λ a d. record { even = even_done l (Save k) v a e d.0; saved = inr (content, refl, d.1) })
 
 -- what is told of the frame's grant comes beside
@@ -67,7 +68,7 @@ granted_settles l op answer tells (Err fault) p e did h = cc
 granted_settles l op answer tells (Ok v) p e did h =
     let new : Link = record l { pending = None; states = v; s = next_s op l.s } in
     let q : record { link = Some new; taken = None; refused = None; grant = Some tells } ≡ p = cc in
-    settles new (ap (λ (y : Replied). y.link) (sym q)) (record { inc = refl; act = refl; last = refl; pending = refl; waiting = refl })
+    settles new (ap (λ (y : Replied). y.link) (sym q)) (record { session = refl; inc = refl; act = refl; last = refl; pending = refl; waiting = refl })
     (λ a d. record { even = even_done l op v a e (did a d); saved = inl refl })
 
 -- an activation that did what was answered is closed
@@ -79,7 +80,7 @@ lost_gone l op answer why p did h = (let q : record { link = None; taken = None;
 
 noted_settles : (l : Link) (bytes : List ℕ) (why : _) (p : Replied) → noted l why ≡ Ok p → Outcome l (Edit bytes) (told.Refused why) p
 noted_settles l bytes why p h = (let q : record { link = Some (record l { pending = None }); taken = None; refused = Some why; grant = None } ≡ p = cc in
-    settles (record l { pending = None }) (ap (λ (y : Replied). y.link) (sym q)) (record { inc = refl; act = refl; last = refl; pending = refl; waiting = refl }) (λ a d. record { even = d; saved = inl refl }))
+    settles (record l { pending = None }) (ap (λ (y : Replied). y.link) (sym q)) (record { session = refl; inc = refl; act = refl; last = refl; pending = refl; waiting = refl }) (λ a d. record { even = d; saved = inl refl }))
 
 closed_gone : (l : Link) (option : CloseOption) (answer : Answer) (content : Option Stored) (x : Result States StateFault) (p : Replied) → Closes l (Close option) answer → closed_with content x ≡ Ok p → Outcome l (Close option) answer p
 closed_gone l option answer content (Err fault) p did h = cc

@@ -14,14 +14,14 @@ use Rattle.container_steady.proofs.SteadyRecords.{if_told}
 use Rattle.container_steady.proofs.SteadyTests.{found_numbered}
 use Rattle.container_steady.proofs.SteadyShapes.{asked_of}
 use Rattle.world_model.specs.Safe.{Among, link_at, links_of}
-use Rattle.world_facts.specs.Words.{Links}
+use Rattle.world_facts.specs.Words.{Links, all_said}
 use Rattle.world_facts.specs.Shapes.{IsSame, AskedAt, none, stays, queues, sends as sent, AsksAll, IsQuiet}
 use Rattle.world_facts.proofs.Lookups.{among_join}
-use Rattle.world_steps.proofs.Objects.{IsHeld, Waits, found_held, link_mapped, link_was, put_here, put_there}
+use Rattle.world_steps.proofs.Objects.{IsHeld, Waits, found_held, link_mapped, link_was, put_here, put_there, said_join}
 
 -- an object of which nothing is asked
 same_link : (l : Link) → IsSame l l
-same_link l = record { inc = refl; act = refl; last = refl; pending = refl; states = refl; s = refl; saved = inl refl }
+same_link l = record { session = refl; inc = refl; act = refl; last = refl; pending = refl; states = refl; s = refl; saved = inl refl }
 
 pub unasked : (Asks : Operation → Type 0) (x : Option Link) → AskedAt Asks x x []
 unasked Asks None = none refl refl refl
@@ -32,13 +32,13 @@ unasked_as Asks x y e = subst (λ z. AskedAt Asks x z []) (sym e) (unasked Asks 
 
 -- an operation is asked of a link whose save is as it was or over
 module _ (Asks : Operation → Type 0) (b : Link) (saved : Option Stored) (op : Operation) (asks : Asks op) (same : (saved ≡ b.saved) ⊎ (saved ≡ None)) where
-  asked_by : (p : Option Operation) → b.pending ≡ p → WaitsBehind p b.waiting → AskedAt Asks (Some b) (Some (ask_at (record b { saved = saved }) op p).link) (ask_at b op p).sent
+  asked_by : (p : Option Operation) → b.pending ≡ p → WaitsBehind p b.waiting → AskedAt Asks (Some b) (Some (ask_at (record b { saved = saved }) op p).link) (all_said (ask_at b op p).sent)
   asked_by None e w = sent b (record b { last = b.last + 1; pending = Some op; saved = saved }) op refl refl
-      (record { inc = refl; act = refl; free = e; last = refl; pending = refl; states = refl; s = refl; saved = same }) w w asks refl
+      (record { session = refl; inc = refl; act = refl; free = e; last = refl; pending = refl; states = refl; s = refl; saved = same }) w w asks refl
   asked_by (Some before) e w = queues b (record b { waiting = b.waiting ++ op ∷ []; saved = saved }) op before refl refl
-      (record { inc = refl; act = refl; last = refl; pending = refl; states = refl; s = refl; saved = same }) e refl asks refl
+      (record { session = refl; inc = refl; act = refl; last = refl; pending = refl; states = refl; s = refl; saved = same }) e refl asks refl
 
-  pub is_asked : WaitsBehind b.pending b.waiting → AskedAt Asks (Some b) (Some (ask (record b { saved = saved }) op).link) (ask b op).sent
+  pub is_asked : WaitsBehind b.pending b.waiting → AskedAt Asks (Some b) (Some (ask (record b { saved = saved }) op).link) (all_said (ask b op).sent)
   is_asked w = asked_by b.pending refl w
 
 -- no link changes, and nothing is sent
@@ -87,16 +87,16 @@ found_above n k (x ∷ os) o h e = elim (x.number == k) as (λ b. (if b then Som
 ] e
 
 -- who is asked by a message to a whole frame
-pub who_is_asked : (os : List Object) (f : ℕ) (op : Operation) (m : Said) → Rising os → Among (asked_all f op os) m → (o : Object) × (find (is_object o.number) os ≡ Some o) × Among (asked_of f op o) m
+pub who_is_asked : (os : List Object) (f : ℕ) (op : Operation) (m : Said) → Rising os → Among (all_said (asked_all f op os)) m → (o : Object) × (find (is_object o.number) os ≡ Some o) × Among (all_said (asked_of f op o)) m
 who_is_asked [] f op m s h = absurd h
 who_is_asked (x ∷ os) f op m s h =
-    let later : Among (asked_all f op os) m → (o : Object) × (find (is_object o.number) (x ∷ os) ≡ Some o) × Among (asked_of f op o) m = λ g.
+    let later : Among (all_said (asked_all f op os)) m → (o : Object) × (find (is_object o.number) (x ∷ os) ≡ Some o) × Among (all_said (asked_of f op o)) m = λ g.
     (let c = who_is_asked os f op m s.1 g in
     let above : x.number < c.0.number = found_above x.number c.0.number os c.0 s.0 c.1 in
     (c.0, ap (λ b. if b then Some x else find (is_object c.0.number) os) (ne_eqb x.number c.0.number (λ e. absurd (omega arith))) ∙ c.1, c.2)) in
-    elim (x.frame == f) as (λ b. (x.frame == f) ≡ b → Among (if b then asked_sent op x.link ++ asked_all f op os else asked_all f op os) m → (o : Object) × (find (is_object o.number) (x ∷ os) ≡ Some o) × Among (asked_of f op o) m) [
-      | true ↦ (λ t g. elim (among_join (asked_sent op x.link) (asked_all f op os) m g) [
-        | inl here ↦ (x, ap (λ b. if b then Some x else find (is_object x.number) os) (eq-eqb x.number x.number refl), subst (λ (b : Bool). Among (if b then asked_sent op x.link else []) m) (sym t) here)
+    elim (x.frame == f) as (λ b. (x.frame == f) ≡ b → Among (all_said (if b then asked_sent op x.link ++ asked_all f op os else asked_all f op os)) m → (o : Object) × (find (is_object o.number) (x ∷ os) ≡ Some o) × Among (all_said (asked_of f op o)) m) [
+      | true ↦ (λ t g. elim (among_join (all_said (asked_sent op x.link)) (all_said (asked_all f op os)) m (subst (λ ms. Among ms m) (said_join (asked_sent op x.link) (asked_all f op os)) g)) [
+        | inl here ↦ (x, ap (λ b. if b then Some x else find (is_object x.number) os) (eq-eqb x.number x.number refl), subst (λ (b : Bool). Among (all_said (if b then asked_sent op x.link else [])) m) (sym t) here)
         | inr more ↦ later more
       ])
       | false ↦ (λ t g. later g)
@@ -104,10 +104,10 @@ who_is_asked (x ∷ os) f op m s h =
 
 -- one object is asked
 pub one_asked : (r : Record) (n : ℕ) (op : Operation) (x : Object) (l : Link) → Steady r → find (is_object n) r.objects ≡ Some x → x.link ≡ Some l → IsQuiet op
-    → AsksAll (λ o op. IsQuiet op) (links_of r.objects) (links_of (put (is_object x.number) (record x { link = Some (ask l op).link }) r.objects)) (ask l op).sent
+    → AsksAll (λ o op. IsQuiet op) (links_of r.objects) (links_of (put (is_object x.number) (record x { link = Some (ask l op).link }) r.objects)) (all_said (ask l op).sent)
 one_asked r n op x l s f xl quiet =
     let a : Object = record x { link = Some (ask l op).link } in
-    let ms = (ask l op).sent in
+    let ms = all_said (ask l op).sent in
     let h : IsHeld r n l = found_held r n l x s f xl in
     let test = is_object x.number in
     let here : find test r.objects ≡ Some x = found_numbered n r.objects x f in
@@ -128,15 +128,15 @@ asked_number f op o = if_told (λ (z : Object). z.number ≡ o.number) (o.frame 
 
 -- each object of a frame that isn't passive is asked
 module _ (os : List Object) (f : ℕ) (op : Operation) (w : Waits (links_of os)) (rise : Rising os) (quiet : IsQuiet op) where
-  asked_one : (n : ℕ) (o : Object) (x : Option Link) → find (is_object n) os ≡ Some o → o.link ≡ x → AskedAt IsQuiet x (asked_link op x) (asked_sent op x)
+  asked_one : (n : ℕ) (o : Object) (x : Option Link) → find (is_object n) os ≡ Some o → o.link ≡ x → AskedAt IsQuiet x (asked_link op x) (all_said (asked_sent op x))
   asked_one n o None e q = none refl refl refl
   asked_one n o (Some l) e q = is_asked IsQuiet l l.saved op quiet (inl refl) (w n l (ap link_at e ∙ q))
 
-  asked_each : (n : ℕ) (o : Object) → find (is_object n) os ≡ Some o → AskedAt IsQuiet o.link (asked_object f op o).link (asked_of f op o)
-  asked_each n o e = elim (o.frame == f) as (λ b. AskedAt IsQuiet o.link (if b then record o { link = asked_link op o.link } else o).link (if b then asked_sent op o.link else [])) [
+  asked_each : (n : ℕ) (o : Object) → find (is_object n) os ≡ Some o → AskedAt IsQuiet o.link (asked_object f op o).link (all_said (asked_of f op o))
+  asked_each n o e = elim (o.frame == f) as (λ b. AskedAt IsQuiet o.link (if b then record o { link = asked_link op o.link } else o).link (all_said (if b then asked_sent op o.link else []))) [
     | true ↦ asked_one n o o.link e refl
     | false ↦ unasked IsQuiet o.link
   ]
 
-  pub frame_asked : AsksAll (λ o p. IsQuiet p) (links_of os) (links_of (map (asked_object f op) os)) (asked_all f op os)
-  frame_asked = all_mapped (λ o p. IsQuiet p) os (asked_object f op) (asked_of f op) (asked_all f op os) (asked_number f op) asked_each (λ m h. who_is_asked os f op m rise h)
+  pub frame_asked : AsksAll (λ o p. IsQuiet p) (links_of os) (links_of (map (asked_object f op) os)) (all_said (asked_all f op os))
+  frame_asked = all_mapped (λ o p. IsQuiet p) os (asked_object f op) (λ o. all_said (asked_of f op o)) (all_said (asked_all f op os)) (asked_number f op) asked_each (λ m h. who_is_asked os f op m rise h)

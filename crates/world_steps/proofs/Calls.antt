@@ -32,9 +32,9 @@ use Rattle.embed_core.specs.Objects as object
 use Rattle.embed_core.specs.declared.fault.EmbedFault.{EmbedFault}
 use Rattle.server_model.specs.declared.fault.ServerFault.{ServerFault}
 use Rattle.server_model.specs.declared.fault.ServerFault.TheVariants.{WrongIncarnation, Ignored, NumbersSpent, WrongClass}
-use Rattle.server_model.specs.Server.{stored_of, Server, Activation, Acted, Served, is_act, answers, counts, refuses, edits, closes, does, acted, next_call, known_call, begun_class, begun_content, begins, after_known, after_begun, is_class, offered, unknown_call, called, on_call}
+use Rattle.server_model.specs.Server.{stored_of, Server, Activation, Acted, Served, is_act, answers, counts, refuses, edits, closes, does, acted, next_call, known_call, begun_class, begun_content, begins, after_known, after_begun, is_class, offered, unknown_call, called, is_for, on_call}
 use Rattle.server_model.specs.declared.counted.Counted.{Counted}
-use Rattle.world_model.specs.World.{Instance}
+use Rattle.world_model.specs.World.{Instance, in_session}
 use Rattle.world_model.specs.Safe.{act_at, acts_of}
 use Rattle.world_facts.specs.Facts.{Did}
 use Rattle.world_facts.specs.Shapes.{IsFirst, MovesGrant, IsChanged, Makes, ActsOn, again, next, makes}
@@ -288,8 +288,8 @@ module _ (is : List Instance) (inc act m : ℕ) (op : Operation) (i : Instance) 
   called_taken box None told f e = unknown box (begun_class m op) told f refl e
   called_taken box (Some a) told f e = known a (known_call a m op) told f refl e
 
-  pub call_taken : (box : Option Kind) (told : Served) → on_call i.core (Call inc act m op) box ≡ Ok told → IsTaken is inc act m op i told
-  call_taken box told e = mine (nat_eq inc i.core.inc) e
+  pub call_taken : (session : ℕ) (box : Option Kind) (told : Served) → on_call i.core (in_session session (Call inc act m op)) box ≡ Ok told → IsTaken is inc act m op i told
+  call_taken session box told e = mine (is_for i.core session inc) e
     where
       mine : (t : Bool) → cond t (called i.core act m op box (find (is_act act) i.core.acts)) (Err WrongIncarnation) ≡ Ok told → IsTaken is inc act m op i told
       mine true g = called_taken box (find (is_act act) i.core.acts) told refl g

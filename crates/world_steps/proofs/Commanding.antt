@@ -14,10 +14,10 @@ use Rattle.container_steady.specs.Steady.{EachPair, InOrder, Steady}
 use Rattle.container_steady.specs.Taken.{edited}
 use Rattle.container_steady.proofs.Taken.{command_made}
 use Rattle.world_model.specs.declared.life.Life.{Life}
-use Rattle.world_model.specs.World.{ended_by, messages_of, started_by}
+use Rattle.world_model.specs.World.{ended_by, started_by}
 use Rattle.world_model.specs.Safe.{link_at, links_of}
 use Rattle.world_facts.specs.Shapes.{IsQuiet}
-use Rattle.world_facts.specs.Words.{Lives}
+use Rattle.world_facts.specs.Words.{Lives, all_said, sayings_of}
 use Rattle.world_steps.specs.Steps.{AsksInTurn, IsBegun, IsCommanded, IsTurned, asks_none, command_asks, command_begins, command_ends, command_starts}
 use Rattle.world_steps.proofs.Asking.{one_asked}
 use Rattle.world_steps.proofs.Handing.{save_turned}
@@ -27,10 +27,10 @@ use Rattle.world_steps.proofs.Turns.{one_turn}
 use Rattle.world_steps.proofs.Verbing.{claiming_turned, leaving_turned}
 
 -- where no link changes, and nothing is sent, started or ended, nobody is asked
-still_turned : (r : Record) (t : Took) → ((k : ℕ) → links_of t.rec.objects k ≡ links_of r.objects k) → t.rec.last_act ≡ r.last_act → t.rec.servers ≡ r.servers → t.answer.actions ≡ [] → IsTurned r t
-still_turned r t same last servers none = (
-  asks_none (links_of r.objects) (links_of t.rec.objects) (sayings_of t.answer.actions) same (ap messages_of none),
-  record { last_act = last; servers = ap length servers; starts = λ numbers. ap (started_by session numbers) none; ends = λ is. ap (λ actions. ended_by actions is) none },
+still_turned : (r : Record) (t : Took) → ((k : ℕ) → links_of t.rec.objects k ≡ links_of r.objects k) → t.rec.session ≡ r.session → t.rec.last_act ≡ r.last_act → t.rec.servers ≡ r.servers → t.answer.actions ≡ [] → IsTurned r t
+still_turned r t same session last servers none = (
+  asks_none (links_of r.objects) (links_of t.rec.objects) (sayings_of t.answer.actions) same (ap sayings_of none),
+  record { session = session; last_act = last; servers = ap length servers; starts = λ session numbers. ap (started_by session numbers) none; ends = λ is. ap (λ actions. ended_by actions is) none },
 )
 
 -- a new object is passive
@@ -69,18 +69,18 @@ edit_turned r n bytes x l s f xl =
     let a : Object = record x { link = Some (ask l (Edit bytes)).link } in
     let ms = (ask l (Edit bytes)).sent in
     let after = links_of (put (is_object x.number) a r.objects) in (
-      subst (AsksInTurn (links_of r.objects) after) (sym (messages_sends ms)) (one_turn (links_of r.objects) after ms (one_asked r n (Edit bytes) x l s f xl (edit_quiet bytes))),
-      record { last_act = refl; servers = refl; starts = λ numbers. no_start_sent numbers ms; ends = no_end_sent ms },
+      subst (AsksInTurn (links_of r.objects) after) (sym (messages_sends ms)) (one_turn (links_of r.objects) after (all_said ms) (one_asked r n (Edit bytes) x l s f xl (edit_quiet bytes))),
+      record { session = refl; last_act = refl; servers = refl; starts = λ session numbers. no_start_sent session numbers ms; ends = no_end_sent ms },
     )
 
 -- whatever a command makes
 module _ (r : Record) (lives : Lives) (owners : List ℕ) (s : Steady r) (own : (n : ℕ) → nth (owners ++ n ∷ []) (r.last_act + 1) ≡ Some n) (host : (inc : ℕ) → is_alive r inc ≡ true → (life : Life) × (lives inc ≡ Some life)) where
   made_commanded : (ns : List ℕ) (t : Took) → IsMade r t ns → IsCommanded r lives owners t ns
-  made_commanded _ t (makes_nothing made) = command_asks (subst (IsTurned r) made (still_turned r _ (λ k. refl) refl refl refl))
-  made_commanded _ t (makes_frame name w h new made) = command_asks (subst (IsTurned r) made (still_turned r _ (λ k. refl) refl refl refl))
-  made_commanded _ t (makes_object f kind area at made) = command_asks (subst (IsTurned r) made (still_turned r _ (λ k. link_more r.objects (new_object (r.last_object + 1) f (kind_of kind) area) k refl) refl refl refl))
+  made_commanded _ t (makes_nothing made) = command_asks (subst (IsTurned r) made (still_turned r _ (λ k. refl) refl refl refl refl))
+  made_commanded _ t (makes_frame name w h new made) = command_asks (subst (IsTurned r) made (still_turned r _ (λ k. refl) refl refl refl refl))
+  made_commanded _ t (makes_object f kind area at made) = command_asks (subst (IsTurned r) made (still_turned r _ (λ k. link_more r.objects (new_object (r.last_object + 1) f (kind_of kind) area) k refl) refl refl refl refl))
   made_commanded _ t (makes_fewer n at passive made) = command_asks (subst (IsTurned r) made
-      (still_turned r _ (λ k. without_links r.objects at.object.number k s.order (ap link_at at.own ∙ passive)) refl refl refl))
+      (still_turned r _ (λ k. without_links r.objects at.object.number k s.order (ap link_at at.own ∙ passive)) refl refl refl refl))
   made_commanded _ t (makes_server started made) = command_starts made
   made_commanded _ t (makes_end inc alive made) = command_ends inc made
   made_commanded _ t (makes_activation n inc at run made) = command_begins n (subst (IsBegun r lives (owners ++ n ∷ []) n) made (run_begins r lives (owners ++ n ∷ []) n inc at run s (own n) (host inc)))

@@ -13,9 +13,9 @@ use Rattle.container_model.specs.Saves.{cleared, kept, completed, completion, co
 use Rattle.container_steady.specs.Steady.{IsUnsettled, Steady}
 use Rattle.container_steady.proofs.SteadyContents.{completed_if, commits_answered_contents}
 use Rattle.container_steady.proofs.SteadyShapes.{asked_of}
-use Rattle.world_model.specs.World.{messages_of}
 use Rattle.world_model.specs.Safe.{Among, link_at, links_of}
 use Rattle.world_facts.specs.Shapes.{AskedAt, none, AsksAll, IsTold, CountsAll}
+use Rattle.world_facts.specs.Words.{all_said, sayings_of}
 use Rattle.world_facts.proofs.Lookups.{among_map, find_among}
 use Rattle.world_steps.specs.Steps.{IsPlain}
 use Rattle.world_steps.proofs.Objects.{found_held, found_number, messages_sends, no_start_sent, no_end_sent}
@@ -50,23 +50,23 @@ module _ (r : Record) (f : ℕ) (frame : Frame) (s : Steady r) (at : nth r.frame
   told : (n : ℕ) (o : Object) → find (is_object n) r.objects ≡ Some o → o.frame ≡ f → IsTold (links_of r.objects) frame.k fresh n op
   told n o e of = (is_some_name frame.asked, refl, (λ l g. content_of n o l e of (sym (ap link_at e) ∙ g)))
 
-  inside : (n : ℕ) (o : Object) (x : Option Link) → find (is_object n) r.objects ≡ Some o → o.frame ≡ f → o.link ≡ x → AskedAt (IsTold (links_of r.objects) frame.k fresh n) x (asked_link op (cleared x)) (asked_sent op x)
+  inside : (n : ℕ) (o : Object) (x : Option Link) → find (is_object n) r.objects ≡ Some o → o.frame ≡ f → o.link ≡ x → AskedAt (IsTold (links_of r.objects) frame.k fresh n) x (asked_link op (cleared x)) (all_said (asked_sent op x))
   inside n o None e of q = none refl refl refl
   inside n o (Some l) e of q = is_asked (IsTold (links_of r.objects) frame.k fresh n) l None op (told n o e of) (inr refl) (found_held r n l o s e q).steady.waits_behind
 
-  each : (n : ℕ) (o : Object) → find (is_object n) r.objects ≡ Some o → AskedAt (IsTold (links_of r.objects) frame.k fresh n) o.link (completed f frame o).link (asked_of f op o)
-  each n o e = completed_if (λ (z : Object). AskedAt (IsTold (links_of r.objects) frame.k fresh n) o.link z.link (asked_of f op o)) f frame o
-      (λ of. subst (λ (b : Bool). AskedAt (IsTold (links_of r.objects) frame.k fresh n) o.link (asked_link op (cleared o.link)) (if b then asked_sent op o.link else [])) (sym (eq-eqb o.frame f of)) (inside n o o.link e of refl))
-      (λ ne. subst (λ (b : Bool). AskedAt (IsTold (links_of r.objects) frame.k fresh n) o.link o.link (if b then asked_sent op o.link else [])) (sym (ne_eqb o.frame f ne)) (unasked (IsTold (links_of r.objects) frame.k fresh n) o.link))
+  each : (n : ℕ) (o : Object) → find (is_object n) r.objects ≡ Some o → AskedAt (IsTold (links_of r.objects) frame.k fresh n) o.link (completed f frame o).link (all_said (asked_of f op o))
+  each n o e = completed_if (λ (z : Object). AskedAt (IsTold (links_of r.objects) frame.k fresh n) o.link z.link (all_said (asked_of f op o))) f frame o
+      (λ of. subst (λ (b : Bool). AskedAt (IsTold (links_of r.objects) frame.k fresh n) o.link (asked_link op (cleared o.link)) (all_said (if b then asked_sent op o.link else []))) (sym (eq-eqb o.frame f of)) (inside n o o.link e of refl))
+      (λ ne. subst (λ (b : Bool). AskedAt (IsTold (links_of r.objects) frame.k fresh n) o.link o.link (all_said (if b then asked_sent op o.link else []))) (sym (ne_eqb o.frame f ne)) (unasked (IsTold (links_of r.objects) frame.k fresh n) o.link))
 
   -- no save of this number of these objects was counted before
   pub commit_counts : (counted : List Done) → ((d e : Done) → Among counted d → Among fresh e → d.object ≡ e.object → d.k ≡ frame.k → ⊥)
-      → CountsAll (links_of r.objects) (links_of (commit_made r f frame).rec.objects) counted frame.k fresh (messages_of (commit_made r f frame).answer.actions)
+      → CountsAll (links_of r.objects) (links_of (commit_made r f frame).rec.objects) counted frame.k fresh (sayings_of (commit_made r f frame).answer.actions)
   commit_counts counted apart = record {
     tells = subst (λ ms. AsksAll (IsTold (links_of r.objects) frame.k fresh) (links_of r.objects) (links_of (map (completed f frame) r.objects)) ms) (sym (messages_sends (asked_all f op r.objects)))
-        (all_mapped (IsTold (links_of r.objects) frame.k fresh) r.objects (completed f frame) (asked_of f op) (asked_all f op r.objects) (λ o. completed_if (λ (z : Object). z.number ≡ o.number) f frame o (λ e. refl) (λ e. refl)) each (λ m h. who_is_asked r.objects f op m (ordered_rise r.objects s.order) h));
+        (all_mapped (IsTold (links_of r.objects) frame.k fresh) r.objects (completed f frame) (λ o. all_said (asked_of f op o)) (all_said (asked_all f op r.objects)) (λ o. completed_if (λ (z : Object). z.number ≡ o.number) f frame o (λ e. refl) (λ e. refl)) each (λ m h. who_is_asked r.objects f op m (ordered_rise r.objects s.order) h));
     apart = apart;
   }
 
   pub commit_plain : IsPlain r (commit_made r f frame)
-  commit_plain = record { last_act = refl; servers = refl; starts = λ numbers. no_start_sent numbers (asked_all f op r.objects); ends = no_end_sent (asked_all f op r.objects) }
+  commit_plain = record { session = refl; last_act = refl; servers = refl; starts = λ session numbers. no_start_sent session numbers (asked_all f op r.objects); ends = no_end_sent (asked_all f op r.objects) }

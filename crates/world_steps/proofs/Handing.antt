@@ -18,12 +18,13 @@ use Rattle.container_model.specs.Commands.{save_made, saving, saving_on}
 use Rattle.container_steady.specs.Steady.{EachPair, Steady}
 use Rattle.container_steady.proofs.SteadyTests.{found_numbered}
 use Rattle.world_model.specs.Safe.{links_of}
+use Rattle.world_facts.specs.Words.{all_said}
 use Rattle.world_facts.specs.Shapes.{IsQuiet}
 use Rattle.world_facts.proofs.Lookups.{map_put, map_map_same}
 use Rattle.world_steps.specs.Steps.{AsksInTurn, asks_first, asks_none, IsTurned}
-use Rattle.world_steps.proofs.Objects.{Waits, steady_waits, sent_of, no_start, no_start_settled, no_end, no_end_settled}
+use Rattle.world_steps.proofs.Objects.{Waits, steady_waits, said_join, sent_of, no_start, no_start_settled, no_end, no_end_settled}
 use Rattle.world_steps.proofs.Asking.{Rising, asked_number, frame_asked, numbers, ordered_rise}
-use Rattle.world_steps.proofs.Turns.{one_turn, turns_join, waits_asked}
+use Rattle.world_steps.proofs.Turns.{one_turn, turns_further, waits_asked}
 
 -- what an object that is asked next leans on
 pub record IsOrderly (r : Record) : Type 0 where
@@ -39,20 +40,21 @@ rises_same os us e h = subst (EachPair ◌<◌) (sym e) h
 
 -- operations are asked, and frames change alone besides
 pub record IsHanded (r : Record) (v : Requested) : Type 0 where
-  pub asked : AsksInTurn (links_of r.objects) (links_of v.rec.objects) v.sent
+  pub asked : AsksInTurn (links_of r.objects) (links_of v.rec.objects) (all_said v.sent)
   pub orderly : IsOrderly v.rec
   pub servers : v.rec.servers ≡ r.servers
+  pub session : v.rec.session ≡ r.session
   pub last_act : v.rec.last_act ≡ r.last_act
 
 none_handed : (r : Record) → IsOrderly r → IsHanded r (not_handed r)
-none_handed r h = record { asked = asks_none (links_of r.objects) (links_of r.objects) [] (λ o. refl) refl; orderly = h; servers = refl; last_act = refl }
+none_handed r h = record { asked = asks_none (links_of r.objects) (links_of r.objects) [] (λ o. refl) refl; orderly = h; servers = refl; session = refl; last_act = refl }
 
 hands_quiet : IsQuiet HandsOff
 hands_quiet = λ k storage e. cc
 
 asked_orderly : (os : List Object) (f : ℕ) (op : Operation) → IsQuiet op → Waits (links_of os) → Rising os → Waits (links_of (map (asked_object f op) os)) × Rising (map (asked_object f op) os)
 asked_orderly os f op q w rise = (
-  waits_asked (λ o p. IsQuiet p) (links_of os) (links_of (map (asked_object f op) os)) (asked_all f op os) (frame_asked os f op w rise q) w,
+  waits_asked (λ o p. IsQuiet p) (links_of os) (links_of (map (asked_object f op) os)) (all_said (asked_all f op os)) (frame_asked os f op w rise q) w,
   rises_same os (map (asked_object f op) os) (map_map_same (λ (o : Object). o.number) (asked_object f op) os (asked_number f op)) rise,
 )
 
@@ -60,9 +62,10 @@ frame_handed : (r : Record) (f : ℕ) (frame : Frame) → IsOrderly r → IsHand
 frame_handed r f frame h =
     let o = asked_orderly r.objects f HandsOff hands_quiet h.waits h.rises in
     record {
-      asked = one_turn (links_of r.objects) (links_of (map (asked_object f HandsOff) r.objects)) (asked_all f HandsOff r.objects) (frame_asked r.objects f HandsOff h.waits h.rises hands_quiet);
+      asked = one_turn (links_of r.objects) (links_of (map (asked_object f HandsOff) r.objects)) (all_said (asked_all f HandsOff r.objects)) (frame_asked r.objects f HandsOff h.waits h.rises hands_quiet);
       orderly = record { waits = o.0; rises = o.1 };
       servers = refl;
+      session = refl;
       last_act = refl;
     }
 
@@ -79,9 +82,10 @@ handed_if false r f h = none_handed r h
 
 pub handed_further : (r : Record) (v u : Requested) → IsHanded r v → IsHanded v.rec u → IsHanded r (further v u)
 handed_further r v u h k = record {
-  asked = turns_join (links_of r.objects) (links_of v.rec.objects) (links_of u.rec.objects) v.sent u.sent h.asked k.asked;
+  asked = turns_further (links_of r.objects) (links_of v.rec.objects) (links_of u.rec.objects) v.sent u.sent h.asked k.asked;
   orderly = k.orderly;
   servers = k.servers ∙ h.servers;
+  session = k.session ∙ h.session;
   last_act = k.last_act ∙ h.last_act;
 }
 
@@ -109,11 +113,12 @@ save_turned r f frame name s =
     let k = handed_in v f (record { waits = o.0; rises = o.1 }) in
     let ms = first ++ u.sent in (
       subst (AsksInTurn (links_of r.objects) (links_of u.rec.objects)) (sym (sent_of ms 1 u.rec.objects u.rec.frames))
-          (asks_first (links_of r.objects) (links_of v.objects) (links_of u.rec.objects) first u.sent ms (frame_asked r.objects f op h.waits h.rises (save_quiet (frame.k + 1))) k.asked refl),
+          (asks_first (links_of r.objects) (links_of v.objects) (links_of u.rec.objects) (all_said first) (all_said u.sent) (all_said ms) (frame_asked r.objects f op h.waits h.rises (save_quiet (frame.k + 1))) k.asked (said_join first u.sent)),
       record {
+        session = k.session;
         last_act = k.last_act;
         servers = ap length k.servers;
-        starts = λ count. no_start count ms (settle_actions u.rec) (no_start_settled count 1 u.rec.objects u.rec.frames);
+        starts = λ session count. no_start session count ms (settle_actions u.rec) (no_start_settled session count 1 u.rec.objects u.rec.frames);
         ends = λ is. no_end ms (settle_actions u.rec) is (no_end_settled 1 u.rec.objects u.rec.frames is);
       },
     )

@@ -4,7 +4,7 @@ use Rattle.std.specs.Prelude.{IfSome}
 use Rattle.std.proofs.lemmas.Bool.{eqb-true}
 use Rattle.std.proofs.lemmas.List.{append-nil}
 use Rattle.wire_msgs.specs.Found.{find, put, nth}
-use Rattle.wire_msgs.specs.declared.message.Said.{Said}
+use Rattle.wire_msgs.specs.declared.message.Message.{Message}
 use Rattle.container_model.specs.Record.{Record, is_object, sends}
 use Rattle.container_model.specs.Saves.{settled_action, settled_actions, is_ready}
 use Rattle.container_model.specs.declared.answer.Action.{Action}
@@ -20,7 +20,7 @@ use Rattle.container_steady.proofs.SteadyFinds.{found_by_number, put_by_number, 
 use Rattle.world_model.specs.World.{Instance, messages_of, of_container, started_by, ended_by}
 use Rattle.world_model.specs.declared.logs.Sent.{Sent}
 use Rattle.world_model.specs.Safe.{link_at, links_of, sayings}
-use Rattle.world_facts.specs.Words.{Links}
+use Rattle.world_facts.specs.Words.{Links, all_said, sayings_of}
 use Rattle.world_facts.proofs.Lookups.{find_passes}
 
 -- a link is an object's, in a frame, and steady there
@@ -76,10 +76,18 @@ module _ (os : List Object) (test : Object → Bool) (x a : Object) (order : Eac
 pub link_mapped : (g : Object → Object) (os : List Object) (n : ℕ) → ((o : Object) → (g o).number ≡ o.number) → links_of (map g os) n ≡ link_at (option_map g (find (is_object n) os))
 link_mapped g os n number = ap link_at (find-map n g os number)
 
--- sayings of actions
-pub messages_sends : (ms : List Said) → messages_of (sends ms) ≡ ms
-messages_sends [] = refl
-messages_sends (m ∷ ms) = ap (λ v. m ∷ v) (messages_sends ms)
+-- what is said by lists of messages that are joined
+pub said_join : (xs ys : List Message) → all_said (xs ++ ys) ≡ all_said xs ++ all_said ys
+said_join [] ys = refl
+said_join (m ∷ xs) ys = ap (λ v. m.said ∷ v) (said_join xs ys)
+
+-- messages of actions
+messages_back : (ms : List Message) → messages_of (sends ms) ≡ ms
+messages_back [] = refl
+messages_back (m ∷ ms) = ap (λ v. m ∷ v) (messages_back ms)
+
+pub messages_sends : (ms : List Message) → sayings_of (sends ms) ≡ all_said ms
+messages_sends ms = ap all_said (messages_back ms)
 
 messages_join : (xs ys : List Action) → messages_of (xs ++ ys) ≡ messages_of xs ++ messages_of ys
 messages_join [] ys = refl
@@ -95,33 +103,33 @@ pub messages_settled : (f : ℕ) (os : List Object) (frames : List Frame) → me
 messages_settled f os [] = refl
 messages_settled f os (frame ∷ frames) = messages_settled_one f os frame (settled_actions (f + 1) os frames) ∙ messages_settled (f + 1) os frames
 
--- the sayings of an answer that sends some and goes on with saves
-pub sent_of : (ms : List Said) (f : ℕ) (os : List Object) (frames : List Frame) → messages_of (sends ms ++ settled_actions f os frames) ≡ ms
-sent_of ms f os frames = messages_join (sends ms) (settled_actions f os frames) ∙ (ap (λ v. messages_of (sends ms) ++ v) (messages_settled f os frames) ∙ (append-nil (messages_of (sends ms)) ∙ messages_sends ms))
+-- what is said by an answer that sends messages and goes on with saves
+pub sent_of : (ms : List Message) (f : ℕ) (os : List Object) (frames : List Frame) → sayings_of (sends ms ++ settled_actions f os frames) ≡ all_said ms
+sent_of ms f os frames = ap all_said (messages_join (sends ms) (settled_actions f os frames) ∙ (ap (λ v. messages_of (sends ms) ++ v) (messages_settled f os frames) ∙ (append-nil (messages_of (sends ms)) ∙ messages_back ms)))
 
 -- no server is started by what is sent, nor by saves that go on
-pub no_start : (numbers : ℕ) (ms : List Said) (rest : List Action) → started_by session numbers rest ≡ [] → started_by session numbers (sends ms ++ rest) ≡ []
-no_start numbers [] rest h = h
-no_start numbers (m ∷ ms) rest h = no_start numbers ms rest h
+pub no_start : (session numbers : ℕ) (ms : List Message) (rest : List Action) → started_by session numbers rest ≡ [] → started_by session numbers (sends ms ++ rest) ≡ []
+no_start session numbers [] rest h = h
+no_start session numbers (m ∷ ms) rest h = no_start session numbers ms rest h
 
-pub no_start_sent : (numbers : ℕ) (ms : List Said) → started_by session numbers (sends ms) ≡ []
-no_start_sent numbers [] = refl
-no_start_sent numbers (m ∷ ms) = no_start_sent numbers ms
+pub no_start_sent : (session numbers : ℕ) (ms : List Message) → started_by session numbers (sends ms) ≡ []
+no_start_sent session numbers [] = refl
+no_start_sent session numbers (m ∷ ms) = no_start_sent session numbers ms
 
-pub no_start_settled : (numbers f : ℕ) (os : List Object) (frames : List Frame) → started_by session numbers (settled_actions f os frames) ≡ []
-no_start_settled numbers f os [] = refl
-no_start_settled numbers f os (frame ∷ frames) =
+pub no_start_settled : (session numbers f : ℕ) (os : List Object) (frames : List Frame) → started_by session numbers (settled_actions f os frames) ≡ []
+no_start_settled session numbers f os [] = refl
+no_start_settled session numbers f os (frame ∷ frames) =
     elim (is_ready f os frame) as (λ b. started_by session numbers ((if b then Commit f ∷ [] else []) ++ settled_actions (f + 1) os frames) ≡ []) [
-      | true ↦ no_start_settled numbers (f + 1) os frames
-      | false ↦ no_start_settled numbers (f + 1) os frames
+      | true ↦ no_start_settled session numbers (f + 1) os frames
+      | false ↦ no_start_settled session numbers (f + 1) os frames
     ]
 
 -- nor is one ended
-pub no_end : (ms : List Said) (rest : List Action) (is : List Instance) → ended_by rest is ≡ is → ended_by (sends ms ++ rest) is ≡ is
+pub no_end : (ms : List Message) (rest : List Action) (is : List Instance) → ended_by rest is ≡ is → ended_by (sends ms ++ rest) is ≡ is
 no_end [] rest is h = h
 no_end (m ∷ ms) rest is h = no_end ms rest is h
 
-pub no_end_sent : (ms : List Said) (is : List Instance) → ended_by (sends ms) is ≡ is
+pub no_end_sent : (ms : List Message) (is : List Instance) → ended_by (sends ms) is ≡ is
 no_end_sent [] is = refl
 no_end_sent (m ∷ ms) is = no_end_sent ms is
 
@@ -133,11 +141,11 @@ no_end_settled f os (frame ∷ frames) is =
       | false ↦ no_end_settled (f + 1) os frames is
     ]
 
--- the log of what is sent
+-- what is said in the log of what is sent
 pub messages_of_log : (xs ys : List Sent) → sayings (xs ++ ys) ≡ sayings xs ++ sayings ys
 messages_of_log [] ys = refl
-messages_of_log (x ∷ xs) ys = ap (λ v. x.message ∷ v) (messages_of_log xs ys)
+messages_of_log (x ∷ xs) ys = ap (λ v. x.message.said ∷ v) (messages_of_log xs ys)
 
-pub messages_told : (ms : List Said) → sayings (map of_container ms) ≡ ms
+pub messages_told : (ms : List Message) → sayings (map of_container ms) ≡ all_said ms
 messages_told [] = refl
-messages_told (m ∷ ms) = ap (λ v. m ∷ v) (messages_told ms)
+messages_told (m ∷ ms) = ap (λ v. m.said ∷ v) (messages_told ms)

@@ -6,9 +6,9 @@ use Rattle.container_model.specs.declared.record.Object.{Object}
 use Rattle.container_model.specs.Record.{Record, Took, is_object}
 use Rattle.container_model.specs.Opens.{Given, opened, opened_object, opened_objects}
 use Rattle.container_steady.proofs.Opening.{is_opened}
-use Rattle.world_model.specs.World.{messages_of}
 use Rattle.world_model.specs.Safe.{link_at, links_of}
 use Rattle.world_facts.specs.Shapes.{AsksAll, IsQuiet}
+use Rattle.world_facts.specs.Words.{sayings_of}
 use Rattle.world_steps.specs.Steps.{IsPlain}
 use Rattle.world_steps.proofs.Asking.{none_asked}
 
@@ -25,5 +25,5 @@ links_opened (z ∷ os) last f ds n = elim (z.number == n) as (λ b. link_at (if
 pub open_asks : (r : Record) (name : List ℕ) (w h : ℕ) (given : Given) (t : Took) → opened r name w h given ≡ Ok t → AsksAll (λ o op. IsQuiet op) (links_of r.objects) (links_of t.rec.objects) (sayings_of t.answer.actions) × IsPlain r t
 open_asks r name w h given t e =
     let k = is_opened r name w h given t e in
-    subst (λ (v : Took). AsksAll (λ o op. IsQuiet op) (links_of r.objects) (links_of v.rec.objects) (messages_of v.answer.actions) × IsPlain r v) k.made
-    (none_asked (links_of r.objects) _ (links_opened r.objects r.last_object _ k.d.objects), record { last_act = refl; servers = refl; starts = λ numbers. refl; ends = λ is. refl })
+    subst (λ (v : Took). AsksAll (λ o op. IsQuiet op) (links_of r.objects) (links_of v.rec.objects) (sayings_of v.answer.actions) × IsPlain r v) k.made
+    (none_asked (links_of r.objects) _ (links_opened r.objects r.last_object _ k.d.objects), record { session = refl; last_act = refl; servers = refl; starts = λ session numbers. refl; ends = λ is. refl })

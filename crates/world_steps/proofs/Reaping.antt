@@ -13,16 +13,15 @@ use Rattle.container_model.specs.Messages.{reaped_object, reaped, reaped_grants,
 use Rattle.container_steady.specs.Steady.{Steady}
 use Rattle.container_steady.proofs.SteadyRecords.{if_told}
 use Rattle.world_model.specs.declared.life.Life.TheVariants.{Running}
-use Rattle.world_model.specs.World.{messages_of}
 use Rattle.world_model.specs.Safe.{link_at, links_of}
-use Rattle.world_facts.specs.Words.{Acts, Lives}
+use Rattle.world_facts.specs.Words.{Acts, Lives, all_said, sayings_of}
 use Rattle.world_facts.specs.Shapes.{MayGo, is_over, EndsSome}
 use Rattle.world_facts.proofs.Lookups.{length_set_nth, map_map_same}
 use Rattle.world_steps.specs.Steps.{IsPlain, AsksInTurn, IsReaped}
 use Rattle.world_steps.proofs.Asking.{Rising, ordered_rise}
 use Rattle.world_steps.proofs.Handing.{IsOrderly, all_handed, grants_numbers, rises_same}
 use Rattle.world_steps.proofs.Objects.{Waits, steady_waits, link_mapped, sent_of, no_start, no_start_settled, no_end, no_end_settled}
-use Rattle.world_steps.proofs.Turns.{waits_ended, grants_keep, grants_asked, turns_join, turns_wait}
+use Rattle.world_steps.proofs.Turns.{waits_ended, grants_keep, grants_asked, turns_further, turns_wait}
 
 reaped_number : (inc : ℕ) (o : Object) (x : Option Link) → (reaped_object inc o x).number ≡ o.number
 reaped_number inc o None = refl
@@ -59,7 +58,7 @@ module _ (hostile : List ℕ) (r : Record) (acts0 : Acts) (lives : Lives) (inc :
   taken false m t g = cc
 
   -- whoever waits for a frame that is free by it is told of its grant, and then storages may be asked for
-  made_reaped : IsReaped hostile (links_of r.objects) (links_of (reap_made r inc).rec.objects) acts0 lives (messages_of (reap_made r inc).answer.actions) × IsPlain r (reap_made r inc)
+  made_reaped : IsReaped hostile (links_of r.objects) (links_of (reap_made r inc).rec.objects) acts0 lives (sayings_of (reap_made r inc).answer.actions) × IsPlain r (reap_made r inc)
   made_reaped =
       let u = reaped r inc in
       let freed = record u { frames = map (freed_frame inc r.objects) u.frames } in
@@ -70,7 +69,7 @@ module _ (hostile : List ℕ) (r : Record) (acts0 : Acts) (lives : Lives) (inc :
       let granted = grants_asked claims freed waits in
       let rises : Rising u.objects = rises_same r.objects u.objects (map_map_same (λ (o : Object). o.number) after r.objects (λ o. reaped_number inc o o.link)) (ordered_rise r.objects steady.order) in
       let orderly : IsOrderly v.rec = record {
-        waits = turns_wait (links_of u.objects) (links_of v.rec.objects) v.sent granted waits;
+        waits = turns_wait (links_of u.objects) (links_of v.rec.objects) (all_said v.sent) granted waits;
         rises = rises_same u.objects v.rec.objects (grants_numbers claims freed) rises;
       } in
       let w = reaped_saving r inc in
@@ -80,15 +79,16 @@ module _ (hostile : List ℕ) (r : Record) (acts0 : Acts) (lives : Lives) (inc :
           between = links_of u.objects;
           ends = over;
           asked = subst (AsksInTurn (links_of u.objects) (links_of w.rec.objects)) (sym (sent_of ms 1 w.rec.objects w.rec.frames))
-              (turns_join (links_of u.objects) (links_of v.rec.objects) (links_of w.rec.objects) v.sent w.sent granted k.asked);
+              (turns_further (links_of u.objects) (links_of v.rec.objects) (links_of w.rec.objects) v.sent w.sent granted k.asked);
         },
         record {
+          session = k.session ∙ rest.session;
           last_act = k.last_act ∙ rest.last_act;
           servers = ap length (k.servers ∙ rest.servers) ∙ length_set_nth r.servers inc true;
-          starts = λ count. no_start count ms (settle_actions w.rec) (no_start_settled count 1 w.rec.objects w.rec.frames);
+          starts = λ session count. no_start session count ms (settle_actions w.rec) (no_start_settled session count 1 w.rec.objects w.rec.frames);
           ends = λ is. no_end ms (settle_actions w.rec) is (no_end_settled 1 w.rec.objects w.rec.frames is);
         },
       )
 
   pub reap_ends : (t : Took) → on_reap r inc ≡ Ok t → IsReaped hostile (links_of r.objects) (links_of t.rec.objects) acts0 lives (sayings_of t.answer.actions) × IsPlain r t
-  reap_ends t e = subst (λ (x : Took). IsReaped hostile (links_of r.objects) (links_of x.rec.objects) acts0 lives (messages_of x.answer.actions) × IsPlain r x) (taken (is_alive r inc) (reap_made r inc) t e) made_reaped
+  reap_ends t e = subst (λ (x : Took). IsReaped hostile (links_of r.objects) (links_of x.rec.objects) acts0 lives (sayings_of x.answer.actions) × IsPlain r x) (taken (is_alive r inc) (reap_made r inc) t e) made_reaped

@@ -10,12 +10,13 @@ use Rattle.container_model.specs.declared.fault.ContainerFault.{ContainerFault}
 use Rattle.container_model.specs.declared.fault.ContainerFault.TheVariants.{Stale, WrongLink}
 use Rattle.container_model.specs.Record.{Record, Took, acts, counts_none, sends, is_linked, is_alive, with_frame}
 use Rattle.container_model.specs.Grants.{moved}
-use Rattle.container_model.specs.Messages.{is_held_by, relieved, ask_framed, ask_found, on_message}
+use Rattle.container_model.specs.Messages.{is_held_by, relieved, ask_framed, ask_found}
+use Rattle.container_model.proofs.SaidOn.{said_on}
 use Rattle.container_steady.specs.Steady.{Steady}
 use Rattle.container_steady.proofs.SteadyRecords.{if_told}
-use Rattle.world_model.specs.World.{messages_of}
 use Rattle.world_model.specs.Safe.{links_of}
 use Rattle.world_facts.specs.Shapes.{AsksAll, IsQuiet}
+use Rattle.world_facts.specs.Words.{sayings_of}
 use Rattle.world_steps.specs.Steps.{IsPlain}
 use Rattle.world_steps.proofs.Objects.{messages_sends, no_start_sent, no_end_sent, steady_waits}
 use Rattle.world_steps.proofs.Turns.{request_keeps, request_asks}
@@ -35,7 +36,7 @@ module _ (r : Record) (s : Steady r) where
       let rest = request_keeps v o.number UiDeactivate in
       let u = relieved r o act g frame in (
         subst (AsksAll (λ o op. IsQuiet op) (links_of r.objects) (links_of u.rec.objects)) (sym (messages_sends u.sent)) asked,
-        record { last_act = rest.last_act; servers = ap length rest.servers; starts = λ numbers. no_start_sent numbers u.sent; ends = no_end_sent u.sent },
+        record { session = rest.session; last_act = rest.last_act; servers = ap length rest.servers; starts = λ session numbers. no_start_sent session numbers u.sent; ends = no_end_sent u.sent },
       )
 
   framed_asks : (o : Object) (act g : ℕ) (frame : Option Frame) (t : Took) → ask_framed r o act g frame ≡ Ok t → Result_of t
@@ -49,7 +50,7 @@ module _ (r : Record) (s : Steady r) where
   found_asks act g (Some o) t e = framed_asks o act g (nth r.frames o.frame) t e
 
 -- Ask
-pub ask_asks : (r : Record) (inc act g : ℕ) (t : Took) → Steady r → on_message r inc (Ask inc act g) ≡ Ok t
+pub ask_asks : (r : Record) (inc act g : ℕ) (t : Took) → Steady r → said_on r inc (Ask inc act g) ≡ Ok t
     → AsksAll (λ o op. IsQuiet op) (links_of r.objects) (links_of t.rec.objects) (sayings_of t.answer.actions) × IsPlain r t
 ask_asks r inc act g t s e = at (inc == inc) (is_alive r inc) e
   where

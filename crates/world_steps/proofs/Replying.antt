@@ -22,15 +22,15 @@ use Rattle.container_model.specs.declared.fault.ContainerFault.TheVariants.{Stal
 use Rattle.container_model.specs.Record.{Record, Took, is_linked, is_link, is_alive}
 use Rattle.container_model.specs.Saves.{settle_actions, kept_in}
 use Rattle.container_model.specs.HandOffs.{is_answered}
-use Rattle.container_model.specs.Messages.{Replied, is_fit, replied, next_at, next_link, next_sent, replied_object, replied_record, replied_grant, replied_saving, reply_made, reply_taken, reply_pending, reply_link, reply_found, on_message}
+use Rattle.container_model.specs.Messages.{Replied, is_fit, replied, next_at, next_link, next_sent, replied_object, replied_record, replied_grant, replied_saving, reply_made, reply_taken, reply_pending, reply_link, reply_found}
+use Rattle.container_model.proofs.SaidOn.{said_on}
 use Rattle.container_model.specs.declared.answer.Done.{Done}
 use Rattle.container_steady.specs.Steady.{IsOpenWhileClosing, WaitsBehind, Steady}
 use Rattle.container_steady.proofs.SteadyCloses.{closes-are_open}
-use Rattle.world_model.specs.World.{messages_of}
 use Rattle.world_model.specs.Safe.{Among, is_hostile, links_of}
 use Rattle.world_model.specs.declared.logs.Sent.{Sent}
 use Rattle.world_model.specs.declared.logs.ServerDone.{ServerDone}
-use Rattle.world_facts.specs.Words.{Links, Acts, Lives, IsHonest, IsClosed}
+use Rattle.world_facts.specs.Words.{Links, Acts, Lives, IsHonest, IsClosed, all_said, sayings_of}
 use Rattle.world_facts.specs.Facts.{InStep, not_begun, level, behind, ahead, Did, HasSaved, Facts}
 use Rattle.world_facts.specs.Shapes.{MayGo, is_closed, of_hostile, Settles, SendsNext}
 use Rattle.world_facts.specs.Views.{IsSeen, Views}
@@ -39,9 +39,9 @@ use Rattle.world_facts.proofs.Lookups.{find_passes, map_put}
 use Rattle.world_steps.specs.Steps.{IsPlain, IsAnswered, settled, goes_on, ended, IsReplied}
 use Rattle.world_steps.proofs.Asking.{Rising, ordered_rise}
 use Rattle.world_steps.proofs.Handing.{IsOrderly, handed_if, regranted_numbers, rises_same}
-use Rattle.world_steps.proofs.Objects.{Waits, steady_waits, link_was, put_here, put_there, sent_of, no_start, no_start_settled, no_end, no_end_settled}
+use Rattle.world_steps.proofs.Objects.{Waits, steady_waits, link_was, put_here, put_there, said_join, sent_of, no_start, no_start_settled, no_end, no_end_settled}
 use Rattle.world_steps.proofs.Taking.{brought}
-use Rattle.world_steps.proofs.Turns.{regrants, turns_join, turns_wait}
+use Rattle.world_steps.proofs.Turns.{regrants, turns_further, turns_wait}
 use Rattle.world_steps.proofs.Verbing.{ok_took}
 use Rattle.world_steps.proofs.Answers.{IsSettled, IsLevel, Outcome, settles, gone, reply_outcome}
 
@@ -158,6 +158,7 @@ module _ {hostile : List ℕ} (r : Record) (acts : Acts) (lives : Lives) (sent :
           was = at_x;
           is = here (Some after);
           others = there (Some after);
+          session = e.session;
           inc = e.inc;
           act = e.act;
           last = e.last;
@@ -169,7 +170,7 @@ module _ {hostile : List ℕ} (r : Record) (acts : Acts) (lives : Lives) (sent :
 
     -- the next one that waits is sent
     sending : (after : Link) (op : Operation) (rest : List Operation) → after.pending ≡ None → after.waiting ≡ op ∷ rest
-        → SendsNext (links_of (objects (Some after))) (links_of (objects (Some (next_at after (op ∷ rest)).link))) x.number (next_at after (op ∷ rest)).sent
+        → SendsNext (links_of (objects (Some after))) (links_of (objects (Some (next_at after (op ∷ rest)).link))) x.number (all_said (next_at after (op ∷ rest)).sent)
     sending after op rest free w =
         let new : Link = (next_at after (op ∷ rest)).link in
         record {
@@ -180,7 +181,7 @@ module _ {hostile : List ℕ} (r : Record) (acts : Acts) (lives : Lives) (sent :
           was = here (Some after);
           is = here (Some new);
           others = λ k ne. there (Some new) k ne ∙ sym (there (Some after) k ne);
-          called = record { inc = refl; act = refl; free = free; last = refl; pending = refl; states = refl; s = refl; saved = inl refl };
+          called = record { session = refl; inc = refl; act = refl; free = free; last = refl; pending = refl; states = refl; s = refl; saved = inl refl };
           waited = w;
           waiting = refl;
           sends = refl;
@@ -189,7 +190,7 @@ module _ {hostile : List ℕ} (r : Record) (acts : Acts) (lives : Lives) (sent :
     abbrev Shown : Option Link → List Said → Type 0
     Shown link more = IsAnswered hostile (links_of r.objects) (links_of (objects link)) acts lives more
 
-    by_waiting : (after : Link) → IsSettled h.l after → Levels after → (ws : List Operation) → after.waiting ≡ ws → Shown (Some (next_at after ws).link) (next_at after ws).sent
+    by_waiting : (after : Link) → IsSettled h.l after → Levels after → (ws : List Operation) → after.waiting ≡ ws → Shown (Some (next_at after ws).link) (all_said (next_at after ws).sent)
     by_waiting after e levels [] q = settled x.number (settling after e levels) refl
     by_waiting after e levels (op ∷ rest) q = goes_on x.number (links_of (objects (Some after))) (settling after e levels) (sending after op rest e.pending q)
 
@@ -213,11 +214,11 @@ module _ {hostile : List ℕ} (r : Record) (acts : Acts) (lives : Lives) (sent :
       ];
     }) refl
 
-    shown : Outcome h.l h.op answer p → Shown (next_link p.link) (next_sent p.link)
-    shown (settles after e t levels) = subst (λ z. Shown (next_link z) (next_sent z)) (sym e) (by_waiting after t levels after.waiting refl)
-    shown (gone e closes) = subst (λ z. Shown (next_link z) (next_sent z)) (sym e) (ending closes)
+    shown : Outcome h.l h.op answer p → Shown (next_link p.link) (all_said (next_sent p.link))
+    shown (settles after e t levels) = subst (λ z. Shown (next_link z) (all_said (next_sent z))) (sym e) (by_waiting after t levels after.waiting refl)
+    shown (gone e closes) = subst (λ z. Shown (next_link z) (all_said (next_sent z))) (sym e) (ending closes)
 
-    is_shown : Shown (next_link p.link) (next_sent p.link)
+    is_shown : Shown (next_link p.link) (all_said (next_sent p.link))
     is_shown = shown (reply_outcome h.l h.op answer p h.told)
 
     -- and then no operation waits where none is pending
@@ -262,23 +263,24 @@ module _ {hostile : List ℕ} (r : Record) (acts : Acts) (lives : Lives) (sent :
       let g = regrants u x.frame waits p.grant in
       let rises : Rising u.objects = rises_same r.objects u.objects (map_put (λ (o : Object). o.number) (is_linked inc act) (replied_object x p) x r.objects found refl) (ordered_rise r.objects s.order) in
       let orderly : IsOrderly v.rec = record {
-        waits = turns_wait (links_of u.objects) (links_of v.rec.objects) v.sent g.asked waits;
+        waits = turns_wait (links_of u.objects) (links_of v.rec.objects) (all_said v.sent) g.asked waits;
         rises = rises_same u.objects v.rec.objects (regranted_numbers u x.frame p.grant) rises;
       } in
       let k = handed_if (is_answered x.link p.link) v.rec x.frame orderly in
       let ms = next_sent p.link ++ v.sent ++ w.sent in (
         record {
           between = links_of u.objects;
-          first = next_sent p.link;
-          rest = v.sent ++ w.sent;
+          first = all_said (next_sent p.link);
+          rest = all_said (v.sent ++ w.sent);
           answered = is_shown x p h found;
-          asked = turns_join (links_of u.objects) (links_of v.rec.objects) (links_of w.rec.objects) v.sent w.sent g.asked k.asked;
-          joined = sent_of ms 1 w.rec.objects w.rec.frames ∙ append_assoc (next_sent p.link) v.sent w.sent;
+          asked = turns_further (links_of u.objects) (links_of v.rec.objects) (links_of w.rec.objects) v.sent w.sent g.asked k.asked;
+          joined = sent_of ms 1 w.rec.objects w.rec.frames ∙ (ap all_said (append_assoc (next_sent p.link) v.sent w.sent) ∙ said_join (next_sent p.link) (v.sent ++ w.sent));
         },
         record {
+          session = k.session ∙ g.session;
           last_act = k.last_act ∙ g.last_act;
           servers = ap length (k.servers ∙ g.servers);
-          starts = λ count. no_start count ms (settle_actions w.rec) (no_start_settled count 1 w.rec.objects w.rec.frames);
+          starts = λ session count. no_start session count ms (settle_actions w.rec) (no_start_settled session count 1 w.rec.objects w.rec.frames);
           ends = λ is. no_end ms (settle_actions w.rec) is (no_end_settled 1 w.rec.objects w.rec.frames is);
         },
       )
@@ -291,7 +293,7 @@ module _ {hostile : List ℕ} (r : Record) (acts : Acts) (lives : Lives) (sent :
   found_shows None t found e = cc
   found_shows (Some x) t found e = taken_shows x (reply_link n answer x.link) t found refl e
 
-  pub reply_answers : (t : Took) → on_message r inc (Reply inc act n answer) ≡ Ok t → IsReplied hostile (links_of r.objects) (links_of t.rec.objects) acts lives (sayings_of t.answer.actions) × IsPlain r t
+  pub reply_answers : (t : Took) → said_on r inc (Reply inc act n answer) ≡ Ok t → IsReplied hostile (links_of r.objects) (links_of t.rec.objects) acts lives (sayings_of t.answer.actions) × IsPlain r t
   reply_answers t e = at (inc == inc) (is_alive r inc) e
     where
       at : (a b : Bool) → ◌≡◌ {A = Result Took ContainerFault} (if a then (if b then reply_found r inc act n answer (find (is_linked inc act) r.objects) else Err Stale) else Err WrongLink) (Ok t) → Result_of t
@@ -346,7 +348,7 @@ module _ {hostile : List ℕ} (r : Record) (acts : Acts) (lives : Lives) (sent :
   closing_found log None t found e taken v = cc
   closing_found log (Some x) t found e taken v = closing_taken log x (reply_link n answer x.link) t found refl e taken v
 
-  pub reply_closes : (log : List Sent) (t : Took) → on_message r inc (Reply inc act n answer) ≡ Ok t → t.answer.taken ≡ true → Views hostile (links_of r.objects) acts log → IsClosing log
+  pub reply_closes : (log : List Sent) (t : Took) → said_on r inc (Reply inc act n answer) ≡ Ok t → t.answer.taken ≡ true → Views hostile (links_of r.objects) acts log → IsClosing log
   reply_closes log t e taken v = at (inc == inc) (is_alive r inc) e
     where
       at : (a b : Bool) → ◌≡◌ {A = Result Took ContainerFault} (if a then (if b then reply_found r inc act n answer (find (is_linked inc act) r.objects) else Err Stale) else Err WrongLink) (Ok t) → IsClosing log

@@ -9,9 +9,8 @@ use Rattle.container_model.specs.Commands.{run, run_made, first_operation, begun
 use Rattle.container_steady.specs.Steady.{Steady}
 use Rattle.container_steady.specs.Taken.{IsReadyAt, IsRun}
 use Rattle.world_model.specs.declared.life.Life.{Life}
-use Rattle.world_model.specs.World.{messages_of}
 use Rattle.world_model.specs.Safe.{links_of}
-use Rattle.world_facts.specs.Words.{Lives}
+use Rattle.world_facts.specs.Words.{Lives, sayings_of}
 use Rattle.world_facts.specs.Shapes.{IsQuiet, Begins}
 use Rattle.world_steps.specs.Steps.{IsBegun}
 use Rattle.world_steps.proofs.Objects.{found_number, link_was, put_here, put_there}
@@ -25,12 +24,13 @@ pub run_begins : (r : Record) (lives : Lives) (owners : List ℕ) (n inc : ℕ) 
 run_begins r lives owners n inc at run s ow ho =
     let x : Object = at.object in
     let op : Operation = first_operation x x.work.streams in
-    let new = begun_link inc (r.last_act + 1) op in
+    let new = begun_link r.session inc (r.last_act + 1) op in
     let a : Object = record x { link = Some new } in
     let test = is_object x.number in
     let here : find test r.objects ≡ Some x = at.own in
     let xn : x.number ≡ n = found_number r.objects n x at.found in
-    let made : Begins (links_of r.objects) (links_of (put test a r.objects)) lives owners r.last_act x.number (messages_of (run_made r x inc).answer.actions) = record {
+    let made : Begins (links_of r.objects) (links_of (put test a r.objects)) lives owners r.last_act x.number (sayings_of (run_made r x inc).answer.actions) = record {
+      session = r.session;
       inc = inc;
       op = op;
       was = link_was r.objects test x a s.order here refl ∙ run.passive;
@@ -42,9 +42,10 @@ run_begins r lives owners n inc at run s ow ho =
       sends = refl;
     } in
     record {
-      begins = subst (λ k. Begins (links_of r.objects) (links_of (put test a r.objects)) lives owners r.last_act k (messages_of (run_made r x inc).answer.actions)) xn made;
+      begins = subst (λ k. Begins (links_of r.objects) (links_of (put test a r.objects)) lives owners r.last_act k (sayings_of (run_made r x inc).answer.actions)) xn made;
+      session = refl;
       last_act = refl;
       servers = refl;
-      starts = λ numbers. refl;
+      starts = λ session numbers. refl;
       ends = λ is. refl;
     }

@@ -26,11 +26,12 @@ use Rattle.container_model.specs.declared.record.Object.{Object}
 use Rattle.container_model.specs.declared.fault.ContainerFault.{ContainerFault}
 use Rattle.container_model.specs.declared.fault.ContainerFault.TheVariants.{Stale, WrongLink, BadAnswer}
 use Rattle.container_model.specs.Record.{Record, Took, is_linked, is_alive}
-use Rattle.container_model.specs.Messages.{Replied, replied, done, done_link, saved_link, granted_link, closed_with, next_s, awaits_save, is_open_to, written_object, write_made, write_link, write_found, on_message}
+use Rattle.container_model.specs.Messages.{Replied, replied, done, done_link, saved_link, granted_link, closed_with, next_s, awaits_save, is_open_to, written_object, write_made, write_link, write_found}
+use Rattle.container_model.proofs.SaidOn.{said_on}
 use Rattle.container_steady.specs.Steady.{Steady}
-use Rattle.world_model.specs.World.{messages_of}
 use Rattle.world_model.specs.Safe.{links_of}
 use Rattle.world_facts.specs.Shapes.{AskedAt, stays, AsksAll, IsQuiet}
+use Rattle.world_facts.specs.Words.{sayings_of}
 use Rattle.world_steps.specs.Steps.{IsPlain}
 use Rattle.world_steps.proofs.Objects.{link_was, put_here, put_there}
 use Rattle.world_steps.proofs.Asking.{unasked_as}
@@ -152,7 +153,7 @@ module _ (r : Record) (inc act s w : ℕ) (content : Stored) (t : Took) where
   write_at None f e = cc
   write_at (Some o) f e = write_linked o o.link f refl e
 
-  pub write_is : on_message r inc (Write inc act s w content) ≡ Ok t → IsWrite r inc act s w content t
+  pub write_is : said_on r inc (Write inc act s w content) ≡ Ok t → IsWrite r inc act s w content t
   write_is e = at (inc == inc) (is_alive r inc) e
     where
       at : (a b : Bool) → ◌≡◌ {A = Result Took ContainerFault} (if a then (if b then write_found r inc act s w content (find (is_linked inc act) r.objects) else Err Stale) else Err WrongLink) (Ok t) → IsWrite r inc act s w content t
@@ -183,7 +184,7 @@ write_asks_made r inc act w content x l s found xl =
     let test = is_linked inc act in
     let a = written_object x l w content in
     let m : Link = record l { w = w } in
-    let here : AskedAt IsQuiet (Some l) (Some m) [] = stays l m refl refl (record { inc = refl; act = refl; last = refl; pending = refl; states = refl; s = refl; saved = inl refl }) refl refl in
+    let here : AskedAt IsQuiet (Some l) (Some m) [] = stays l m refl refl (record { session = refl; inc = refl; act = refl; last = refl; pending = refl; states = refl; s = refl; saved = inl refl }) refl refl in
     record {
       news = λ n. [];
       each = λ n. elim (eqb_tells n x.number) [
@@ -195,11 +196,11 @@ write_asks_made r inc act w content x l s found xl =
       from = λ m h. absurd h;
     }
 
-pub write_asks : (r : Record) (inc act s w : ℕ) (content : Stored) (t : Took) → Steady r → on_message r inc (Write inc act s w content) ≡ Ok t
+pub write_asks : (r : Record) (inc act s w : ℕ) (content : Stored) (t : Took) → Steady r → said_on r inc (Write inc act s w content) ≡ Ok t
     → AsksAll (λ o op. IsQuiet op) (links_of r.objects) (links_of t.rec.objects) (sayings_of t.answer.actions) × IsPlain r t
 write_asks r inc act s w content t steady e =
     let h = write_is r inc act s w content t e in
-    subst (λ (v : Took). AsksAll (λ o op. IsQuiet op) (links_of r.objects) (links_of v.rec.objects) (messages_of v.answer.actions) × IsPlain r v) h.made (
+    subst (λ (v : Took). AsksAll (λ o op. IsQuiet op) (links_of r.objects) (links_of v.rec.objects) (sayings_of v.answer.actions) × IsPlain r v) h.made (
       write_asks_made r inc act w content h.object h.link steady h.found h.linked,
-      record { last_act = refl; servers = refl; starts = λ numbers. refl; ends = λ is. refl },
+      record { session = refl; last_act = refl; servers = refl; starts = λ session numbers. refl; ends = λ is. refl },
     )

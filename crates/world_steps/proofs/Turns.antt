@@ -5,6 +5,7 @@ use Rattle.std.proofs.lemmas.Bool.Decides.{eqb_tells}
 use Rattle.std.proofs.lemmas.List.{append_assoc, append-nil}
 use Rattle.std.specs.List.{AllByRecursion}
 use Rattle.wire_msgs.specs.Found.{find, put, nth}
+use Rattle.wire_msgs.specs.declared.message.Message.{Message}
 use Rattle.wire_msgs.specs.declared.message.Said.{Said}
 use Rattle.wire_msgs.specs.declared.operation.Operation.{Operation}
 use Rattle.wire_msgs.specs.declared.operation.Operation.TheVariants.{UiActivate}
@@ -22,10 +23,10 @@ use Rattle.container_steady.proofs.SteadyRecords.{if_told}
 use Rattle.container_steady.proofs.SteadyFinds.{find-put_same, find-put_other}
 use Rattle.container_steady.proofs.SteadyTests.{found_numbered}
 use Rattle.world_model.specs.Safe.{Among, link_at, links_of}
-use Rattle.world_facts.specs.Words.{Links, Acts, Lives}
+use Rattle.world_facts.specs.Words.{Links, Acts, Lives, all_said}
 use Rattle.world_facts.specs.Shapes.{AskedAt, none, stays, queues, sends as sent, AsksAll, IsQuiet, EndsSome}
 use Rattle.world_steps.specs.Steps.{AsksInTurn, asks_none, asks_first}
-use Rattle.world_steps.proofs.Objects.{Waits, found_number}
+use Rattle.world_steps.proofs.Objects.{Waits, found_number, said_join}
 use Rattle.world_steps.proofs.Asking.{none_asked, is_asked, unasked_as}
 
 waits_at : (Asks : Operation → Type 0) (before after : Option Link) (news : List Said) → AskedAt Asks before after news → ((l : Link) → before ≡ Some l → WaitsBehind l.pending l.waiting) → (m : Link) → after ≡ Some m
@@ -74,12 +75,16 @@ turns_join _ _ after _ rest (asks_none a b more g e) t = subst (λ ms. AsksInTur
 turns_join _ _ after _ rest (asks_first a m b first later more h u e) t =
     asks_first a m after first (later ++ rest) (more ++ rest) h (turns_join m b after later rest u t) (ap (λ v. v ++ rest) e ∙ append_assoc first later rest)
 
+-- and what is sent, one list after the other
+pub turns_further : (links between after : Links) (first rest : List Message) → AsksInTurn links between (all_said first) → AsksInTurn between after (all_said rest) → AsksInTurn links after (all_said (first ++ rest))
+turns_further links between after first rest h t = subst (AsksInTurn links after) (sym (said_join first rest)) (turns_join links between after (all_said first) (all_said rest) h t)
+
 -- one link is asked
 module _ (links after : Links) (n : ℕ) (l : Link) (op : Operation) (at : links n ≡ Some l) (waits : WaitsBehind l.pending l.waiting) (quiet : IsQuiet op)
     (here : after n ≡ Some (ask l op).link) (there : (k : ℕ) → k ≢ n → after k ≡ links k) where
-  pub link_asked : AsksAll (λ o op. IsQuiet op) links after (ask l op).sent
+  pub link_asked : AsksAll (λ o op. IsQuiet op) links after (all_said (ask l op).sent)
   link_asked =
-      let ms = (ask l op).sent in
+      let ms = all_said (ask l op).sent in
       record {
         news = λ k. if n == k then ms else [];
         each = λ k. if_told (AskedAt IsQuiet (links k) (after k)) (n == k) ms []
@@ -99,15 +104,15 @@ asked_waits l op = asked_waits_at l op l.pending refl
 
 -- several operations are asked of one link
 pub each_turns : (n : ℕ) (ops : List Operation) (l : Link) (links after : Links) → AllByRecursion IsQuiet ops → links n ≡ Some l → WaitsBehind l.pending l.waiting → after n ≡ Some (ask_each l ops).link → ((k : ℕ) → k ≢ n → after k ≡ links k)
-    → AsksInTurn links after (ask_each l ops).sent
+    → AsksInTurn links after (all_said (ask_each l ops).sent)
 each_turns n [] l links after q at w here there = asks_none links after [] (λ k. elim (eqb_tells k n) [ inl s ↦ ap after s.1 ∙ (here ∙ (sym at ∙ ap links (sym s.1))) | inr s ↦ there k s.1 ]) refl
 each_turns n (op ∷ ops) l links after q at w here there =
     let first = ask l op in
     let between : Links = λ k. if k == n then Some first.link else links k in
     let now : between n ≡ Some first.link = ap (λ b. if b then Some first.link else links n) (eq-eqb n n refl) in
     let others : (k : ℕ) → k ≢ n → between k ≡ links k = λ k ne. ap (λ b. if b then Some first.link else links k) (ne_eqb k n ne) in
-    asks_first links between after first.sent (ask_each first.link ops).sent _ (link_asked links between n l op at w q.0 now others)
-    (each_turns n ops first.link between after q.1 now (asked_waits l op) here (λ k ne. there k ne ∙ sym (others k ne))) refl
+    asks_first links between after (all_said first.sent) (all_said (ask_each first.link ops).sent) _ (link_asked links between n l op at w q.0 now others)
+    (each_turns n ops first.link between after q.1 now (asked_waits l op) here (λ k ne. there k ne ∙ sym (others k ne))) (said_join first.sent (ask_each first.link ops).sent)
 
 -- an object takes the place of the one that bears its number
 pub placed_here : (os : List Object) (n : ℕ) (x a : Object) → find (is_object n) os ≡ Some x → a.number ≡ n → links_of (put (is_object n) a os) n ≡ a.link
@@ -122,17 +127,18 @@ pub record KeepsRest (r v : Record) : Type 0 where
   pub servers : v.servers ≡ r.servers
   pub last_object : v.last_object ≡ r.last_object
   pub last_act : v.last_act ≡ r.last_act
+  pub session : v.session ≡ r.session
   pub numbers : v.numbers ≡ r.numbers
 
 pub rest_same : (r : Record) → KeepsRest r r
-rest_same r = record { frames = refl; servers = refl; last_object = refl; last_act = refl; numbers = refl }
+rest_same r = record { frames = refl; servers = refl; last_object = refl; last_act = refl; session = refl; numbers = refl }
 
 rest_further : (r v u : Record) → KeepsRest r v → KeepsRest v u → KeepsRest r u
-rest_further r v u h k = record { frames = k.frames ∙ h.frames; servers = k.servers ∙ h.servers; last_object = k.last_object ∙ h.last_object; last_act = k.last_act ∙ h.last_act; numbers = k.numbers ∙ h.numbers }
+rest_further r v u h k = record { frames = k.frames ∙ h.frames; servers = k.servers ∙ h.servers; last_object = k.last_object ∙ h.last_object; last_act = k.last_act ∙ h.last_act; session = k.session ∙ h.session; numbers = k.numbers ∙ h.numbers }
 
 requested_keeps : (r : Record) (op : Operation) (x : Option Object) → KeepsRest r (requested r op x).rec
 requested_keeps r op None = rest_same r
-requested_keeps r op (Some o) = record { frames = refl; servers = refl; last_object = refl; last_act = refl; numbers = refl }
+requested_keeps r op (Some o) = record { frames = refl; servers = refl; last_object = refl; last_act = refl; session = refl; numbers = refl }
 
 pub request_keeps : (r : Record) (n : ℕ) (op : Operation) → KeepsRest r (request r n op).rec
 request_keeps r n op = requested_keeps r op (find (is_object n) r.objects)
@@ -152,7 +158,7 @@ module _ (r : Record) (n : ℕ) (op : Operation) where
 
   module _ (waits : Waits (links_of r.objects)) (quiet : IsQuiet op) where
     linked_asks : (o : Object) (x : Option Link) → find (is_object o.number) r.objects ≡ Some o → o.link ≡ x
-        → AsksAll (λ o op. IsQuiet op) (links_of r.objects) (links_of (put (is_object o.number) (record o { link = asked_link op x }) r.objects)) (asked_sent op x)
+        → AsksAll (λ o op. IsQuiet op) (links_of r.objects) (links_of (put (is_object o.number) (record o { link = asked_link op x }) r.objects)) (all_said (asked_sent op x))
     linked_asks o None f e =
         let a : Object = record o { link = None } in
         let at : links_of r.objects o.number ≡ None = ap link_at f ∙ e in
@@ -166,36 +172,37 @@ module _ (r : Record) (n : ℕ) (op : Operation) where
         link_asked (links_of r.objects) (links_of (put (is_object o.number) a r.objects)) o.number l op at (waits o.number l at) quiet (placed_here r.objects o.number o a f refl)
         (λ k ne. placed_there r.objects o.number k a refl ne)
 
-    found_asks : (x : Option Object) → find (is_object n) r.objects ≡ x → AsksAll (λ o op. IsQuiet op) (links_of r.objects) (links_of (requested r op x).rec.objects) (requested r op x).sent
+    found_asks : (x : Option Object) → find (is_object n) r.objects ≡ x → AsksAll (λ o op. IsQuiet op) (links_of r.objects) (links_of (requested r op x).rec.objects) (all_said (requested r op x).sent)
     found_asks None f = none_asked (links_of r.objects) (links_of r.objects) (λ k. refl)
     found_asks (Some o) f = linked_asks o o.link (found_numbered n r.objects o f) refl
 
-    pub request_asks : AsksAll (λ o op. IsQuiet op) (links_of r.objects) (links_of (request r n op).rec.objects) (request r n op).sent
+    pub request_asks : AsksAll (λ o op. IsQuiet op) (links_of r.objects) (links_of (request r n op).rec.objects) (all_said (request r n op).sent)
     request_asks = found_asks (find (is_object n) r.objects) refl
 
 -- whoever waited is told of the grant
 ui_quiet : (g : ℕ) → IsQuiet (UiActivate g)
 ui_quiet g = λ k storage e. cc
 
-pub grants_asked : (claims : List Claim) (r : Record) → Waits (links_of r.objects) → AsksInTurn (links_of r.objects) (links_of (grant_each r claims).rec.objects) (grant_each r claims).sent
+pub grants_asked : (claims : List Claim) (r : Record) → Waits (links_of r.objects) → AsksInTurn (links_of r.objects) (links_of (grant_each r claims).rec.objects) (all_said (grant_each r claims).sent)
 grants_asked [] r w = asks_none (links_of r.objects) (links_of r.objects) [] (λ o. refl) refl
 grants_asked (c ∷ cs) r w =
     let op = UiActivate c.g in
     let v = request r c.object op in
     let asked = request_asks r c.object op w (ui_quiet c.g) in
-    asks_first (links_of r.objects) (links_of v.rec.objects) (links_of (grant_each v.rec cs).rec.objects) v.sent (grant_each v.rec cs).sent _ asked
-    (grants_asked cs v.rec (waits_asked (λ o p. IsQuiet p) (links_of r.objects) (links_of v.rec.objects) v.sent asked w)) refl
+    asks_first (links_of r.objects) (links_of v.rec.objects) (links_of (grant_each v.rec cs).rec.objects) (all_said v.sent) (all_said (grant_each v.rec cs).sent) _ asked
+    (grants_asked cs v.rec (waits_asked (λ o p. IsQuiet p) (links_of r.objects) (links_of v.rec.objects) (all_said v.sent) asked w)) (said_join v.sent (grant_each v.rec cs).sent)
 
 -- what is told of a frame's grant moves it, and asks whoever waited
 module _ (r : Record) (f : ℕ) (waits : Waits (links_of r.objects)) where
   -- a change of the links, where all else of the record stays but for its frames
   pub record IsRegranted (v : Regranted) : Type 0 where
-    pub asked : AsksInTurn (links_of r.objects) (links_of v.rec.objects) v.sent
+    pub asked : AsksInTurn (links_of r.objects) (links_of v.rec.objects) (all_said v.sent)
     pub servers : v.rec.servers ≡ r.servers
+    pub session : v.rec.session ≡ r.session
     pub last_act : v.rec.last_act ≡ r.last_act
 
   nothing_regranted : IsRegranted (record { rec = r; sent = []; no_tools = false })
-  nothing_regranted = record { asked = asks_none (links_of r.objects) (links_of r.objects) [] (λ o. refl) refl; servers = refl; last_act = refl }
+  nothing_regranted = record { asked = asks_none (links_of r.objects) (links_of r.objects) [] (λ o. refl) refl; servers = refl; session = refl; last_act = refl }
 
   regranted_by_event : (frame : Frame) (e : Option Event) → IsRegranted (regranted_by r f frame e)
   regranted_by_event frame None = nothing_regranted
@@ -203,7 +210,7 @@ module _ (r : Record) (f : ℕ) (waits : Waits (links_of r.objects)) where
       let v = with_frame r f (moved frame e) in
       let claims = passed_to frame.ui.state (after frame.ui e).state in
       let rest = grants_keep claims v in
-      record { asked = grants_asked claims v waits; servers = rest.servers; last_act = rest.last_act }
+      record { asked = grants_asked claims v waits; servers = rest.servers; session = rest.session; last_act = rest.last_act }
 
   regranted_at : (told : Tells) (frame : Option Frame) → IsRegranted (regranted_in r f told frame)
   regranted_at told None = nothing_regranted

@@ -28,9 +28,10 @@ use Rattle.container_steady.proofs.SteadyRecords.{if_told}
 use Rattle.container_steady.proofs.SteadyTests.{found_numbered}
 use Rattle.world_model.specs.Safe.{link_at, links_of}
 use Rattle.world_facts.specs.Shapes.{IsQuiet}
+use Rattle.world_facts.specs.Words.{all_said}
 use Rattle.world_steps.specs.Steps.{AsksInTurn, asks_none, asks_first, IsTurned}
 use Rattle.world_steps.proofs.Objects.{found_held, linked_object, messages_sends, no_start_sent, no_end_sent, steady_waits}
-use Rattle.world_steps.proofs.Turns.{each_turns, placed_here, placed_there, KeepsRest, rest_same, request_keeps, request_others, request_asks, turns_join}
+use Rattle.world_steps.proofs.Turns.{each_turns, placed_here, placed_there, KeepsRest, rest_same, request_keeps, request_others, request_asks, turns_further}
 
 pub ok_took : (x y : Took) → ◌≡◌ {A = Result Took ContainerFault} (Ok x) (Ok y) → x ≡ y
 ok_took x y e = cc
@@ -54,7 +55,7 @@ steps_quiet g (s ∷ ss) = (step_quiet g s, steps_quiet g ss)
 -- An object of a record takes steps: its link is asked, and no other is.
 module _ (r : Record) (o : Object) (l : Link) (x : Object) (found : find (is_object o.number) r.objects ≡ Some x) (linked : x.link ≡ Some l) (waits : WaitsBehind l.pending l.waiting) where
   pub object_steps : (g : ℕ) (ss : List Step)
-      → AsksInTurn (links_of r.objects) (links_of (put (is_object o.number) (record o { link = Some (stepped_link g l ss).link }) r.objects)) (stepped_link g l ss).sent
+      → AsksInTurn (links_of r.objects) (links_of (put (is_object o.number) (record o { link = Some (stepped_link g l ss).link }) r.objects)) (all_said (stepped_link g l ss).sent)
   object_steps g ss =
       let a : Object = record o { link = Some (stepped_link g l ss).link } in
       each_turns o.number (map (operation_of g) ss) l (links_of r.objects) (links_of (put (is_object o.number) a r.objects)) (steps_quiet g ss) (ap link_at found ∙ linked) waits
@@ -76,7 +77,7 @@ module _ (r : Record) (n : ℕ) (o : Object) (l : Link) (s : Steady r) (found : 
       let ms = (stepped_link 0 l ss).sent in
       let a : Object = record o { link = Some (stepped_link 0 l ss).link } in (
         subst (AsksInTurn (links_of r.objects) (links_of (put (is_object o.number) a r.objects))) (sym (messages_sends ms)) (object_steps r o l o at linked waits 0 ss),
-        record { last_act = refl; servers = refl; starts = λ numbers. no_start_sent numbers ms; ends = no_end_sent ms },
+        record { session = refl; last_act = refl; servers = refl; starts = λ session numbers. no_start_sent session numbers ms; ends = no_end_sent ms },
       )
 
   pub leaving_turned : (frame : Frame) (ss : List Step) → IsTurned r (leaving_made r frame o l ss)
@@ -93,7 +94,7 @@ module _ (r : Record) (n : ℕ) (o : Object) (l : Link) (s : Steady r) (found : 
     counted = [];
   }
 
-  ends_there : (frame : Frame) (v : Requested) (ss : List Step) → AsksInTurn (links_of r.objects) (links_of v.rec.objects) v.sent → KeepsRest (claimed r frame o l) v.rec → links_of v.rec.objects o.number ≡ Some l
+  ends_there : (frame : Frame) (v : Requested) (ss : List Step) → AsksInTurn (links_of r.objects) (links_of v.rec.objects) (all_said v.sent) → KeepsRest (claimed r frame o l) v.rec → links_of v.rec.objects o.number ≡ Some l
       → IsTurned r (taken_after v ss)
   ends_there frame v ss asked rest here =
       let g = r.last_g + 1 in
@@ -101,8 +102,8 @@ module _ (r : Record) (n : ℕ) (o : Object) (l : Link) (s : Steady r) (found : 
       let a : Object = record o { link = Some (stepped_link g l ss).link } in
       let x = linked_object v.rec.objects o.number l here in
       let steps = object_steps v.rec o l x.0 x.1 x.2 waits g ss in (
-        subst (AsksInTurn (links_of r.objects) (links_of (put (is_object o.number) a v.rec.objects))) (sym (messages_sends (v.sent ++ ms))) (turns_join (links_of r.objects) (links_of v.rec.objects) (links_of (put (is_object o.number) a v.rec.objects)) v.sent ms asked steps),
-        record { last_act = rest.last_act; servers = ap length rest.servers; starts = λ numbers. no_start_sent numbers (v.sent ++ ms); ends = no_end_sent (v.sent ++ ms) },
+        subst (AsksInTurn (links_of r.objects) (links_of (put (is_object o.number) a v.rec.objects))) (sym (messages_sends (v.sent ++ ms))) (turns_further (links_of r.objects) (links_of v.rec.objects) (links_of (put (is_object o.number) a v.rec.objects)) v.sent ms asked steps),
+        record { session = rest.session; last_act = rest.last_act; servers = ap length rest.servers; starts = λ session numbers. no_start_sent session numbers (v.sent ++ ms); ends = no_end_sent (v.sent ++ ms) },
       )
 
   with_holder : (frame : Frame) (ss : List Step) (holder : Option ℕ) → (holder ≡ Some o.number → ⊥) → IsTurned r (taken_after (revoked_at (claimed r frame o l) holder) ss)
@@ -111,7 +112,7 @@ module _ (r : Record) (n : ℕ) (o : Object) (l : Link) (s : Steady r) (found : 
       let c = claimed r frame o l in
       let v = request c h UiDeactivate in
       let asked = request_asks c h UiDeactivate (steady_waits r s) ui_quiet in
-      ends_there frame v ss (asks_first (links_of r.objects) (links_of v.rec.objects) (links_of v.rec.objects) v.sent [] v.sent asked (asks_none (links_of v.rec.objects) (links_of v.rec.objects) [] (λ k. refl) refl) (sym (append-nil v.sent)))
+      ends_there frame v ss (asks_first (links_of r.objects) (links_of v.rec.objects) (links_of v.rec.objects) (all_said v.sent) [] (all_said v.sent) asked (asks_none (links_of v.rec.objects) (links_of v.rec.objects) [] (λ k. refl) refl) (sym (append-nil (all_said v.sent))))
       (request_keeps c h UiDeactivate) (request_others c h UiDeactivate o.number (λ q. ne (ap Some (sym q))) ∙ (ap link_at at ∙ linked))
 
   taking_turned : (frame : Frame) (ss : List Step) → (holder_of frame.ui.state ≡ Some o.number → ⊥) → IsTurned r (taking_made r frame o l ss)

@@ -4,13 +4,14 @@ use Rattle.wire_msgs.specs.declared.message.Said.{Said}
 use Rattle.container_model.specs.declared.answer.Action.TheVariants.{End}
 use Rattle.container_model.specs.Commands.{start_made}
 use Rattle.container_model.specs.Record.{Record, Took, acts, counts_none}
-use Rattle.world_model.specs.World.{Instance, messages_of, started_by, ended_by}
+use Rattle.world_model.specs.World.{Instance, started_by, ended_by}
 use Rattle.world_model.specs.Safe.{links_of}
-use Rattle.world_facts.specs.Words.{Links, Acts, Lives}
+use Rattle.world_facts.specs.Words.{Links, Acts, Lives, sayings_of}
 use Rattle.world_facts.specs.Shapes.{AsksAll, IsQuiet, Begins, Settles, SendsNext, EndsSome}
 
 -- a step that makes no activation, and starts and ends no server
 pub record IsPlain (r : Record) (t : Took) : Type 0 where
+  pub session : t.rec.session ≡ r.session
   pub last_act : t.rec.last_act ≡ r.last_act
   pub servers : length t.rec.servers ≡ length r.servers
   pub starts : (session numbers : ℕ) → started_by session numbers t.answer.actions ≡ []
@@ -19,6 +20,7 @@ pub record IsPlain (r : Record) (t : Took) : Type 0 where
 -- A run that is taken begins an activation.
 pub record IsBegun (r : Record) (lives : Lives) (owners : List ℕ) (o : ℕ) (t : Took) : Type 0 where
   pub begins : Begins (links_of r.objects) (links_of t.rec.objects) lives owners r.last_act o (sayings_of t.answer.actions)
+  pub session : t.rec.session ≡ r.session
   pub last_act : t.rec.last_act ≡ r.last_act + 1
   pub servers : length t.rec.servers ≡ length r.servers
   pub starts : (session numbers : ℕ) → started_by session numbers t.answer.actions ≡ []
