@@ -23,7 +23,7 @@ use stored_streams::streams::{NamedStream, Streams};
 use stored_values::bytes::Bytes;
 use stored_values::class_id::ClassId;
 use wire_msgs::answer::Answer;
-use wire_msgs::message::Message;
+use wire_msgs::message::{Message, Said};
 use wire_msgs::operation::Operation;
 
 /// Why a body makes no frame.
@@ -471,7 +471,8 @@ fn whole(frame: Frame, rest: &[u8]) -> Result<Frame, BodyFault>
 fn read_call(alloc: Global, xs: &[u8]) -> Result<Frame, BodyFault>
     ensures { Makes result (read_body Call xs.now) }
 {
-    let (inc, rest) = take_number(xs)?;
+    let (session, rest) = take_number(xs)?;
+    let (inc, rest) = take_number(rest)?;
     let (act, rest) = take_number(rest)?;
     let (n, rest) = take_number(rest)?;
     let (number, rest) = take_byte(rest)?;
@@ -483,13 +484,13 @@ fn read_call(alloc: Global, xs: &[u8]) -> Result<Frame, BodyFault>
         Ok(read) => read,
         Err(fault) => return Err(fault),
     };
-    let call = Message::Call {
+    let said = Said::Call {
         inc,
         act,
         n,
         operation,
     };
-    whole(Frame::Message(call), rest)
+    whole(Frame::Message(Message { session, said }), rest)
 }
 
 // The reply that a body spells.
@@ -497,7 +498,8 @@ fn read_call(alloc: Global, xs: &[u8]) -> Result<Frame, BodyFault>
 fn read_reply(alloc: Global, xs: &[u8]) -> Result<Frame, BodyFault>
     ensures { Makes result (read_body Reply xs.now) }
 {
-    let (inc, rest) = take_number(xs)?;
+    let (session, rest) = take_number(xs)?;
+    let (inc, rest) = take_number(rest)?;
     let (act, rest) = take_number(rest)?;
     let (n, rest) = take_number(rest)?;
     let (number, rest) = take_byte(rest)?;
@@ -509,13 +511,13 @@ fn read_reply(alloc: Global, xs: &[u8]) -> Result<Frame, BodyFault>
         Ok(read) => read,
         Err(fault) => return Err(fault),
     };
-    let reply = Message::Reply {
+    let said = Said::Reply {
         inc,
         act,
         n,
         answer,
     };
-    whole(Frame::Message(reply), rest)
+    whole(Frame::Message(Message { session, said }), rest)
 }
 
 // The write that a body spells.
@@ -523,7 +525,8 @@ fn read_reply(alloc: Global, xs: &[u8]) -> Result<Frame, BodyFault>
 fn read_write(alloc: Global, xs: &[u8]) -> Result<Frame, BodyFault>
     ensures { Makes result (read_body Write xs.now) }
 {
-    let (inc, rest) = take_number(xs)?;
+    let (session, rest) = take_number(xs)?;
+    let (inc, rest) = take_number(rest)?;
     let (act, rest) = take_number(rest)?;
     let (s, rest) = take_number(rest)?;
     let (w, rest) = take_number(rest)?;
@@ -531,14 +534,14 @@ fn read_write(alloc: Global, xs: &[u8]) -> Result<Frame, BodyFault>
         Ok(read) => read,
         Err(fault) => return Err(fault),
     };
-    let write = Message::Write {
+    let said = Said::Write {
         inc,
         act,
         s,
         w,
         content,
     };
-    whole(Frame::Message(write), rest)
+    whole(Frame::Message(Message { session, said }), rest)
 }
 
 // The ask that a body spells.
@@ -546,10 +549,12 @@ fn read_write(alloc: Global, xs: &[u8]) -> Result<Frame, BodyFault>
 fn read_ask(xs: &[u8]) -> Result<Frame, BodyFault>
     ensures { Makes result (read_body Ask xs.now) }
 {
-    let (inc, rest) = take_number(xs)?;
+    let (session, rest) = take_number(xs)?;
+    let (inc, rest) = take_number(rest)?;
     let (act, rest) = take_number(rest)?;
     let (g, rest) = take_number(rest)?;
-    whole(Frame::Message(Message::Ask { inc, act, g }), rest)
+    let said = Said::Ask { inc, act, g };
+    whole(Frame::Message(Message { session, said }), rest)
 }
 
 // The turn that a body spells.
