@@ -3,10 +3,10 @@
 ghost use Rattle.message_bodies.specs.Decoding.{Continues, Gives, Makes};
 ghost use Rattle.stored_streams.specs.declared.streams.NamedStream.{NamedStream};
 ghost use Rattle.message_model.specs.declared.codes.OperationCode.TheVariants.{Close, Edit, InitNew, Load, Save, SaveCompleted, SaveDropped, UiActivate};
-ghost use Rattle.message_model.specs.declared.codes.Kind.TheVariants.{Ask, Call, Reply, Turn, Write};
+ghost use Rattle.message_model.specs.declared.codes.Kind.TheVariants.{Turn};
 ghost use Rattle.message_model.specs.Frames.{number_in};
 ghost use Rattle.object_parts.specs.Limits.{MOST_BYTES};
-ghost use Rattle.message_model.specs.Reading.{answer, blob, byte, bytes, flag_of, more, may_follow, name, number, operation, option_of, pictured, read_body, stored, text, tools, whole, width_in, widths_in};
+ghost use Rattle.message_model.specs.Reading.{answer, ask_in, blob, byte, bytes, call_in, flag_of, more, may_follow, name, number, operation, option_of, pictured, read_body, reply_in, stored, text, tools, whole, width_in, widths_in, write_in};
 ghost use Rattle.std.specs.Prelude.{[], ◌∷◌, ◌++◌, ◌≡◌, ◌≤◌, ◌<◌, ◌-◌, ◌^◌, ℕ, List, None, IfOk, true, length, take, drop};
 
 use cfb_names::name::{Name, named};
@@ -466,13 +466,11 @@ fn whole(frame: Frame, rest: &[u8]) -> Result<Frame, BodyFault>
     }
 }
 
-// The call that a body spells.
-#[tactic(auto, unfolding(message_model::specs::Reading::read_body))]
-fn read_call(alloc: Global, xs: &[u8]) -> Result<Frame, BodyFault>
-    ensures { Makes result (read_body Call xs.now) }
+// The call that a body spells behind its session.
+fn read_call(alloc: Global, session: u32, xs: &[u8]) -> Result<Frame, BodyFault>
+    ensures { Makes result (call_in session xs.now) }
 {
-    let (session, rest) = take_number(xs)?;
-    let (inc, rest) = take_number(rest)?;
+    let (inc, rest) = take_number(xs)?;
     let (act, rest) = take_number(rest)?;
     let (n, rest) = take_number(rest)?;
     let (number, rest) = take_byte(rest)?;
@@ -493,13 +491,11 @@ fn read_call(alloc: Global, xs: &[u8]) -> Result<Frame, BodyFault>
     whole(Frame::Message(Message { session, said }), rest)
 }
 
-// The reply that a body spells.
-#[tactic(auto, unfolding(message_model::specs::Reading::read_body))]
-fn read_reply(alloc: Global, xs: &[u8]) -> Result<Frame, BodyFault>
-    ensures { Makes result (read_body Reply xs.now) }
+// The reply that a body spells behind its session.
+fn read_reply(alloc: Global, session: u32, xs: &[u8]) -> Result<Frame, BodyFault>
+    ensures { Makes result (reply_in session xs.now) }
 {
-    let (session, rest) = take_number(xs)?;
-    let (inc, rest) = take_number(rest)?;
+    let (inc, rest) = take_number(xs)?;
     let (act, rest) = take_number(rest)?;
     let (n, rest) = take_number(rest)?;
     let (number, rest) = take_byte(rest)?;
@@ -520,13 +516,11 @@ fn read_reply(alloc: Global, xs: &[u8]) -> Result<Frame, BodyFault>
     whole(Frame::Message(Message { session, said }), rest)
 }
 
-// The write that a body spells.
-#[tactic(auto, unfolding(message_model::specs::Reading::read_body))]
-fn read_write(alloc: Global, xs: &[u8]) -> Result<Frame, BodyFault>
-    ensures { Makes result (read_body Write xs.now) }
+// The write that a body spells behind its session.
+fn read_write(alloc: Global, session: u32, xs: &[u8]) -> Result<Frame, BodyFault>
+    ensures { Makes result (write_in session xs.now) }
 {
-    let (session, rest) = take_number(xs)?;
-    let (inc, rest) = take_number(rest)?;
+    let (inc, rest) = take_number(xs)?;
     let (act, rest) = take_number(rest)?;
     let (s, rest) = take_number(rest)?;
     let (w, rest) = take_number(rest)?;
@@ -544,13 +538,11 @@ fn read_write(alloc: Global, xs: &[u8]) -> Result<Frame, BodyFault>
     whole(Frame::Message(Message { session, said }), rest)
 }
 
-// The ask that a body spells.
-#[tactic(auto, unfolding(message_model::specs::Reading::read_body))]
-fn read_ask(xs: &[u8]) -> Result<Frame, BodyFault>
-    ensures { Makes result (read_body Ask xs.now) }
+// The ask that a body spells behind its session.
+fn read_ask(session: u32, xs: &[u8]) -> Result<Frame, BodyFault>
+    ensures { Makes result (ask_in session xs.now) }
 {
-    let (session, rest) = take_number(xs)?;
-    let (inc, rest) = take_number(rest)?;
+    let (inc, rest) = take_number(xs)?;
     let (act, rest) = take_number(rest)?;
     let (g, rest) = take_number(rest)?;
     let said = Said::Ask { inc, act, g };
@@ -571,11 +563,19 @@ fn read_turn(xs: &[u8]) -> Result<Frame, BodyFault>
 pub fn read_body(alloc: Global, kind: Kind, xs: &[u8]) -> Result<Frame, BodyFault>
     ensures { Makes result (read_body kind xs.now) }
 {
+    if let Kind::Turn = kind {
+        return read_turn(xs);
+    }
+    let (session, rest) = match take_number(xs) {
+        Ok(read) => read,
+        Err(fault) => return Err(fault),
+    };
     match kind {
-        Kind::Call => read_call(alloc, xs),
-        Kind::Reply => read_reply(alloc, xs),
-        Kind::Write => read_write(alloc, xs),
-        Kind::Ask => read_ask(xs),
-        Kind::Turn => read_turn(xs),
+        Kind::Call => read_call(alloc, session, rest),
+        Kind::Reply => read_reply(alloc, session, rest),
+        Kind::Write => read_write(alloc, session, rest),
+        Kind::Ask => read_ask(session, rest),
+        // It has no session, and is read above.
+        Kind::Turn => Err(BodyFault::Bad),
     }
 }
