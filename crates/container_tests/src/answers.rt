@@ -4,7 +4,7 @@ use crate::words::{names, word};
 use container_model::answer::{Action, Answer};
 use container_model::fault::ContainerFault;
 use std::str::SplitWhitespace;
-use wire_msgs::message::Message;
+use wire_msgs::message::{Message, Said};
 use wire_msgs::operation::Operation;
 
 fn operation_name(operation: &Operation) -> &'static str {
@@ -31,15 +31,17 @@ fn call_name(inc: u32, act: u32) -> &'static str {
     }
 }
 
-/// Whether a message is this call: of activation 1 of server 1 a `call`, of activation 2 of server 2 an `other` one.
+/// Whether a message is this call, in session 1: of activation 1 of server 1 a `call`, of activation 2 of server 2 an `other` one.
 fn is_call(message: &Message, words: &mut SplitWhitespace<'_>) -> bool {
-    match message {
-        Message::Call {
+    match &message.said {
+        Said::Call {
             inc,
             act,
             n,
             operation,
-        } => names(words, call_name(*inc, *act), *n) && word(words) == operation_name(operation),
+        } => message.session == 1
+            && names(words, call_name(*inc, *act), *n)
+            && word(words) == operation_name(operation),
         _ => false,
     }
 }

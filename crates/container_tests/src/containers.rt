@@ -4,7 +4,7 @@
 use crate::answers::is_answered;
 use crate::events::{event, happens};
 use crate::files::{is_document, is_file};
-use crate::messages::messaged;
+use crate::messages::{astray_in, messaged};
 use crate::shown::{are_numbers, are_pending, are_sizes, are_states, is_screen};
 use crate::words::{halves, number, word};
 use container_core::container::{ContainerCore, Limits};
@@ -176,11 +176,15 @@ start => server 2 start 2
 run 1 1 => call 1 InitNew
 run 2 2 => other 1 InitNew
 astray reply 1 done => WrongLink
+later reply 1 done => Stale
+mixed reply 1 done => WrongLink
 forged reply 1 done => Stale
 pending => call 1 InitNew other 1 InitNew
 reply 1 done =>
 second reply 1 done =>
 astray write 1 small => WrongLink
+later write 1 small => Stale
+mixed write 1 small => WrongLink
 forged write 1 small => Stale
 states => Idle Free active-empty
 write 1 small => taken
@@ -192,6 +196,8 @@ second reply 3 tools => Stale
 reply 3 tools =>
 states => Idle Held active
 astray ask 1 => WrongLink
+later ask 1 => Stale
+mixed ask 1 => WrongLink
 forged ask 1 => Stale
 second ask 1 => Stale
 ask 2 => Stale
@@ -289,6 +295,21 @@ fn hears_second(
     )
 }
 
+/// Whether a container answers this to a message of session 2 on the link of server 1 in this session.
+fn hears_in(
+    rt: &impl Abort,
+    alloc: Global,
+    core: &mut ContainerCore,
+    session: u32,
+    row: &str,
+    words: &mut SplitWhitespace<'_>,
+) -> bool {
+    is_answered(
+        astray_in(rt, alloc, core, session, halves(row, " ").1),
+        words,
+    )
+}
+
 /// Whether a container answers this to a row that spells no event, or shows it.
 fn hears(
     rt: &impl Abort,
@@ -301,7 +322,9 @@ fn hears(
         [b'a', b'n', ..] => renew(alloc, core, number(halves(row, " ").1)),
         [b'a', b's', b't', ..] => hears_second(rt, alloc, core, (1, 1), row, words),
         [b'f', b'o', ..] => hears_second(rt, alloc, core, (2, 1), row, words),
-        [b's', b'e', ..] => hears_second(rt, alloc, core, (2, 2), row, words),
+        [b's', b'e', b'c', ..] => hears_second(rt, alloc, core, (2, 2), row, words),
+        [b'l', b'a', b't', ..] => hears_in(rt, alloc, core, 2, row, words),
+        [b'm', b'i', b'x', ..] => hears_in(rt, alloc, core, 1, row, words),
         [b'a', ..] | [b'r', ..] | [b'w', ..] => {
             is_answered(messaged(rt, alloc, core, 1, (1, 1), row), words)
         }

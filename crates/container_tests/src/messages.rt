@@ -5,6 +5,7 @@ use cfb_names::name::named;
 use container_core::container::ContainerCore;
 use container_model::answer::Answer;
 use container_model::fault::ContainerFault;
+use container_model::server_link::ServerLink;
 use object_parts::limits::MOST_BYTES;
 use object_state::Menus;
 use std::alloc::Global;
@@ -12,8 +13,8 @@ use std::process::Abort;
 use stored_streams::stored::Stored;
 use stored_streams::streams::NamedStream;
 use stored_values::bytes::Bytes;
-use wire_msgs::answer::Answer as Said;
-use wire_msgs::message::Message;
+use wire_msgs::answer::Answer as Reply;
+use wire_msgs::message::{Message, Said};
 
 fn bytes(rt: &impl Abort, alloc: Global, bytes: &[u8]) -> Bytes {
     Bytes::from_slice(alloc, bytes).expect(rt, "memory")
@@ -53,38 +54,38 @@ fn content(rt: &impl Abort, alloc: Global, word: &str) -> Stored {
 }
 
 /// Three texts, and no border space.
-fn tools(rt: &impl Abort) -> Said {
+fn tools(rt: &impl Abort) -> Reply {
     let menus = Menus::new(b"Edit", b"Note", b"Help").expect(rt, "three texts");
-    Said::Tools {
+    Reply::Tools {
         menus,
         border: [0; 4],
     }
 }
 
-fn said(rt: &impl Abort, alloc: Global, word: &str) -> Said {
+fn answer(rt: &impl Abort, alloc: Global, word: &str) -> Reply {
     match word.as_bytes() {
-        [b'd', ..] => Said::Done,
+        [b'd', ..] => Reply::Done,
         [b't', ..] => tools(rt),
-        _ => Said::Content(content(rt, alloc, word)),
+        _ => Reply::Content(content(rt, alloc, word)),
     }
 }
 
 /// `reply N WORD` to call N: `done`, `tools`, or a content that is `small` or `large`; `write S WORD` of a content under grant S,
 /// with S as its number; `ask G` to be relieved of the frame that is held under grant G.
-fn message(rt: &impl Abort, alloc: Global, from: (u32, u32), row: &str) -> Message {
+fn said(rt: &impl Abort, alloc: Global, from: (u32, u32), row: &str) -> Said {
     let (verb, rest) = halves(row, " ");
     let (n, word) = halves(rest, " ");
     let n = number(n);
     let (inc, act) = from;
     match verb.as_bytes() {
-        [b'a', ..] => Message::Ask { inc, act, g: n },
-        [b'r', ..] => Message::Reply {
+        [b'a', ..] => Said::Ask { inc, act, g: n },
+        [b'r', ..] => Said::Reply {
             inc,
             act,
             n,
-            answer: said(rt, alloc, word),
+            answer: answer(rt, alloc, word),
         },
-        _ => Message::Write {
+        _ => Said::Write {
             inc,
             act,
             s: n,
@@ -94,16 +95,8 @@ fn message(rt: &impl Abort, alloc: Global, from: (u32, u32), row: &str) -> Messa
     }
 }
 
-fn told(
-    alloc: Global,
-    core: &mut ContainerCore,
-    link: u32,
-    message: Message,
-) -> Result<Answer, ContainerFault> {
-    core.on_message(alloc, link, message)
-}
-
-/// What a container answers to a message on the link of a server, which says that it is of this server and this activation.
+/// What a container answers to a message of its own session on the link of a server, which says that it is of this server and this
+/// activation.
 pub(crate) fn messaged(
     rt: &impl Abort,
     alloc: Global,
@@ -112,6 +105,22 @@ pub(crate) fn messaged(
     from: (u32, u32),
     row: &str,
 ) -> Result<Answer, ContainerFault> {
-    let message = message(rt, alloc, from, row);
-    told(alloc, core, link, message)
+    let session = core.session();
+    let link = ServerLink { session, inc: link };
+    let said = said(rt, alloc, from, row);
+    core.on_message(alloc, link, Message { session, said })
+}
+
+/// What it answers to a message of activation 1 of server 1 that says that it is in session 2, on the link of that server in this
+/// session: session 2 is past the container's.
+pub(crate) fn astray_in(
+    rt: &impl Abort,
+    alloc: Global,
+    core: &mut ContainerCore,
+    session: u32,
+    row: &str,
+) -> Result<Answer, ContainerFault> {
+    let link = ServerLink { session, inc: 1 };
+    let said = said(rt, alloc, (1, 1), row);
+    core.on_message(alloc, link, Message { session: 2, said })
 }

@@ -31,7 +31,7 @@ fn head(number: u8, len: usize) -> [u8; 10]
     ensures { result ≡ head number len }
 {
     let [a, b, c, d] = (len as u32).to_le_bytes();
-    [b'O', b'L', b'C', b'M', 1, number, a, b, c, d]
+    [b'O', b'L', b'C', b'M', 2, number, a, b, c, d]
 }
 
 /// The kind of the frame of which all bytes behind the head are the body.

@@ -25,9 +25,9 @@ fn ends(rt: &impl Abort, alloc: Global, sent: &[u8], want: &[u8]) -> &'static st
 
 #[test]
 fn a_link_is_served_to_its_end(rt: HostRuntime) {
-    let one = b"OLCM\x01\x05\0\0\0\0";
-    let two = b"OLCM\x01\x05\0\0\0\0OLCM\x01\x05\0\0\0\0";
-    let other = b"OLCM\x01\x05\0\0\0\0OLCX";
+    let one = b"OLCM\x02\x05\0\0\0\0";
+    let two = b"OLCM\x02\x05\0\0\0\0OLCM\x02\x05\0\0\0\0";
+    let other = b"OLCM\x02\x05\0\0\0\0OLCX";
     let closed = ends(&rt, rt.alloc(), two, two);
     let faulty = ends(&rt, rt.alloc(), other, one);
     assert!(rt;

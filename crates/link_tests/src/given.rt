@@ -12,7 +12,7 @@ use std::alloc::{AllocError, Global};
 use std::process::Abort;
 
 /// A Turn, as bytes.
-const TURN: &[u8] = b"OLCM\x01\x05\0\0\0\0";
+const TURN: &[u8] = b"OLCM\x02\x05\0\0\0\0";
 
 /// So many links, on each of which a Turn comes and then nothing; and how many bytes were written on those that were closed.
 #[derive(Drop)]

@@ -22,6 +22,7 @@ use container_laws::open_laws::files_give_one;
 use container_model::answer::Answer;
 use container_model::command::Command;
 use container_model::fault::ContainerFault;
+use container_model::server_link::ServerLink;
 use ole_streams::doc::Doc;
 use script_model::host::Host;
 use script_model::step::Step;
@@ -128,7 +129,11 @@ pub fn message<H: Host>(
     let Some(message) = message_of(step) else {
         return Err(ContainerFault::NoMemory);
     };
-    let told = core.on_message(alloc, inc, message);
+    let link = ServerLink {
+        session: core.session(),
+        inc,
+    };
+    let told = core.on_message(alloc, link, message);
     noted(host, told)
 }
 

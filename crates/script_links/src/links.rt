@@ -29,7 +29,7 @@ use script_model::answer::Told;
 use script_model::host::Host;
 use std::alloc::{AllocError, Global};
 use store_model::disk::Disk;
-use wire_msgs::message::Message;
+use wire_msgs::message::{Message, Said};
 use wire_msgs::refusal::Refusal;
 
 /// The most reads of a link in a turn.
@@ -90,13 +90,13 @@ fn push_frame(out: &mut Vec<u8>, frame: &Frame) -> Result<(), ScriptFault>
 
 /// The server that a message is to or from.
 pub fn server_of(message: &Message) -> u32
-    ensures { result ≡ server_of message.now }
+    ensures { result ≡ server_of message.now.said }
 {
-    match message {
-        Message::Call { inc, .. } => *inc,
-        Message::Reply { inc, .. } => *inc,
-        Message::Write { inc, .. } => *inc,
-        Message::Ask { inc, .. } => *inc,
+    match &message.said {
+        Said::Call { inc, .. } => *inc,
+        Said::Reply { inc, .. } => *inc,
+        Said::Write { inc, .. } => *inc,
+        Said::Ask { inc, .. } => *inc,
     }
 }
 

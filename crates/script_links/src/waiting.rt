@@ -7,7 +7,7 @@ use std::marker::Model;
 use stored_streams::stored::Stored;
 use wire_msgs::answer::Answer;
 use wire_msgs::items::Items;
-use wire_msgs::message::Message;
+use wire_msgs::message::{Message, Said};
 
 /// The most bytes that wait of a link: 256 MiB.
 const MOST: u64 = 268_435_456;
@@ -42,9 +42,9 @@ fn bytes_in(content: &Stored) -> u64 {
 
 /// The bytes that a message takes.
 fn bytes_of(message: &Message) -> u64 {
-    let content = match message {
-        Message::Write { content, .. } => bytes_in(content),
-        Message::Reply {
+    let content = match &message.said {
+        Said::Write { content, .. } => bytes_in(content),
+        Said::Reply {
             answer: Answer::Content(content),
             ..
         } => bytes_in(content),

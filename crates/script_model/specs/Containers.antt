@@ -30,7 +30,7 @@ gives g told = record { before = g.now; now = moved g.now told }
 abbrev pub given : Given → Step → Given
 given g (step.Begins n) = g
 given g (step.Command c) = gives g (on_command g.now c)
-given g (step.Message inc m) = gives g (on_message g.now inc m)
+given g (step.Message inc m) = gives g (on_message g.now (record { session = g.now.session; inc = inc }) m)
 given g (step.Reap inc) = gives g (on_reap g.now inc)
 given g (step.Committed f) = gives g (commit_done g.now f)
 given g (step.Failed f) = gives g (commit_failed g.now f)

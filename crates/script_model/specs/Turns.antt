@@ -1,6 +1,7 @@
 -- What a link is sent: the calls that are pending for its server, and a Turn.
 use Rattle.std.specs.Prelude.{◌≡◌, ◌==◌, ◌++◌, ℕ, List, [], ◌∷◌, if◌then◌else◌}
 use Rattle.wire_msgs.specs.declared.message.Message.{Message}
+use Rattle.wire_msgs.specs.declared.message.Said.{Said}
 use Rattle.wire_msgs.specs.declared.message.Said.TheVariants.{Call, Reply, Write, Ask}
 use Rattle.container_model.specs.Record.{Record}
 use Rattle.container_model.specs.Replies.{pending_calls}
@@ -10,7 +11,7 @@ use Rattle.script_model.specs.Events.{Event, Started, Connected, Sent, Heard, En
 use Rattle.script_model.specs.Containers.{record_of}
 
 -- the server that a message is to or from
-abbrev pub server_of : Message → ℕ
+abbrev pub server_of : Said → ℕ
 server_of (Call inc act n op) = inc
 server_of (Reply inc act n answer) = inc
 server_of (Write inc act s w content) = inc
@@ -19,7 +20,7 @@ server_of (Ask inc act g) = inc
 -- the byte forms of those messages of a server, one after the other, in their order
 abbrev pub spelled_to : ℕ → List Message → List ℕ
 spelled_to inc [] = []
-spelled_to inc (m ∷ ms) = if server_of m == inc then spell (frame.Message m) ++ spelled_to inc ms else spelled_to inc ms
+spelled_to inc (m ∷ ms) = if server_of m.said == inc then spell (frame.Message m) ++ spelled_to inc ms else spelled_to inc ms
 
 -- a server's turn
 abbrev pub turn_of : Record → ℕ → List ℕ

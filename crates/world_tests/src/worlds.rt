@@ -51,7 +51,7 @@ deliver 1";
 
 /// A content that is forged is taken, and the one that the note then writes under the same number isn't.
 const FORGED: &str =
-    "forge 1 4f4c434d01031f00000001000000010000000200000001000000010454657874010000007a00000000
+    "forge 1 4f4c434d0203230000000100000001000000010000000200000001000000010454657874010000007a00000000
 scribble 1 1
 deliver 9";
 

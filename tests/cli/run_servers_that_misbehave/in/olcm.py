@@ -3,6 +3,7 @@ import os, socket, struct, sys
 
 CALL, REPLY, WRITE, ASK, TURN = 1, 2, 3, 4, 5
 DONE, REFUSED, CONTENT, TOOLS = 0, 1, 2, 3
+SESSION = 1
 
 
 def note():
@@ -17,9 +18,11 @@ def begin():
         os.execv(os.environ["OLECON"], ["olecon", "serve", "1"])
 
 
-def frame(kind, *numbers, rest=b""):
+def frame(kind, *numbers, rest=b"", session=SESSION):
+    """A frame of these numbers; all but a Turn begin with the session."""
+    numbers = numbers if kind == TURN else (session, *numbers)
     body = struct.pack(f"<{len(numbers)}I", *numbers) + rest
-    return b"OLCM\x01" + bytes([kind]) + struct.pack("<I", len(body)) + body
+    return b"OLCM\x02" + bytes([kind]) + struct.pack("<I", len(body)) + body
 
 
 def receive(link, count):
@@ -47,7 +50,7 @@ def calls(link):
         body = receive(link, length)
         if kind == TURN:
             return found
-        found.append((*struct.unpack("<III", body[:12]), body[12]))
+        found.append((*struct.unpack("<III", body[4:16]), body[16]))
 
 
 def serve(answer):
@@ -61,9 +64,9 @@ def serve(answer):
             link.sendall(answer(link, asked))
 
 
-def done(call):
+def done(call, session=SESSION):
     inc, act, n, _ = call
-    return frame(REPLY, inc, act, n, rest=bytes([DONE]))
+    return frame(REPLY, inc, act, n, rest=bytes([DONE]), session=session)
 
 
 def each(reply):
