@@ -1,10 +1,9 @@
 -- Operations that are asked one after the other.
 use Rattle.std.proofs.Common.{◌≡◌, ◌+◌, List, [], ◌∷◌, ◌++◌, Option, Some, None, is_some, true, false, refl, ap, sym, ◌∙◌, append_assoc}
 use Rattle.std.proofs.lemmas.List.{append-nil}
-use Rattle.wire_msgs.specs.declared.message.Said.TheVariants.{Call}
 use Rattle.wire_msgs.specs.declared.operation.Operation.{Operation}
 use Rattle.container_model.specs.declared.record.Link.{Link}
-use Rattle.container_model.specs.Record.{Asked, ask_each}
+use Rattle.container_model.specs.Record.{Asked, ask_each, call}
 
 -- behind those that wait
 abbrev waits : Link → List Operation → Asked
@@ -22,7 +21,7 @@ each_waits l before ops e =
 -- at once, and those behind it
 pub each_begins : (l : Link) (op : Operation) (ops : List Operation) → l.pending ≡ None → ask_each l (op ∷ ops) ≡ record {
   link = record l { last = l.last + 1; pending = Some op; waiting = l.waiting ++ ops };
-  sent = Call l.inc l.act (l.last + 1) op ∷ [];
+  sent = call l (l.last + 1) op ∷ [];
 }
 each_begins l op ops e = rw (e, waits_behind (record l { last = l.last + 1 }) op ops) refl
 
@@ -46,5 +45,5 @@ pub begins_link : (l next : Link) (waiting : List Operation) (op : Operation) (o
 begins_link l next waiting op ops all h e a is =
     is ∙ (ap (λ w. record l { last = l.last + 1; pending = Some op; waiting = w }) e ∙ sym (ap (λ x. (ask_each l x).link) a ∙ ap (λ x. x.link) (each_begins l op ops (begins_from l op ops l.pending refl h))))
 
-pub begins_sent : (l : Link) (op : Operation) (ops all : List Operation) → is_some l.pending ≡ false → all ≡ op ∷ ops → (ask_each l all).sent ≡ Call l.inc l.act (l.last + 1) op ∷ []
+pub begins_sent : (l : Link) (op : Operation) (ops all : List Operation) → is_some l.pending ≡ false → all ≡ op ∷ ops → (ask_each l all).sent ≡ call l (l.last + 1) op ∷ []
 begins_sent l op ops all h a = ap (λ x. (ask_each l x).sent) a ∙ ap (λ x. x.sent) (each_begins l op ops (begins_from l op ops l.pending refl h))
