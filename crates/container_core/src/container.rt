@@ -8,6 +8,7 @@ use container_model::answer::{Answer, FrameDocument};
 use container_model::command::Command;
 use container_model::fault::ContainerFault;
 use container_model::record::{Frame, Object};
+use container_model::server_link::ServerLink;
 use container_numbers::sound_laws::{few_frames_after, sound_after};
 use container_screen::screen::screen;
 use container_state::state::State;
@@ -104,6 +105,13 @@ impl ContainerCore {
         object_numbers(alloc, self.state.objects())
     }
 
+    /// The session: it is in the name of each server, and in each message.
+    pub fn session(&self) -> u32
+        ensures { result ≡ self.now.session }
+    {
+        self.state.session()
+    }
+
     /// All frames, by their numbers from 1.
     pub fn all_frames(&self) -> &[Frame]
         ensures { result.now ≡ self.now.frames }
@@ -182,8 +190,9 @@ impl ContainerCore {
     /// got its frame's menus without border space, what is sent (what the object is asked next, then who waited for the frame
     /// is told that it gets it), and which files are to be committed.
     ///
-    /// - `WrongLink` where it is a call, or says that it is from another server than the link's.
-    /// - `Stale` where that server isn't alive, or no object has the activation; where it answers no pending call; where it is a
+    /// - `WrongLink` where it is a call, or says that it is from another server than the link's: of another session, or of
+    ///   another incarnation.
+    /// - `Stale` where the link is of another session than the container's; where that server isn't alive, or no object has the activation; where it answers no pending call; where it is a
     ///   write that the object's storage isn't open to; where it asks to be relieved of a frame that the object doesn't hold
     ///   under this grant, or was told to give up.
     /// - `BadAnswer` where its content is past what may be stored, or it doesn't fit the call.

@@ -5,7 +5,7 @@ use Rattle.indexmap.specs.IndexMap.{set_value_at}
 use Rattle.wire_msgs.specs.Found.{find, put, IsPlace}
 use Rattle.wire_msgs.specs.declared.operation.Operation.{Operation}
 use Rattle.wire_msgs.specs.declared.answer.Answer.{Answer}
-use Rattle.wire_msgs.specs.declared.message.Message.{Message}
+use Rattle.wire_msgs.specs.declared.message.Said.{Said}
 use Rattle.wire_msgs.specs.declared.message.Said.TheVariants.{Ask}
 use Rattle.embed_core.specs.Content.{Content}
 use Rattle.embed_core.specs.Kinds.{Kind}
@@ -13,7 +13,7 @@ use Rattle.server_model.specs.declared.activation_view.ActivationView.{Activatio
 use Rattle.server_model.specs.declared.counted.Counted.{Counted}
 use Rattle.server_model.specs.declared.fault.ServerFault.{ServerFault}
 use Rattle.server_model.specs.declared.fault.ServerFault.TheVariants.{Ignored}
-use Rattle.server_model.specs.Server.{Activation, Server, Served, Refuses, Tells, after_known, asks, called, is_act, known_call, scribbled, view_of}
+use Rattle.server_model.specs.Server.{Activation, Server, Served, Refuses, Tells, after_known, asks, called, from_server, is_act, known_call, scribbled, view_of}
 use Rattle.server_model.specs.Opened.{Acts, Writes, write_open}
 use Rattle.server_model.proofs.Finding.{put-found}
 use Rattle.server_model.proofs.Known.{known_refuses, server}
@@ -26,8 +26,8 @@ use Rattle.server_core.specs.declared.server.Activation as code
 use Rattle.server_core.specs.declared.server.Seat.{Seat}
 use Rattle.server_core.proofs.Standing.{absent, all_kept, get_at, item_at, one_changed, placed, set_pair, unfound}
 
-abbrev taken : ℕ → ℕ → Answer → Option Counted → List Activation → Result Served ServerFault
-taken inc numbers answer counted acts = Ok (record { server = server inc numbers acts; answer = answer; counted = counted; used = false })
+abbrev taken : ℕ → ℕ → ℕ → Answer → Option Counted → List Activation → Result Served ServerFault
+taken session inc numbers answer counted acts = Ok (record { server = server session inc numbers acts; answer = answer; counted = counted; used = false })
 
 module _ {X : Type 0} {V : X → Type 0} (content : Seat X V → Content) where
   -- what is in an activation's seat
@@ -77,35 +77,35 @@ module _ {X : Type 0} {V : X → Type 0} (content : Seat X V → Content) where
             ∙ (ap (λ y. put (is_act act) y (map (seen_activation content slots) es)) same
             ∙ put-found (is_act act) (map (seen_activation content slots) es) (seen_activation content slots (act, b)) found)
 
-        module _ (inc numbers : ℕ) where
+        module _ (session inc numbers : ℕ) where
           pub acts : (n : ℕ) (op : Operation) (w : code.Activation) (new : List (Option (Owned X V))) (answer : Answer) (counted : Option Counted)
               → KeepsOthers act slots new → Acts (known_call (seen_activation content slots (act, b)) n op) (seen_activation content new (act, w)) answer counted → (box : Option Kind)
-              → called (server inc numbers (map (seen_activation content slots) es)) act n op box (find (is_act act) (map (seen_activation content slots) es))
-              ≡ Ok (record { server = server inc numbers (map (seen_activation content new) (set_value_at es i w)); answer = answer; counted = counted; used = false })
+              → called (server session inc numbers (map (seen_activation content slots) es)) act n op box (find (is_act act) (map (seen_activation content slots) es))
+              ≡ Ok (record { server = server session inc numbers (map (seen_activation content new) (set_value_at es i w)); answer = answer; counted = counted; used = false })
           acts n op w new answer counted others told box =
-              let v = server inc numbers (map (seen_activation content slots) es) in
+              let v = server session inc numbers (map (seen_activation content slots) es) in
               ap (called v act n op box) found
               ∙ (ap (after_known v act) told
-              ∙ ap (taken inc numbers answer counted) (puts w new others))
+              ∙ ap (taken session inc numbers answer counted) (puts w new others))
 
           pub refuses : (n : ℕ) (op : Operation) (fault : ServerFault) → Refuses (known_call (seen_activation content slots (act, b)) n op) fault → (box : Option Kind)
-              → Refuses (called (server inc numbers (map (seen_activation content slots) es)) act n op box (find (is_act act) (map (seen_activation content slots) es))) fault
+              → Refuses (called (server session inc numbers (map (seen_activation content slots) es)) act n op box (find (is_act act) (map (seen_activation content slots) es))) fault
           refuses n op fault told box =
-              known_refuses inc numbers (seen_activation content slots) es i act n op (act, b) fault place (get_at es i (act, b) (item_at es act i b at h)) told box
+              known_refuses session inc numbers (seen_activation content slots) es i act n op (act, b) fault place (get_at es i (act, b) (item_at es act i b at h)) told box
 
-          pub tells : (w : code.Activation) (m : Message) → Writes (write_open inc numbers (seen_activation content slots (act, b)) (seen_activation content slots (act, b)).content) (seen_activation content slots (act, w)) m
-              → Tells (scribbled (server inc numbers (map (seen_activation content slots) es)) (find (is_act act) (map (seen_activation content slots) es))) (server inc numbers (map (seen_activation content slots) (set_value_at es i w))) m
-          tells w m told =
+          pub tells : (w : code.Activation) (said : Said) → Writes (write_open inc numbers (seen_activation content slots (act, b)) (seen_activation content slots (act, b)).content) (seen_activation content slots (act, w)) said
+              → Tells (scribbled (server session inc numbers (map (seen_activation content slots) es)) (find (is_act act) (map (seen_activation content slots) es))) (server session inc numbers (map (seen_activation content slots) (set_value_at es i w))) (record { session = session; said = said })
+          tells w said told =
               let stands : slice_get es i ≡ Some (act, b) = item_at es act i b at h in
-              let v = server inc numbers (map (seen_activation content slots) es) in
-              subst (λ (l : List (ℕ × code.Activation)). Tells (scribbled v (find (is_act act) (map (seen_activation content slots) es))) (server inc numbers (map (seen_activation content slots) l)) m)
+              let v = server session inc numbers (map (seen_activation content slots) es) in
+              subst (λ (l : List (ℕ × code.Activation)). Tells (scribbled v (find (is_act act) (map (seen_activation content slots) es))) (server session inc numbers (map (seen_activation content slots) l)) (record { session = session; said = said }))
               (set_pair es act i b w stands)
-              (write_told inc numbers (seen_activation content slots) es i act (act, b) (act, w) m place (get_at es i (act, b) stands) told)
+              (write_told session inc numbers (seen_activation content slots) es i act (act, b) (act, w) said place (get_at es i (act, b) stands) told)
 
           pub untold : (fault : ServerFault) → Refuses (write_open inc numbers (seen_activation content slots (act, b)) (seen_activation content slots (act, b)).content) fault
-              → Refuses (scribbled (server inc numbers (map (seen_activation content slots) es)) (find (is_act act) (map (seen_activation content slots) es))) fault
+              → Refuses (scribbled (server session inc numbers (map (seen_activation content slots) es)) (find (is_act act) (map (seen_activation content slots) es))) fault
           untold fault told =
-              write_refuses inc numbers (seen_activation content slots) es i act (act, b) fault place (get_at es i (act, b) (item_at es act i b at h)) told
+              write_refuses session inc numbers (seen_activation content slots) es i act (act, b) fault place (get_at es i (act, b) (item_at es act i b at h)) told
 
         -- what is seen of it
         pub viewed : (v : ActivationView) (opened : Bool) (r : Option (Bor (Seat X V)))
@@ -123,9 +123,9 @@ module _ {X : Type 0} {V : X → Type 0} (content : Seat X V → Content) where
         seen_push (seen_activation content new) es (act, w)
         ∙ ap (λ l. l ++ seen_activation content new (act, w) ∷ []) (all_kept (λ (a : code.Activation). a.facts) (inside slots) act (inside new) (λ e differ. ap (option_map content) (others e.0 e.1.key differ)) es unknown)
 
-pub asks_told : (v : Server) (a : Activation) (g : Option ℕ) (m : Message) → Some m ≡ option_map (Ask v.inc a.act) g → asks v a g ≡ Ok (record { server = v; message = m })
-asks_told v a None m e = cc
-asks_told v a (Some g) m e = cc
+pub asks_told : (v : Server) (a : Activation) (g : Option ℕ) (said : Said) → Some said ≡ option_map (Ask v.inc a.act) g → asks v a g ≡ Ok (record { server = v; message = from_server v said })
+asks_told v a None said e = cc
+asks_told v a (Some g) said e = ap (λ (s : Said). Ok (record { server = v; message = from_server v s })) (let same : Ask v.inc a.act g ≡ said = cc in same)
 
 pub asks_refused : (v : Server) (a : Activation) (g : Option ℕ) → None ≡ option_map (Ask v.inc a.act) g → asks v a g ≡ Err Ignored
 asks_refused v a None e = refl

@@ -29,4 +29,4 @@ module _ {X : Type 0} {V : X → Type 0} (content : Seat X V → Content) where
   seen_activation slots e = whole e.0 e.1.facts (option_map content (seat_at slots e.0 e.1.key))
 
   abbrev pub seen : ServerCore X V → Server
-  seen v = record { inc = v.inc; numbers = v.numbers; acts = map (seen_activation v.seats.slab.slots) v.acts.entries }
+  seen v = record { session = v.session; inc = v.inc; numbers = v.numbers; acts = map (seen_activation v.seats.slab.slots) v.acts.entries }

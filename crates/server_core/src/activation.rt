@@ -17,7 +17,7 @@ use std::alloc::Global;
 use stored_streams::stored::Stored;
 use stored_values::bytes::Bytes;
 use wire_msgs::answer::Answer;
-use wire_msgs::message::Message;
+use wire_msgs::message::Said;
 use wire_msgs::operation::Operation;
 use wire_msgs::refusal::Refusal;
 
@@ -301,7 +301,7 @@ impl Activation {
         seats: &Seats,
         inc: u32,
         numbers: u32,
-    ) -> Result<Message, ServerFault>
+    ) -> Result<Said, ServerFault>
         ensures written { IfOk result (λ m. Writes (write_open inc numbers (seen_activation (λ s. content s.boxed) seats.now.slab.slots (act, self.old)) (seen_activation (λ s. content s.boxed) seats.now.slab.slots (act, self.old)).content) (seen_activation (λ s. content s.boxed) seats.now.slab.slots (act, self.new)) m) }
         ensures refused { IfErr result (Refuses (write_open inc numbers (seen_activation (λ s. content s.boxed) seats.now.slab.slots (act, self.old)) (seen_activation (λ s. content s.boxed) seats.now.slab.slots (act, self.old)).content)) }
         ensures kept { OnErr result (self.new ≡ self.old) }

@@ -5,7 +5,7 @@ ghost use Rattle.indexmap.specs.IndexMap.{spare};
 ghost use Rattle.slab.specs.Slab.{HasRoomFor};
 ghost use Rattle.wire_msgs.specs.Found.{find};
 ghost use Rattle.embed_core.specs.Kinds.{Kind, kind_of};
-ghost use Rattle.server_model.specs.Server.{Refuses, Takes, after_begun, begins, begun_class, begun_content, begun_states, called, answers, fresh, offered, is_act, on_call, unknown_call, unless_wanted, wanted, wanted_unknown};
+ghost use Rattle.server_model.specs.Server.{Refuses, Takes, after_begun, begins, begun_class, begun_content, begun_states, called, answers, fresh, offered, is_act, is_for, on_call, unknown_call, unless_wanted, wanted, wanted_unknown};
 ghost use Rattle.server_model.specs.Opened.{TakesCall, TakesKnown, first_class};
 ghost use Rattle.server_core.specs.Kept.{whole};
 ghost use Rattle.server_core.specs.Places.{IsAt};
@@ -22,7 +22,7 @@ use server_model::fault::ServerFault;
 use std::alloc::{AllocError, Global};
 use stored_values::class_id::ClassId;
 use wire_msgs::answer::Answer;
-use wire_msgs::message::Message;
+use wire_msgs::message::{Message, Said};
 use wire_msgs::operation::Operation;
 use wire_msgs::refusal::Refusal as Why;
 
@@ -149,17 +149,21 @@ impl ServerCore {
         ensures same { IfErr result (λ r. r.fault ≢ ServerFault.NoMemory → r.back ≡ boxed) }
         ensures kept { OnErr result (seen (λ s. content s.boxed) self.new ≡ seen (λ s. content s.boxed) self.old) }
     {
+        let session = self.session;
         let inc = self.inc;
         let told = self.known(alloc, i, act, n, &operation);
         // In one call: at each way out of a function an operation that it still has is let go of as a match over its kinds.
         drop(operation);
         match told {
             Ok(answered) => Ok(Reaction {
-                reply: Message::Reply {
-                    inc,
-                    act,
-                    n,
-                    answer: answered.answer,
+                reply: Message {
+                    session,
+                    said: Said::Reply {
+                        inc,
+                        act,
+                        n,
+                        answer: answered.answer,
+                    },
                 },
                 counted: answered.counted,
                 back: boxed,
@@ -236,16 +240,20 @@ impl ServerCore {
                 return Err(Refusal { fault, back: boxed });
             }
         };
+        let session = self.session;
         let inc = self.inc;
         let offered = self.offered(alloc, act, class, &operation, boxed);
         drop(operation);
         match offered {
             Ok(answer) => Ok(Reaction {
-                reply: Message::Reply {
-                    inc,
-                    act,
-                    n,
-                    answer,
+                reply: Message {
+                    session,
+                    said: Said::Reply {
+                        inc,
+                        act,
+                        n,
+                        answer,
+                    },
                 },
                 counted: None,
                 back: None,
@@ -254,20 +262,27 @@ impl ServerCore {
         }
     }
 
+    // Whether it is this server's, by session and incarnation.
+    fn is_for(&self, session: u32, inc: u32) -> bool
+        ensures { result ≡ is_for (seen (λ s. content s.boxed) self.now) session inc }
+    {
+        session == self.session && inc == self.inc
+    }
+
     /// The class of the object that a message needs, where it makes an activation: none for a message that makes none.
     pub fn wants(&self, message: &Message) -> Option<ClassId>
         ensures { result ≡ wanted (seen (λ s. content s.boxed) self.now) message.now }
     {
-        let Message::Call {
+        let Said::Call {
             inc,
             act,
             n,
             operation,
-        } = message
+        } = &message.said
         else {
             return None;
         };
-        if *inc != self.inc {
+        if !self.is_for(message.session, *inc) {
             return None;
         }
         if let Some(_) = self.place(*act) {
@@ -282,9 +297,9 @@ impl ServerCore {
     /// What a message does, with an object handed in for an activation that it makes, or none. The activation's next
     /// call acts, its last is answered again.
     ///
-    /// Refused: `WrongIncarnation` a call for another incarnation; `Ignored` what isn't a call, a call of an unknown
-    /// activation but for a first InitNew or Load, a call of a known one that is neither the last nor the next, or the
-    /// next of a closed one; `NumbersSpent` where the server has as many activations as it may have; `NeedObject`
+    /// Refused: `WrongIncarnation` a call of another session, or for another incarnation; `Ignored` what isn't a call, a
+    /// call of an unknown activation but for a first InitNew or Load, a call of a known one that is neither the last nor the
+    /// next, or the next of a closed one; `NumbersSpent` where the server has as many activations as it may have; `NeedObject`
     /// where there is none to make the activation with; `WrongClass` where it is of another class; then `NoMemory`.
     /// Then nothing changes, and the object comes back: the very one that was handed in, and after `NoMemory` one with its
     /// content.
@@ -300,20 +315,22 @@ impl ServerCore {
         ensures handed_back { IfErr result (λ r. option_map (λ b. content b) r.back ≡ option_map (λ b. content b) boxed) }
         ensures same { IfErr result (λ r. r.fault ≢ ServerFault.NoMemory → r.back ≡ boxed) }
         ensures kept { OnErr result (seen (λ s. content s.boxed) self.new ≡ seen (λ s. content s.boxed) self.old) }
+        ensures session { OnOk result (message.session ≡ (seen (λ s. content s.boxed) self.old).session) }
     {
-        let Message::Call {
+        let Message { session, said } = message;
+        let Said::Call {
             inc,
             act,
             n,
             operation,
-        } = message
+        } = said
         else {
             return Err(Refusal {
                 fault: ServerFault::Ignored,
                 back: boxed,
             });
         };
-        if inc != self.inc {
+        if !self.is_for(session, inc) {
             drop(operation);
             return Err(Refusal {
                 fault: ServerFault::WrongIncarnation,

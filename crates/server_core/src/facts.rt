@@ -3,7 +3,7 @@
 ghost use Rattle.std.specs.Prelude.{◌≡◌, ◌+◌, ◌<◌, ◌^◌, Some, None, IfOk, option_map, IsTrue, ◌↔◌};
 ghost use Rattle.object_state.specs.Both as both;
 ghost use Rattle.wire_msgs.specs.declared.answer.Answer.TheVariants as answer;
-ghost use Rattle.wire_msgs.specs.declared.message.Said.TheVariants as message;
+ghost use Rattle.wire_msgs.specs.declared.message.Said.TheVariants as said;
 ghost use Rattle.object_state.specs.Persists.{may_write};
 
 use object_state::{Menus, Op, StateFault, States};
@@ -14,7 +14,7 @@ use std::marker::Model;
 use stored_streams::stored::Stored;
 use stored_values::class_id::ClassId;
 use wire_msgs::answer::Answer;
-use wire_msgs::message::Message;
+use wire_msgs::message::Said;
 use wire_msgs::refusal::Refusal;
 
 /// An answer, and the save that was counted with it.
@@ -264,13 +264,13 @@ impl Facts {
     }
 
     /// The next write, of this content.
-    pub fn write(&mut self, inc: u32, act: u32, content: Stored) -> Message
+    pub fn write(&mut self, inc: u32, act: u32, content: Stored) -> Said
         requires { self.old.w + 1 < 2 ^ 32 }
         ensures counted { self.new ≡ record self.old { w = self.old.w + 1 } }
-        ensures written { result ≡ message.Write inc act self.old.s (self.old.w + 1) content }
+        ensures written { result ≡ said.Write inc act self.old.s (self.old.w + 1) content }
     {
         self.w += 1;
-        Message::Write {
+        Said::Write {
             inc,
             act,
             s: self.s,
@@ -286,21 +286,21 @@ impl Facts {
         self.g
     }
 
-    /// The message that asks to be relieved of its grant, where it has one.
-    pub fn ask(&self, inc: u32, act: u32) -> Option<Message>
-        ensures { result ≡ option_map (message.Ask inc act) self.now.g }
+    /// What asks to be relieved of its grant, where it has one.
+    pub fn ask(&self, inc: u32, act: u32) -> Option<Said>
+        ensures { result ≡ option_map (said.Ask inc act) self.now.g }
     {
         match self.g {
-            Some(g) => Some(Message::Ask { inc, act, g }),
+            Some(g) => Some(Said::Ask { inc, act, g }),
             None => None,
         }
     }
 
     /// The reply to its last call.
-    pub fn last_reply(&self, alloc: Global, inc: u32, act: u32) -> Result<Message, AllocError>
-        ensures { IfOk result (λ m. m ≡ message.Reply inc act self.now.last self.now.reply) }
+    pub fn last_reply(&self, alloc: Global, inc: u32, act: u32) -> Result<Said, AllocError>
+        ensures { IfOk result (λ m. m ≡ said.Reply inc act self.now.last self.now.reply) }
     {
-        Ok(Message::Reply {
+        Ok(Said::Reply {
             inc,
             act,
             n: self.last,

@@ -19,7 +19,13 @@ impl ServerCore {
         ensures refused { IfErr result (Refuses (scribbled (seen (λ s. content s.boxed) self.old) (find (is_act act) (seen (λ s. content s.boxed) self.old).acts))) }
         ensures kept { OnErr result (seen (λ s. content s.boxed) self.new ≡ seen (λ s. content s.boxed) self.old) }
     {
-        self.acts[i].write(alloc, act, &self.seats, self.inc, self.numbers)
+        match self.acts[i].write(alloc, act, &self.seats, self.inc, self.numbers) {
+            Ok(said) => Ok(Message {
+                session: self.session,
+                said,
+            }),
+            Err(fault) => Err(fault),
+        }
     }
 
     /// An activation writes the content that it has now.
@@ -48,7 +54,10 @@ impl ServerCore {
             return Err(ServerFault::Ignored);
         };
         match self.acts[i].facts.ask(self.inc, act) {
-            Some(message) => Ok(message),
+            Some(said) => Ok(Message {
+                session: self.session,
+                said,
+            }),
             None => Err(ServerFault::Ignored),
         }
     }

@@ -91,6 +91,7 @@ pub struct Activation {
 /// A server. Its activations are found by their numbers and stand in the order in which they were made.
 #[derive(Drop)]
 pub struct ServerCore {
+    pub(crate) session: u32,
     pub(crate) inc: u32,
     pub(crate) numbers: u32,
     pub(crate) acts: IndexMap<u32, Activation>,
@@ -98,11 +99,13 @@ pub struct ServerCore {
 }
 
 impl ServerCore {
-    /// A server of this incarnation without activations. It may have so many activations, and each so many writes.
-    pub fn new(alloc: Global, inc: u32, numbers: u32) -> ServerCore
-        ensures { seen (λ s. content s.boxed) result ≡ record { inc = inc; numbers = numbers; acts = [] } }
+    /// A server of this session and incarnation without activations. It may have so many activations, and each so many
+    /// writes.
+    pub fn new(alloc: Global, session: u32, inc: u32, numbers: u32) -> ServerCore
+        ensures { seen (λ s. content s.boxed) result ≡ record { session = session; inc = inc; numbers = numbers; acts = [] } }
     {
         ServerCore {
+            session,
             inc,
             numbers,
             acts: IndexMap::new(alloc),
@@ -143,7 +146,13 @@ impl ServerCore {
         ensures { IfOk result (λ r. r ≡ last_reply (seen (λ s. content s.boxed) self.now) act) }
     {
         match self.place(act) {
-            Some(i) => Ok(Some(self.acts[i].facts.last_reply(alloc, self.inc, act)?)),
+            Some(i) => {
+                let said = self.acts[i].facts.last_reply(alloc, self.inc, act)?;
+                Ok(Some(Message {
+                    session: self.session,
+                    said,
+                }))
+            }
             None => Ok(None),
         }
     }

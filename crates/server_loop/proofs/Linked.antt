@@ -1,5 +1,5 @@
 -- What a link has come to by one more step.
-use Rattle.std.proofs.Common.{◌*◌, length-append, ◌≡◌, ℕ, List, [], ◌∷◌, ◌++◌, Option, Some, None, refl, sym, ap, subst, ◌∙◌, arith, ◌<◌, ◌≤◌, ◌+◌, append_assoc, append-nil, cond, Bool, true, false, nat_le, nat_eq, length, Err}
+use Rattle.std.proofs.Common.{◌*◌, length-append, ◌≡◌, ℕ, List, [], ◌∷◌, ◌++◌, Option, Some, None, refl, sym, ap, subst, ◌∙◌, arith, ◌<◌, ◌≤◌, ◌+◌, append_assoc, append-nil, cond, Bool, true, false, nat_le, length, Err}
 use Rattle.std.specs.Io.KnownBytes.{Appends, Consumes}
 use Rattle.std.proofs.KnownBytes.{Appends-nil, Appends-trans, Consumes-kept, Consumes-nil, Consumes-trans}
 use Rattle.embed_core.specs.Content.{Content}
@@ -7,10 +7,11 @@ use Rattle.embed_core.specs.Kinds.{Kind}
 use Rattle.wire_msgs.specs.Found.{find}
 use Rattle.wire_msgs.specs.declared.operation.Operation.{Operation}
 use Rattle.wire_msgs.specs.declared.message.Message.{Message}
+use Rattle.wire_msgs.specs.declared.message.Said.{Said}
 use Rattle.wire_msgs.specs.declared.message.Said.TheVariants.{Call, Reply, Write, Ask}
 use Rattle.message_model.specs.declared.frame.Frame.{Frame}
 use Rattle.message_model.specs.declared.frame.Frame.TheVariants as frame
-use Rattle.server_model.specs.Server.{Activation, Server, after_begun, begins, begun_class, begun_content, called, is_act, is_class, offered, unknown_call, wanted, wanted_unknown}
+use Rattle.server_model.specs.Server.{Activation, Server, after_begun, begins, begun_class, begun_content, called, is_act, is_class, is_for, offered, on_said, unknown_call, wanted, wanted_by, wanted_unknown}
 use Rattle.server_model.specs.declared.fault.ServerFault.{ServerFault}
 use Rattle.server_model.specs.declared.fault.ServerFault.TheVariants as fault
 use Rattle.server_core.specs.declared.server.Seat.{Seat}
@@ -83,11 +84,14 @@ passed_call : (t : Turn) (m : Message) (v : Server) (act n : ℕ) (op : Operatio
 passed_call t m v act n op true class e = passed_called t m v act n op (find (is_act act) v.acts) class e
 passed_call t m v act n op false class e = refl
 
+passed_said : (t : Turn) (m : Message) (session : ℕ) (said : Said) (class : List ℕ) → wanted_by t.server session said ≡ Some class → answered t m (on_said t.server session said None) ≡ t
+passed_said t m session (Call inc act n op) class e = passed_call t m t.server act n op (is_for t.server session inc) class e
+passed_said t m session (Reply inc act n told) class e = refl
+passed_said t m session (Write inc act s w content) class e = refl
+passed_said t m session (Ask inc act g) class e = refl
+
 pub passed : (t : Turn) (m : Message) (class : List ℕ) → wanted t.server m ≡ Some class → met t m None ≡ t
-passed t (Call inc act n op) class e = passed_call t (Call inc act n op) t.server act n op (nat_eq inc t.server.inc) class e
-passed t (Reply inc act n told) class e = refl
-passed t (Write inc act s w content) class e = refl
-passed t (Ask inc act g) class e = refl
+passed t m class e = passed_said t m m.session m.said class e
 
 wanted_in : (made : List ℕ → Bool) (w : Option (List ℕ)) → w ≡ None → IsHandedIn made w None
 wanted_in made w e = subst (λ x. IsHandedIn made x None) (sym e) refl
@@ -118,11 +122,15 @@ module _ (t : Turn) (m : Message) (v : Server) (act : ℕ) (op : Operation) (kin
   other_call n true e = other_called n (find (is_act act) v.acts) e
   other_call n false e = refl
 
+other_said : (t : Turn) (m : Message) (session : ℕ) (said : Said) (kind : Kind) (class : List ℕ) → is_class kind class ≡ false → wanted_by t.server session said ≡ Some class
+    → answered t m (on_said t.server session said (Some kind)) ≡ t
+other_said t m session (Call inc act n op) kind class o e = other_call t m t.server act op kind class o n (is_for t.server session inc) e
+other_said t m session (Reply inc act n told) kind class o e = refl
+other_said t m session (Write inc act s w content) kind class o e = refl
+other_said t m session (Ask inc act g) kind class o e = refl
+
 other_met : (t : Turn) (m : Message) (kind : Kind) (class : List ℕ) → is_class kind class ≡ false → wanted t.server m ≡ Some class → met t m (Some kind) ≡ t
-other_met t (Call inc act n op) kind class o e = other_call t (Call inc act n op) t.server act op kind class o n (nat_eq inc t.server.inc) e
-other_met t (Reply inc act n told) kind class o e = refl
-other_met t (Write inc act s w content) kind class o e = refl
-other_met t (Ask inc act g) kind class o e = refl
+other_met t m kind class o e = other_said t m m.session m.said kind class o e
 
 -- An object for a message that wants one: it is handed in, or it is of another class, and is as none.
 pub record Handed (made : List ℕ → Bool) (t : Turn) (m : Message) (kind : Kind) : Type 0 where

@@ -4,6 +4,7 @@ use Rattle.embed_core.specs.Kinds.{Kind}
 use Rattle.wire_msgs.specs.declared.operation.Operation.TheVariants.{Edit}
 use Rattle.wire_msgs.specs.declared.answer.Answer.TheVariants.{Done}
 use Rattle.wire_msgs.specs.declared.message.Message.{Message}
+use Rattle.wire_msgs.specs.declared.message.Said.{Said}
 use Rattle.wire_msgs.specs.declared.message.Said.TheVariants.{Call, Reply}
 use Rattle.wire_msgs.specs.Found.{find}
 use Rattle.message_model.specs.declared.frame.Frame.{Frame}
@@ -20,9 +21,13 @@ pub record Turn : Type 0 where
   pub out : List ℕ
   pub edited : List ℕ
 
+-- The session of the container that a server serves: 1, until sessions are counted.
+abbrev pub SESSION : ℕ
+SESSION = 1
+
 -- the first turn of a server: it has no activation
 abbrev pub first_turn : (inc numbers : ℕ) → Turn
-first_turn inc numbers = record { server = record { inc = inc; numbers = numbers; acts = [] }; out = []; edited = [] }
+first_turn inc numbers = record { server = record { session = SESSION; inc = inc; numbers = numbers; acts = [] }; out = []; edited = [] }
 
 -- what is written of a frame: nothing where it may not be sent
 abbrev pub sent : Frame → List ℕ
@@ -37,15 +42,22 @@ abbrev pub edited_next : ℕ → ℕ → Option Activation → Option ℕ
 edited_next act n None = None
 edited_next act n (Some a) = cond (nat_eq n (a.last + 1)) (Some act) None
 
--- the activation that a message edits, where it is its next call
+-- the activation that is edited by what a message says, where it is its next call
+abbrev pub edited_by_said : Server → Said → Option ℕ
+edited_by_said v (Call inc act n (Edit bytes)) = edited_next act n (find (is_act act) v.acts)
+edited_by_said v said = None
+
+-- the same of a message; the server's step refuses what is of another session or incarnation
 abbrev pub edited_by : Server → Message → Option ℕ
-edited_by v (Call inc act n (Edit bytes)) = edited_next act n (find (is_act act) v.acts)
-edited_by v m = None
+edited_by v m = edited_by_said v m.said
+
+abbrev pub noted_said : Option ℕ → Said → List ℕ → List ℕ
+noted_said (Some act) (Reply inc other n Done) edited = noted act edited
+noted_said edit said edited = edited
 
 -- an edit whose reply says that it is done is noted
 abbrev pub noted_done : Option ℕ → Message → List ℕ → List ℕ
-noted_done (Some act) (Reply inc other n Done) edited = noted act edited
-noted_done edit m edited = edited
+noted_done edit m edited = noted_said edit m.said edited
 
 abbrev pub answered : Turn → Message → Result Served ServerFault → Turn
 answered t m (Err fault) = t

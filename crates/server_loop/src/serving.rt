@@ -26,7 +26,7 @@ use std::alloc::{AllocError, Global};
 use std::io::{Read, Write};
 use stored_values::class_id::ClassId;
 use wire_msgs::answer::Answer;
-use wire_msgs::message::Message;
+use wire_msgs::message::{Message, Said};
 use wire_msgs::operation::Operation;
 
 /// The most turns of a link.
@@ -34,6 +34,9 @@ pub const MOST_TURNS: u32 = 1_000;
 
 /// The most reads of a turn.
 pub const MOST_READS: u32 = 1_000_000;
+
+/// A container's session is 1 until it is counted.
+const SESSION: u32 = 1;
 
 /// How many bytes are read at once.
 const PIECE: usize = 8192;
@@ -101,12 +104,12 @@ fn is_next(last: u32, n: u32) -> bool
 fn edited_by(core: &ServerCore, message: &Message) -> Option<u32>
     ensures { result ≡ edited_by (seen (λ s. (⟦<dyn Embedded as Embedded>⟧ s.boxed.vtable).content s.boxed.value) core.now) message.now }
 {
-    let Message::Call {
+    let Said::Call {
         act,
         n,
         operation,
         ..
-    } = message
+    } = &message.said
     else {
         return None;
     };
@@ -156,7 +159,7 @@ fn note(edited: &mut Vec<u32>, edit: Option<u32>, reply: &Message) -> Result<(),
     let Some(act) = edit else {
         return Ok(());
     };
-    let Message::Reply { answer, .. } = reply else {
+    let Said::Reply { answer, .. } = &reply.said else {
         return Ok(());
     };
     let Answer::Done = answer else {
@@ -201,7 +204,7 @@ impl Serving {
         ensures first { OnOk result (IsAt (λ s. (⟦<dyn Embedded as Embedded>⟧ s.boxed.vtable).content s.boxed.value) self.new (first_turn inc numbers) [] []) }
     {
         self.servers.reserve(1)?;
-        let core = ServerCore::new(alloc, inc, numbers);
+        let core = ServerCore::new(alloc, SESSION, inc, numbers);
         add(&mut self.servers, Server { core });
         Ok(())
     }

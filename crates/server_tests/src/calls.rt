@@ -8,8 +8,11 @@ use std::alloc::Global;
 use std::process::Abort;
 use stored_streams::streams::NamedStream;
 use stored_values::class_id::ClassId;
-use wire_msgs::message::Message;
+use wire_msgs::message::{Message, Said};
 use wire_msgs::operation::Operation;
+
+/// The session of the servers.
+pub(crate) const SESSION: u32 = 1;
 
 fn bytes_of(rt: &impl Abort, alloc: Global, text: &str) -> Bytes {
     Bytes::from_slice(alloc, text.as_bytes()).expect(rt, "memory")
@@ -57,17 +60,22 @@ fn operation(rt: &impl Abort, alloc: Global, text: &str) -> Operation {
     }
 }
 
-/// `INC ACT N HANDED OPERATION`: what is handed in, and the call.
-pub(crate) fn call<'a>(rt: &impl Abort, alloc: Global, row: &'a str) -> (&'a str, Message) {
+/// `INC ACT N HANDED OPERATION`: what is handed in, and the call, in a session.
+pub(crate) fn call<'a>(
+    rt: &impl Abort,
+    alloc: Global,
+    session: u32,
+    row: &'a str,
+) -> (&'a str, Message) {
     let (inc, rest) = halves(row, " ");
     let (act, rest) = halves(rest, " ");
     let (n, rest) = halves(rest, " ");
     let (handed, rest) = halves(rest, " ");
-    let call = Message::Call {
+    let said = Said::Call {
         inc: number(inc),
         act: number(act),
         n: number(n),
         operation: operation(rt, alloc, rest),
     };
-    (handed, call)
+    (handed, Message { session, said })
 }

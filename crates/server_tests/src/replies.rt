@@ -1,5 +1,6 @@
 //! What servers answer, as rows spell it.
 
+use crate::calls::SESSION;
 use crate::words::{are, number, word};
 use embed_core::tally::Tally;
 use embed_core::{Stored, classes};
@@ -11,7 +12,7 @@ use server_model::hold::Hold;
 use std::str::SplitWhitespace;
 use stored_values::class_id::ClassId;
 use wire_msgs::answer::Answer;
-use wire_msgs::message::Message;
+use wire_msgs::message::{Message, Said};
 use wire_msgs::refusal::Refusal as Why;
 
 /// The picture of a note of `abc`, as it is written.
@@ -43,13 +44,18 @@ fn answer_name(answer: &Answer) -> &'static str {
     }
 }
 
-/// Whether a server sends this of its own accord: a write of `abc` by its storage grant and its number, or what it asks.
+/// Whether a server sends this of its own accord, in its session: a write of `abc` by its storage grant and its number, or
+/// what it asks.
 pub(crate) fn is_sent(message: &Message, words: &mut SplitWhitespace<'_>) -> bool {
-    match message {
-        Message::Write { s, w, content, .. } => {
+    message.session == SESSION && is_said(&message.said, words)
+}
+
+fn is_said(said: &Said, words: &mut SplitWhitespace<'_>) -> bool {
+    match said {
+        Said::Write { s, w, content, .. } => {
             word(words) == "Write" && are(words, &[*s, *w]) && is_abc(content)
         }
-        Message::Ask {
+        Said::Ask {
             inc: 1,
             act: 5,
             g: 7,
@@ -59,24 +65,30 @@ pub(crate) fn is_sent(message: &Message, words: &mut SplitWhitespace<'_>) -> boo
 }
 
 fn is_reply(reply: &Message, words: &mut SplitWhitespace<'_>) -> bool {
-    match reply {
-        Message::Reply { answer, .. } => word(words) == answer_name(answer),
+    match &reply.said {
+        Said::Reply { answer, .. } => {
+            reply.session == SESSION && word(words) == answer_name(answer)
+        }
         _ => false,
     }
 }
 
-/// Whether a reply has these numbers and this answer.
+fn is_numbered(said: &Said, words: &mut SplitWhitespace<'_>) -> bool {
+    match said {
+        Said::Reply {
+            inc,
+            act,
+            n,
+            answer,
+        } => are(words, &[*inc, *act, *n]) && word(words) == answer_name(answer),
+        _ => false,
+    }
+}
+
+/// Whether a reply is of the session, and has these numbers and this answer.
 pub(crate) fn is_last(reply: Option<Message>, words: &mut SplitWhitespace<'_>) -> bool {
     match &reply {
-        Some(
-            Message::Reply {
-                inc,
-                act,
-                n,
-                answer,
-            },
-        ) => are(words, &[*inc, *act, *n]) && word(words) == answer_name(answer),
-        Some(_) => false,
+        Some(reply) => reply.session == SESSION && is_numbered(&reply.said, words),
         None => word(words) == "none",
     }
 }

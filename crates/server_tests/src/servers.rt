@@ -1,7 +1,7 @@
 //! Servers: the calls that they take, and what they make of them. The table is a text, a line each: what a server is told
 //! or asked, and the answer behind ` =>`; and the functions have no contracts: so the test is quick to prove.
 
-use crate::calls::call;
+use crate::calls::{SESSION, call};
 use crate::objects::handed;
 use crate::replies::{are_holds, class_name, is_last, is_outcome, is_sent, is_view};
 use crate::words::{halves, number, word};
@@ -18,6 +18,7 @@ use wire_msgs::message::Message;
 
 /// Calls by incarnation, activation and number, with the object that is handed in: the reply or the fault, and `back`
 /// where the object comes back, with how many were dropped by then. A load is given a picture that isn't the object's.
+/// `other`: the same call, but of another session, which does nothing.
 /// `dropped`: how many objects were dropped so far, `end`: how many once the server is; then the next lines are of a new
 /// one. In the last, objects are dropped as their activations are closed: by either close, and by a refused InitNew; and
 /// what stands in a closed one's place is another's.
@@ -37,6 +38,11 @@ end => 4
 dropped => 5
 end => 5
 1 5 1 note init note => Done
+other 1 5 1 - init note => WrongIncarnation
+other 1 5 2 - close => WrongIncarnation
+other 1 6 1 - init note => WrongIncarnation
+last 5 => 1 5 1 Done
+last 6 => none
 1 5 2 - edit i 0 abc => Done
 1 5 3 - save 8 => Content-abc
 1 5 4 - completed 8 => Done counted 5 8
@@ -100,7 +106,7 @@ dropped => 16
 end => 18";
 
 fn new_server(alloc: Global) -> ServerCore {
-    ServerCore::new(alloc, 1, 9)
+    ServerCore::new(alloc, SESSION, 1, 9)
 }
 
 fn on_call(
@@ -117,10 +123,11 @@ fn is_called(
     alloc: Global,
     core: &mut ServerCore,
     tally: &Tally,
+    session: u32,
     row: &str,
     words: &mut SplitWhitespace<'_>,
 ) -> bool {
-    let (object, message) = call(rt, alloc, row);
+    let (object, message) = call(rt, alloc, session, row);
     let object = handed(rt, alloc, tally, object);
     is_outcome(&on_call(core, alloc, message, object), tally, words)
 }
@@ -141,7 +148,7 @@ fn holds(rt: &impl Abort, alloc: Global, core: &ServerCore) -> Vec<Hold> {
 }
 
 fn wanted(rt: &impl Abort, alloc: Global, core: &ServerCore, row: &str) -> &'static str {
-    let (_, message) = call(rt, alloc, row);
+    let (_, message) = call(rt, alloc, SESSION, row);
     class_name(core.wants(&message))
 }
 
@@ -163,7 +170,8 @@ fn is_asked(
         [b'h', ..] => are_holds(&holds(rt, alloc, core), words),
         [b'd', ..] => number(word(words)) == tally.count(),
         [b'e', ..] => is_renewed(alloc, core, tally, words),
-        _ => is_called(rt, alloc, core, tally, row, words),
+        [b'o', ..] => is_called(rt, alloc, core, tally, SESSION + 1, rest, words),
+        _ => is_called(rt, alloc, core, tally, SESSION, row, words),
     }
 }
 

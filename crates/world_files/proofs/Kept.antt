@@ -33,7 +33,7 @@ use Rattle.world_model.specs.declared.event.Event.{Event}
 use Rattle.world_model.specs.declared.event.Event.TheVariants as event
 use Rattle.world_model.specs.declared.event.Stop.{Stop}
 use Rattle.world_model.specs.declared.event.Stop.TheVariants.{EventLimit}
-use Rattle.world_model.specs.World.{World, Instance, document_in, empty_world, joined, took, commanded, served, stocked, called_wanting, called_in, called, delivered, taken_at, with_taken, server_of, deliver, forged_on, forged, forge, spoken_by, spoken, scribble, ask, crashed, crash, ended, reap, kept_commit, done_taken, done_imaged, done_in, only_taken, resolved, happened, limited, IsImage, IsImageOf, is_of, MOST_EVENTS, Choice}
+use Rattle.world_model.specs.World.{World, Instance, document_in, empty_world, joined, took, commanded, served, stocked, called_wanting, called_in, called, delivered, taken_at, with_taken, deliver, forged_on, forged, forge, spoken_by, spoken, scribble, ask, crashed, crash, ended, reap, kept_commit, done_taken, done_imaged, done_in, only_taken, resolved, happened, limited, IsImage, IsImageOf, is_of, MOST_EVENTS, Choice, in_session, delivered_said, link_of, link_to}
 use Rattle.world_model.specs.Safe.{IsCounted}
 use Rattle.container_steady.specs.Steady.{Steady}
 use Rattle.container_steady.proofs.Settling.{IsCommitOf, done_commits, is_dropped, is_failed, kept_commits, not_idle}
@@ -49,6 +49,7 @@ use Rattle.world_files.proofs.Bounding.{bounded_asking, bounded_same, bounded_fr
 use Rattle.world_files.proofs.Commits.{commits_moved, commits_framed, commits_committed}
 use Rattle.world_files.proofs.InTurn.{turns_asking, turns_fewer, turns_more, turns_same}
 use Rattle.world_files.proofs.Filing.{stored_asking, stored_same, stored_framed, stored_committed}
+use Rattle.wire_msgs.specs.declared.message.Said.{Said}
 
 -- the world in which nothing has happened
 pub empty_files : (numbers : ℕ) (stock : List Kind) → Files (empty_world numbers stock)
@@ -182,13 +183,13 @@ files_opened w name x y given t s k e =
     })
 
 -- deliveries
-files_served : (w : World) (inc act n : ℕ) (i : Instance) (stock : List Kind) (told : Result Served ServerFault) → Files w → Files (served w inc act n i stock told)
-files_served w inc act n i stock (Err fault) k = record { counted_bounded = k.counted_bounded; filed = k.filed; commits = k.commits }
-files_served w inc act n i stock (Ok v) k = record { counted_bounded = k.counted_bounded; filed = k.filed; commits = k.commits }
+files_served : (w : World) (s inc act n : ℕ) (i : Instance) (stock : List Kind) (told : Result Served ServerFault) → Files w → Files (served w s inc act n i stock told)
+files_served w s inc act n i stock (Err fault) k = record { counted_bounded = k.counted_bounded; filed = k.filed; commits = k.commits }
+files_served w s inc act n i stock (Ok v) k = record { counted_bounded = k.counted_bounded; filed = k.filed; commits = k.commits }
 
-files_stocked : (w : World) (inc act n : ℕ) (op : Operation) (i : Instance) (class : List ℕ) (kind : Option Kind) (v : World) → Files w → stocked w inc act n op i class kind ≡ Ok v → Files v
-files_stocked w inc act n op i class None v k e = cc
-files_stocked w inc act n op i class (Some kind) v k e = (let at : _ ≡ v = ok_is _ v e in subst Files at (files_served w inc act n i _ (on_call i.core (Call inc act n op) (Some kind)) k))
+files_stocked : (w : World) (s inc act n : ℕ) (op : Operation) (i : Instance) (class : List ℕ) (kind : Option Kind) (v : World) → Files w → stocked w s inc act n op i class kind ≡ Ok v → Files v
+files_stocked w s inc act n op i class None v k e = cc
+files_stocked w s inc act n op i class (Some kind) v k e = (let at : _ ≡ v = ok_is _ v e in subst Files at (files_served w s inc act n i _ (on_call i.core (in_session s (Call inc act n op)) (Some kind)) k))
   where
     ok_is : (a b : World) → ◌≡◌ {A = Result World Stop} (Ok a) (Ok b) → a ≡ b
     ok_is a b e = cc
@@ -196,24 +197,27 @@ files_stocked w inc act n op i class (Some kind) v k e = (let at : _ ≡ v = ok_
 ok_is : (a b : World) → ◌≡◌ {A = Result World Stop} (Ok a) (Ok b) → a ≡ b
 ok_is a b e = cc
 
-files_wanting : (w : World) (inc act n : ℕ) (op : Operation) (i : Instance) (class : Option (List ℕ)) (v : World) → Files w → called_wanting w inc act n op i class ≡ Ok v → Files v
-files_wanting w inc act n op i None v k e = subst Files (ok_is _ v e) (files_served w inc act n i w.stock (on_call i.core (Call inc act n op) None) k)
-files_wanting w inc act n op i (Some class) v k e = files_stocked w inc act n op i class (find (is_of class) w.stock) v k e
+files_wanting : (w : World) (s inc act n : ℕ) (op : Operation) (i : Instance) (class : Option (List ℕ)) (v : World) → Files w → called_wanting w s inc act n op i class ≡ Ok v → Files v
+files_wanting w s inc act n op i None v k e = subst Files (ok_is _ v e) (files_served w s inc act n i w.stock (on_call i.core (in_session s (Call inc act n op)) None) k)
+files_wanting w s inc act n op i (Some class) v k e = files_stocked w s inc act n op i class (find (is_of class) w.stock) v k e
 
-files_called_in : (w : World) (inc act n : ℕ) (op : Operation) (i : Instance) (life : Life) (v : World) → Files w → called_in w inc act n op i life ≡ Ok v → Files v
-files_called_in w inc act n op i Running v k e = files_wanting w inc act n op i (wanted i.core (Call inc act n op)) v k e
-files_called_in w inc act n op i Ended v k e = subst Files (ok_is _ v e) (record { counted_bounded = k.counted_bounded; filed = k.filed; commits = k.commits })
-files_called_in w inc act n op i Reaped v k e = subst Files (ok_is _ v e) (record { counted_bounded = k.counted_bounded; filed = k.filed; commits = k.commits })
+files_called_in : (w : World) (s inc act n : ℕ) (op : Operation) (i : Instance) (life : Life) (v : World) → Files w → called_in w s inc act n op i life ≡ Ok v → Files v
+files_called_in w s inc act n op i Running v k e = files_wanting w s inc act n op i (wanted i.core (in_session s (Call inc act n op))) v k e
+files_called_in w s inc act n op i Ended v k e = subst Files (ok_is _ v e) (record { counted_bounded = k.counted_bounded; filed = k.filed; commits = k.commits })
+files_called_in w s inc act n op i Reaped v k e = subst Files (ok_is _ v e) (record { counted_bounded = k.counted_bounded; filed = k.filed; commits = k.commits })
 
-files_called : (w : World) (inc act n : ℕ) (op : Operation) (i : Option Instance) (v : World) → Files w → called w inc act n op i ≡ Ok v → Files v
-files_called w inc act n op None v k e = subst Files (ok_is _ v e) (record { counted_bounded = k.counted_bounded; filed = k.filed; commits = k.commits })
-files_called w inc act n op (Some i) v k e = files_called_in w inc act n op i i.life v k e
+files_called : (w : World) (s inc act n : ℕ) (op : Operation) (i : Option Instance) (v : World) → Files w → called w s inc act n op i ≡ Ok v → Files v
+files_called w s inc act n op None v k e = subst Files (ok_is _ v e) (record { counted_bounded = k.counted_bounded; filed = k.filed; commits = k.commits })
+files_called w s inc act n op (Some i) v k e = files_called_in w s inc act n op i i.life v k e
+
+files_said : (w : World) (m : Message) (said : Said) (v : World) → Files w → delivered_said w m said ≡ Ok v → Files v
+files_said w m (Call inc act n op) v k e = files_called w m.session inc act n op (nth w.instances inc) v k e
+files_said w m (Reply inc act n answer) v k e = subst Files (ok_is _ v e) (files_took w (on_message w.rec (link_of m) m) k (message_quiet w.rec (link_of m) m))
+files_said w m (Write inc act s n content) v k e = subst Files (ok_is _ v e) (files_took w (on_message w.rec (link_of m) m) k (message_quiet w.rec (link_of m) m))
+files_said w m (Ask inc act g) v k e = subst Files (ok_is _ v e) (files_took w (on_message w.rec (link_of m) m) k (message_quiet w.rec (link_of m) m))
 
 files_delivered : (w : World) (m : Message) (v : World) → Files w → delivered w m ≡ Ok v → Files v
-files_delivered w (Call inc act n op) v k e = files_called w inc act n op (nth w.instances inc) v k e
-files_delivered w (Reply inc act n answer) v k e = subst Files (ok_is _ v e) (files_took w (on_message w.rec inc (Reply inc act n answer)) k (message_quiet w.rec inc (Reply inc act n answer)))
-files_delivered w (Write inc act s n content) v k e = subst Files (ok_is _ v e) (files_took w (on_message w.rec inc (Write inc act s n content)) k (message_quiet w.rec inc (Write inc act s n content)))
-files_delivered w (Ask inc act g) v k e = subst Files (ok_is _ v e) (files_took w (on_message w.rec inc (Ask inc act g)) k (message_quiet w.rec inc (Ask inc act g)))
+files_delivered w m v k e = files_said w m m.said v k e
 
 -- what was taken is logged
 files_logged : (w : World) (more : List Taken) (told : Result World Stop) (v : World) → ((u : World) → told ≡ Ok u → Files u) → with_taken w more told ≡ Ok v → Files v
@@ -222,7 +226,7 @@ files_logged w more (Ok u) v h e = (let k = h u refl in subst Files (ok_is _ v e
 
 -- a forged message, which the container takes as one that was delivered
 files_forged_on : (w : World) (inc : ℕ) (m : Message) → Files w → Files (forged_on w inc m)
-files_forged_on w inc m k = (let h = files_took w (on_message w.rec inc m) k (message_quiet w.rec inc m) in record { counted_bounded = h.counted_bounded; filed = h.filed; commits = h.commits })
+files_forged_on w inc m k = (let h = files_took w (on_message w.rec (link_to w inc) m) k (message_quiet w.rec (link_to w inc) m) in record { counted_bounded = h.counted_bounded; filed = h.filed; commits = h.commits })
 
 files_forged : (w : World) (inc : ℕ) (m : Message) (life : Life) (v : World) → Files w → forged w inc m life ≡ Ok v → Files v
 files_forged w inc m Running v k e = subst Files (ok_is _ v e) (files_forged_on w inc m k)
@@ -235,7 +239,7 @@ files_forge w inc m (Some i) v k e = files_forged w inc m i.life v k e
 
 files_deliver : (w : World) (p : ℕ) (sent : Option Sent) (v : World) → Files w → deliver w p sent ≡ Ok v → Files v
 files_deliver w p None v k e = cc
-files_deliver w p (Some sent) v k e = files_logged w (taken_at w.rec (Some p) (server_of sent.message) sent.message) (delivered w sent.message) v (λ u g. files_delivered w sent.message u k g) e
+files_deliver w p (Some sent) v k e = files_logged w (taken_at w.rec (Some p) (link_of sent.message) sent.message) (delivered w sent.message) v (λ u g. files_delivered w sent.message u k g) e
 
 -- what an activation says of its own accord
 files_spoken_by : (w : World) (inc act : ℕ) (i : Instance) (told : Result Told ServerFault) → Files w → Files (spoken_by w inc act i told)

@@ -28,6 +28,9 @@ use Rattle.world_files.specs.Files.{id_of, AreSameFrames}
 use Rattle.world_facts.proofs.Lookups.{map_put, map_map_same}
 use Rattle.world_files.proofs.Moving.{IsMoved, unmoved, moved_after, moved_settled, frame_moved, all_handed_moved, handed_moved, handed_moved_if, id_asked, ids_linked, object_moved, request_moved, regranted_moved, freed_moved}
 use Rattle.world_files.proofs.Frames.{again_same, doubted_same, dropped_same, same_frames, saving_same, set_same}
+use Rattle.wire_msgs.specs.declared.message.Said.{Said}
+use Rattle.container_model.specs.declared.server_link.ServerLink.{ServerLink}
+use Rattle.container_model.proofs.SaidOn.{is_said_on, said_on}
 
 pub record IsQuiet (r : Record) (t : Took) : Type 0 where
   pub frames : AreSameFrames r.frames t.rec.frames
@@ -162,20 +165,23 @@ ask_quiet_found : (r : Record) (act g : ℕ) (o : Option Object) (t : Took) → 
 ask_quiet_found r act g None t e = cc
 ask_quiet_found r act g (Some o) t e = ask_quiet_framed r o act g (nth r.frames o.frame) t refl e
 
-pub message_quiet : (r : Record) (link : ℕ) (m : Message) (t : Took) → on_message r link m ≡ Ok t → IsQuiet r t
-message_quiet r link (Call inc act n op) t e = cc
-message_quiet r link (Reply inc act n answer) t e =
+said_quiet : (r : Record) (link : ℕ) (m : Said) (t : Took) → said_on r link m ≡ Ok t → IsQuiet r t
+said_quiet r link (Call inc act n op) t e = cc
+said_quiet r link (Reply inc act n answer) t e =
     let a = if_ok (inc == link) (on_reply r inc act n answer) WrongLink t e in
     let b = if_ok (is_alive r inc) (reply_found r inc act n answer (find (is_linked inc act) r.objects)) Stale t a in
     reply_quiet_found r inc act n answer (find (is_linked inc act) r.objects) t refl b
-message_quiet r link (Write inc act s w content) t e =
+said_quiet r link (Write inc act s w content) t e =
     let a = if_ok (inc == link) (on_write r inc act s w content) WrongLink t e in
     let b = if_ok (is_alive r inc) (write_found r inc act s w content (find (is_linked inc act) r.objects)) Stale t a in
     write_quiet_found r inc act s w content (find (is_linked inc act) r.objects) t refl b
-message_quiet r link (message.Ask inc act g) t e =
+said_quiet r link (message.Ask inc act g) t e =
     let a = if_ok (inc == link) (on_ask r inc act g) WrongLink t e in
     let b = if_ok (is_alive r inc) (ask_found r act g (find (is_linked inc act) r.objects)) Stale t a in
     ask_quiet_found r act g (find (is_linked inc act) r.objects) t b
+
+pub message_quiet : (r : Record) (link : ServerLink) (m : Message) (t : Took) → on_message r link m ≡ Ok t → IsQuiet r t
+message_quiet r link m t e = said_quiet r link.inc m.said t (is_said_on r link m t e).said
 
 -- a reap
 id_reaped : (inc : ℕ) (o : Object) (l : Option Link) → id_of (reaped_object inc o l) ≡ id_of o

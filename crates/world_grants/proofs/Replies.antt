@@ -23,6 +23,7 @@ use Rattle.container_model.specs.Record.{Record, Took, is_link, is_linked, is_al
 use Rattle.container_model.specs.Messages.{Replied, replied, replied_fitting, is_fit, done_link, saved_link, granted_link, closed_with, next_s, reply_made, reply_taken, reply_pending, reply_link, reply_found, on_message}
 use Rattle.std.proofs.lemmas.Bool.{eqb-true}
 use Rattle.world_facts.proofs.Lookups.{find_passes}
+use Rattle.container_model.proofs.SaidOn.{said_on}
 
 -- what an answer tells of a frame: nothing, that the object has it, or that it has given it up
 pub data Told (op : Operation) (answer : Answer) (p : Replied) : Type 0 where
@@ -159,7 +160,7 @@ module _ (r : Record) (inc act n : ℕ) (answer : Answer) (t : Took) where
   reply_in None f e = cc
   reply_in (Some x) f e = reply_by x (reply_link n answer x.link) f refl e
 
-  pub reply_is : (link : ℕ) → on_message r link (Reply inc act n answer) ≡ Ok t → IsReply r inc act n answer t
+  pub reply_is : (link : ℕ) → said_on r link (Reply inc act n answer) ≡ Ok t → IsReply r inc act n answer t
   reply_is link e = at (inc == link) (is_alive r inc) e
     where
       at : (a b : Bool) → ◌≡◌ {A = Result Took ContainerFault} (if a then (if b then reply_found r inc act n answer (find (is_linked inc act) r.objects) else Err Stale) else Err WrongLink) (Ok t) → IsReply r inc act n answer t

@@ -29,6 +29,9 @@ use Rattle.world_grants.proofs.Commands.{Leaves, commit_leaves, doubt_leaves, dr
 use Rattle.world_grants.proofs.Verbs.{command_leaves, ask_leaves}
 use Rattle.world_grants.proofs.Replies.{reply_is}
 use Rattle.world_grants.proofs.Answering.{move_more, reply_moves}
+use Rattle.container_model.specs.declared.server_link.ServerLink.{ServerLink}
+use Rattle.container_model.proofs.SaidOn.{is_said_on, said_on}
+use Rattle.wire_msgs.specs.declared.message.Message.{Message}
 
 abbrev pub MovesBy : Record → Record → List Said → Type 0
 MovesBy r u taken = RolesMove (links_of r.objects) (links_of u.objects) (roles_of r) (roles_of u) taken
@@ -80,7 +83,7 @@ module _ (r : Record) (inc act s w : ℕ) (content : Stored) (t : Took) where
   write_leaves_found None f e = cc
   write_leaves_found (Some o) f e = write_leaves_link o o.link f e
 
-  write_leaves : (link : ℕ) → on_message r link (Write inc act s w content) ≡ Ok t → Leaves r t.rec
+  write_leaves : (link : ℕ) → said_on r link (Write inc act s w content) ≡ Ok t → Leaves r t.rec
   write_leaves link e = at (inc == link) (is_alive r inc) e
     where
       at : (a b : Bool) → ◌≡◌ {A = Result Took ContainerFault} (if a then (if b then write_found r inc act s w content (find (is_linked inc act) r.objects) else Err Stale) else Err WrongLink) (Ok t) → Leaves r t.rec
@@ -88,15 +91,18 @@ module _ (r : Record) (inc act s w : ℕ) (content : Stored) (t : Took) where
       at true false g = cc
       at false b g = cc
 
-ask_leaves_on : (r : Record) (link inc act g : ℕ) (t : Took) → on_message r link (Ask inc act g) ≡ Ok t → Leaves r t.rec
+ask_leaves_on : (r : Record) (link inc act g : ℕ) (t : Took) → said_on r link (Ask inc act g) ≡ Ok t → Leaves r t.rec
 ask_leaves_on r link inc act g t e = at (inc == link) e
   where
     at : (b : Bool) → ◌≡◌ {A = Result Took ContainerFault} (if b then on_ask r inc act g else Err WrongLink) (Ok t) → Leaves r t.rec
     at true k = ask_leaves r inc act g t k
     at false k = cc
 
-pub message_moves : (r : Record) (link : ℕ) (m : Said) (t : Took) → Steady r → on_message r link m ≡ Ok t → MovesBy r t.rec (m ∷ [])
-message_moves r link (Call inc act n op) t s e = cc
-message_moves r link (Reply inc act n answer) t s e = reply_moves r s inc act n answer t (reply_is r inc act n answer t link e)
-message_moves r link (Write inc act k w content) t s e = move_more (links_of r.objects) (links_of t.rec.objects) (roles_of r) (roles_of t.rec) (Write inc act k w content ∷ []) (left_moves r t.rec s (write_leaves r inc act k w content t link e))
-message_moves r link (Ask inc act g) t s e = move_more (links_of r.objects) (links_of t.rec.objects) (roles_of r) (roles_of t.rec) (Ask inc act g ∷ []) (left_moves r t.rec s (ask_leaves_on r link inc act g t e))
+said_moves : (r : Record) (link : ℕ) (m : Said) (t : Took) → Steady r → said_on r link m ≡ Ok t → MovesBy r t.rec (m ∷ [])
+said_moves r link (Call inc act n op) t s e = cc
+said_moves r link (Reply inc act n answer) t s e = reply_moves r s inc act n answer t (reply_is r inc act n answer t link e)
+said_moves r link (Write inc act k w content) t s e = move_more (links_of r.objects) (links_of t.rec.objects) (roles_of r) (roles_of t.rec) (Write inc act k w content ∷ []) (left_moves r t.rec s (write_leaves r inc act k w content t link e))
+said_moves r link (Ask inc act g) t s e = move_more (links_of r.objects) (links_of t.rec.objects) (roles_of r) (roles_of t.rec) (Ask inc act g ∷ []) (left_moves r t.rec s (ask_leaves_on r link inc act g t e))
+
+pub message_moves : (r : Record) (link : ServerLink) (m : Message) (t : Took) → Steady r → on_message r link m ≡ Ok t → MovesBy r t.rec (m.said ∷ [])
+message_moves r link m t s e = said_moves r link.inc m.said t s (is_said_on r link m t e).said

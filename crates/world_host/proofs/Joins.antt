@@ -14,12 +14,12 @@ use Rattle.world_model.specs.World.{World, Instance, joined, started_by, ended_b
 use Rattle.world_host.specs.Servers.{starts_of, ends_of, ends_by}
 use Rattle.world_host.specs.View.{started}
 
-pub started_starts : (n : ℕ) (actions : List Action) → started_by n actions ≡ map (fresh n) (starts_of actions)
-started_starts n [] = refl
-started_starts n (Send m ∷ rest) = started_starts n rest
-started_starts n (Start inc ∷ rest) = ap (λ xs. fresh n inc ∷ xs) (started_starts n rest)
-started_starts n (End inc ∷ rest) = started_starts n rest
-started_starts n (Commit f ∷ rest) = started_starts n rest
+pub started_starts : (s n : ℕ) (actions : List Action) → started_by s n actions ≡ map (fresh s n) (starts_of actions)
+started_starts s n [] = refl
+started_starts s n (Send m ∷ rest) = started_starts s n rest
+started_starts s n (Start inc ∷ rest) = ap (λ xs. fresh s n inc ∷ xs) (started_starts s n rest)
+started_starts s n (End inc ∷ rest) = started_starts s n rest
+started_starts s n (Commit f ∷ rest) = started_starts s n rest
 
 pub starts_few : (actions : List Action) → length (starts_of actions) ≤ length actions
 starts_few [] = omega arith
@@ -55,5 +55,5 @@ pub joins : (w : World) (a : Answer) (sent : List Sent) (starts places commits :
     → commits ≡ commits_of a.actions
     → answers ≡ w.answers ++ told.Took (record { frame = a.frame; objects = a.objects; server = a.server; taken = a.taken; refused = a.refused; no_tools = a.no_tools; sent = places; commits = commits }) ∷ []
     → counted ≡ w.counted ++ uncounted a.frame
-    → joined (record w { instances = [] }) (counts_none w.rec a) ≡ started (record w { sent = sent; answers = answers; counted = counted }) w.rec.numbers starts
-joins w a sent starts places commits answers counted es et ep ec ea en = rw (none_ended a.actions, started_starts w.rec.numbers a.actions, es, ea, et, ep, ec, en) refl
+    → joined (record w { instances = [] }) (counts_none w.rec a) ≡ started (record w { sent = sent; answers = answers; counted = counted }) w.rec.session w.rec.numbers starts
+joins w a sent starts places commits answers counted es et ep ec ea en = rw (none_ended a.actions, started_starts w.rec.session w.rec.numbers a.actions, es, ea, et, ep, ec, en) refl

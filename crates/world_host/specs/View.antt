@@ -21,5 +21,5 @@ bare l = record {
 }
 
 -- the same with new servers of these incarnations
-abbrev pub started : World → ℕ → List ℕ → World
-started w numbers starts = record w { instances = map (fresh numbers) starts }
+abbrev pub started : World → ℕ → ℕ → List ℕ → World
+started w session numbers starts = record w { instances = map (fresh session numbers) starts }

@@ -17,6 +17,7 @@ use container_core::container::{ContainerCore, Limits};
 use container_model::answer::{Action, Answer, Done};
 use container_model::command::Command;
 use container_model::fault::ContainerFault;
+use container_model::server_link::ServerLink;
 use std::alloc::{AllocError, Global};
 use std::mem::replace;
 use wire_msgs::items::Items;
@@ -282,7 +283,7 @@ impl Host {
     pub(crate) fn join(&mut self, alloc: Global, answer: Answer, room: Room) -> Servers
         requires logs { HasLogRoom (length answer.actions) self.old }
         requires room { IsRoom (length answer.actions) room }
-        ensures joined { joined (bare self.old) (counts_none self.old.core answer) ≡ started (bare self.new) self.old.core.numbers result.starts.items }
+        ensures joined { joined (bare self.old) (counts_none self.old.core answer) ≡ started (bare self.new) self.old.core.session self.old.core.numbers result.starts.items }
         ensures ends { result.ends.items ≡ ends_of answer.actions }
         ensures few { length result.starts.items ≤ length answer.actions }
     {
@@ -350,7 +351,7 @@ impl Host {
     ///
     /// Refused for want of memory alone. Then nothing changes.
     pub fn command(&mut self, alloc: Global, command: &Command) -> Result<Servers, AllocError>
-        ensures taken { IfOk result (λ s. commanded (bare self.old) command.now (on_command self.old.core command.now) ≡ started (bare self.new) self.new.core.numbers s.starts.items) }
+        ensures taken { IfOk result (λ s. commanded (bare self.old) command.now (on_command self.old.core command.now) ≡ started (bare self.new) self.new.core.session self.new.core.numbers s.starts.items) }
         ensures ends { IfOk result (λ s. s.ends.items ≡ ends_in (on_command self.old.core command.now)) }
         ensures few { IfOk result (λ s. vec_len s.starts ≤ most self.old.core) }
         ensures kept { OnErr result (bare self.new ≡ bare self.old) }
@@ -375,18 +376,18 @@ impl Host {
         &mut self,
         alloc: Global,
         place: u32,
-        inc: u32,
+        link: ServerLink,
         message: Message,
     ) -> Result<Servers, AllocError>
-        ensures taken { IfOk result (λ s. heard (bare self.old) (Some place) inc message ≡ started (bare self.new) self.new.core.numbers s.starts.items) }
-        ensures ends { IfOk result (λ s. s.ends.items ≡ ends_in (on_message self.old.core inc message)) }
+        ensures taken { IfOk result (λ s. heard (bare self.old) (Some place) link message ≡ started (bare self.new) self.new.core.session self.new.core.numbers s.starts.items) }
+        ensures ends { IfOk result (λ s. s.ends.items ≡ ends_in (on_message self.old.core link message)) }
         ensures few { IfOk result (λ s. vec_len s.starts ≤ most self.old.core) }
         ensures kept { OnErr result (bare self.new ≡ bare self.old) }
     {
         let room = self.make_room(alloc)?;
         self.taken.reserve(1)?;
         let entry = entry(Some(place), &message, self.core.all_objects());
-        match self.core.on_message(alloc, inc, message) {
+        match self.core.on_message(alloc, link, message) {
             Ok(answer) => {
                 log(&mut self.taken, answer.taken, entry);
                 Ok(self.join(alloc, answer, room))
@@ -406,8 +407,8 @@ impl Host {
         inc: u32,
         message: Message,
     ) -> Result<Servers, AllocError>
-        ensures taken { IfOk result (λ s. forged (bare self.old) inc message ≡ started (bare self.new) self.new.core.numbers s.starts.items) }
-        ensures ends { IfOk result (λ s. s.ends.items ≡ ends_in (on_message self.old.core inc message)) }
+        ensures taken { IfOk result (λ s. forged (bare self.old) inc message ≡ started (bare self.new) self.new.core.session self.new.core.numbers s.starts.items) }
+        ensures ends { IfOk result (λ s. s.ends.items ≡ ends_in (on_message self.old.core (record { session = self.old.core.session; inc = inc }) message)) }
         ensures few { IfOk result (λ s. vec_len s.starts ≤ most self.old.core) }
         ensures kept { OnErr result (bare self.new ≡ bare self.old) }
     {
@@ -415,7 +416,11 @@ impl Host {
         self.taken.reserve(1)?;
         self.hostile.reserve(1)?;
         let entry = entry(None, &message, self.core.all_objects());
-        match self.core.on_message(alloc, inc, message) {
+        let link = ServerLink {
+            session: self.core.session(),
+            inc,
+        };
+        match self.core.on_message(alloc, link, message) {
             Ok(answer) => {
                 log(&mut self.taken, answer.taken, entry);
                 add(&mut self.hostile, inc);
@@ -433,7 +438,7 @@ impl Host {
     ///
     /// Refused for want of memory alone. Then nothing changes.
     pub fn reap(&mut self, alloc: Global, inc: u32) -> Result<Servers, AllocError>
-        ensures taken { IfOk result (λ s. took (bare self.old) (on_reap self.old.core inc) ≡ started (bare self.new) self.new.core.numbers s.starts.items) }
+        ensures taken { IfOk result (λ s. took (bare self.old) (on_reap self.old.core inc) ≡ started (bare self.new) self.new.core.session self.new.core.numbers s.starts.items) }
         ensures ends { IfOk result (λ s. s.ends.items ≡ ends_in (on_reap self.old.core inc)) }
         ensures few { IfOk result (λ s. vec_len s.starts ≤ most self.old.core) }
         ensures kept { OnErr result (bare self.new ≡ bare self.old) }

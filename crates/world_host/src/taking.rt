@@ -10,7 +10,7 @@ use crate::host::add;
 use container_checks::lookups::place_linked;
 use container_links::writes::awaits_save;
 use container_model::record::Object;
-use wire_msgs::message::Message;
+use wire_msgs::message::{Message, Said};
 use world_model::logs::Taken;
 
 // What is held of an object that isn't passive.
@@ -43,13 +43,13 @@ fn held_of(place: Option<u32>, inc: u32, act: u32, objects: &[Object]) -> Option
 
 // The entry of a message at this place, or of one that is forged, where a content of it is taken: what is held of its object now.
 pub(crate) fn entry(place: Option<u32>, message: &Message, objects: &[Object]) -> Option<Taken>
-    ensures { listed result ≡ brought place objects.now message.now }
+    ensures { listed result ≡ brought place objects.now message.now.said }
 {
-    match message {
-        Message::Call { .. } => None,
-        Message::Reply { inc, act, .. }
-        | Message::Write { inc, act, .. }
-        | Message::Ask { inc, act, .. } => held_of(place, *inc, *act, objects),
+    match &message.said {
+        Said::Call { .. } => None,
+        Said::Reply { inc, act, .. }
+        | Said::Write { inc, act, .. }
+        | Said::Ask { inc, act, .. } => held_of(place, *inc, *act, objects),
     }
 }
 

@@ -113,17 +113,16 @@ abbrev pub ServedOnce : List ServerDone → Type 0
 ServedOnce [] = ⊤
 ServedOnce (d ∷ ds) = ((e : ServerDone) → Among ds e → IsOther d e) × ServedOnce ds
 
--- what brought a content: a write under this storage grant, or the answer to a close
-abbrev pub BringsBy : World → Said → Taken → Type 0
-BringsBy w (Call inc act n op) t = ⊥
-BringsBy w (Reply inc act n (Content content)) t = (inc ≡ t.inc) × (act ≡ t.act) × WasSaid w (Call inc act n (Close SaveIfDirty))
-BringsBy w (Reply inc act n answer) t = ⊥
-BringsBy w (Write inc act s number content) t = (inc ≡ t.inc) × (act ≡ t.act) × (s ≡ t.s)
-BringsBy w (Ask inc act g) t = ⊥
+-- what brought a content, in a session: a write under this storage grant, or the answer to a close
+abbrev pub BringsBy : World → ℕ → Said → Taken → Type 0
+BringsBy w session (Call inc act n op) t = ⊥
+BringsBy w session (Reply inc act n (Content content)) t = (inc ≡ t.inc) × (act ≡ t.act) × WasSent w (in_session session (Call inc act n (Close SaveIfDirty)))
+BringsBy w session (Reply inc act n answer) t = ⊥
+BringsBy w session (Write inc act s number content) t = (inc ≡ t.inc) × (act ≡ t.act) × (s ≡ t.s)
+BringsBy w session (Ask inc act g) t = ⊥
 
--- the message that brought it, in the session of the container
 abbrev pub Brings : World → Message → Taken → Type 0
-Brings w m t = (m.session ≡ w.rec.session) × BringsBy w m.said t
+Brings w m t = BringsBy w m.session m.said t
 
 -- A content that was taken came with a message that its server sent while the activation was open, its storage open for
 -- reading and writing, under this storage grant; and the container's record held the same grant open just before it took

@@ -1,7 +1,7 @@
 -- Servers seen in two ways are alike but for what the objects in their boxes are said to contain.
-use Rattle.std.proofs.Common.{◌≡◌, ℕ, zero, suc, true, false, List, [], ◌∷◌, length, map, Option, Some, None, option_map, refl, ap, nat_eq, slice_get, if◌then◌else◌}
+use Rattle.std.proofs.Common.{◌≡◌, ℕ, zero, suc, true, false, List, [], ◌∷◌, length, map, Option, Some, None, option_map, refl, ap, nat_eq, slice_get, if◌then◌else◌, sym, ◌∙◌}
 use Rattle.std.specs.List.{AllByRecursion}
-use Rattle.wire_msgs.specs.Found.{find}
+use Rattle.wire_msgs.specs.Found.{find, nth}
 use Rattle.embed_core.specs.Content.{Content}
 use Rattle.server_model.specs.Server.{is_act}
 use Rattle.server_core.specs.View.{seat_at, seen_activation}
@@ -14,6 +14,7 @@ use Rattle.world_model.specs.Safe.{act_at, acts_of}
 use Rattle.world_safety.specs.Words.{life_at, lives_of}
 use Rattle.world_safety.specs.Numbers.{IsActivationWithin, RunsWithin}
 use Rattle.world_safety.proofs.Alike.{Alike}
+use Rattle.world_model.specs.World.{Instance}
 
 -- the same servers, whatever their objects are said to contain
 module _ {X : Type 0} {V : X → Type 0} (c d : Seat X V → Content) where
@@ -60,6 +61,17 @@ module _ {X : Type 0} {V : X → Type 0} (c d : Seat X V → Content) where
   pub many_alike : (xs : List (held.Instance X V)) → length (map (seen_instance d) xs) ≡ length (map (seen_instance c) xs)
   many_alike [] = refl
   many_alike (x ∷ xs) = ap suc (many_alike xs)
+
+  -- their sessions
+  pub sessions_alike : (s : ℕ) (xs : List (held.Instance X V)) → ((inc : ℕ) (i : Instance) → nth (map (seen_instance c) xs) inc ≡ Some i → i.core.session ≡ s)
+      → (inc : ℕ) (i : Instance) → nth (map (seen_instance d) xs) inc ≡ Some i → i.core.session ≡ s
+  sessions_alike s xs h zero i e = cc
+  sessions_alike s xs h (suc k) i e = at xs (λ j y g. h (suc j) y g) k e
+    where
+      at : (ys : List (held.Instance X V)) → ((j : ℕ) (y : Instance) → slice_get (map (seen_instance c) ys) j ≡ Some y → y.core.session ≡ s) → (k : ℕ) → slice_get (map (seen_instance d) ys) k ≡ Some i → i.core.session ≡ s
+      at [] g k f = cc
+      at (y ∷ ys) g zero f = (let q : seen_instance d y ≡ i = cc in ap (λ (z : Instance). z.core.session) (sym q) ∙ g zero (seen_instance c y) refl)
+      at (y ∷ ys) g (suc k) f = at ys (λ j z r. g (suc j) z r) k f
 
   -- their numbers
   activations_alike : (limit : ℕ) (slots : List (Option (Owned X V))) (xs : List (ℕ × code.Activation)) → AllByRecursion (IsActivationWithin limit) (map (seen_activation c slots) xs) → AllByRecursion (IsActivationWithin limit) (map (seen_activation d slots) xs)

@@ -12,11 +12,12 @@ ghost use Rattle.world_model.specs.declared.event.Event.TheVariants as event;
 use crate::instance::Stocked;
 use crate::plan::Plan;
 use crate::state::State;
+use container_model::server_link::ServerLink;
 use embed_core::embedded::Embedded;
 use server_core::refusal::Refusal;
 use server_model::fault::ServerFault;
 use std::alloc::Global;
-use wire_msgs::message::Message;
+use wire_msgs::message::{Message, Said};
 use wire_msgs::operation::Operation;
 use world_host::lookups::place;
 use world_model::event::Stop;
@@ -28,14 +29,15 @@ impl State {
         &mut self,
         alloc: Global,
         i: usize,
+        session: u32,
         inc: u32,
         act: u32,
         n: u32,
         operation: Operation,
     ) -> Result<(), Stop>
         requires { IsNth inc self.old.instances.items i }
-        ensures taken { OnOk result (carry_call (seen (λ s. content s.boxed) self.old) inc act n operation (plan.Serve i) ≡ Ok (seen (λ s. content s.boxed) self.new)) }
-        ensures refused { IfErr result (Refuses (carry_call (seen (λ s. content s.boxed) self.old) inc act n operation (plan.Serve i))) }
+        ensures taken { OnOk result (carry_call (seen (λ s. content s.boxed) self.old) session inc act n operation (plan.Serve i) ≡ Ok (seen (λ s. content s.boxed) self.new)) }
+        ensures refused { IfErr result (Refuses (carry_call (seen (λ s. content s.boxed) self.old) session inc act n operation (plan.Serve i))) }
         ensures kept { OnErr result (seen (λ s. content s.boxed) self.new ≡ seen (λ s. content s.boxed) self.old) }
     {
         self.host.open()?;
@@ -43,11 +45,14 @@ impl State {
             return Err(Stop::NoMemory);
         };
         let view = self.view(i, act);
-        let message = Message::Call {
-            inc,
-            act,
-            n,
-            operation,
+        let message = Message {
+            session,
+            said: Said::Call {
+                inc,
+                act,
+                n,
+                operation,
+            },
         };
         match self.instances[i].core.on_call(alloc, message, None) {
             Ok(reaction) => {
@@ -87,6 +92,7 @@ impl State {
         alloc: Global,
         i: usize,
         at: usize,
+        session: u32,
         inc: u32,
         act: u32,
         n: u32,
@@ -94,8 +100,8 @@ impl State {
     ) -> Result<(), Stop>
         requires place { IsNth inc self.old.instances.items i }
         requires stock { at < length self.old.stock.boxes.items }
-        ensures taken { OnOk result (carry_call (seen (λ s. content s.boxed) self.old) inc act n operation (plan.Begin i at) ≡ Ok (seen (λ s. content s.boxed) self.new)) }
-        ensures refused { IfErr result (Refuses (carry_call (seen (λ s. content s.boxed) self.old) inc act n operation (plan.Begin i at))) }
+        ensures taken { OnOk result (carry_call (seen (λ s. content s.boxed) self.old) session inc act n operation (plan.Begin i at) ≡ Ok (seen (λ s. content s.boxed) self.new)) }
+        ensures refused { IfErr result (Refuses (carry_call (seen (λ s. content s.boxed) self.old) session inc act n operation (plan.Begin i at))) }
         ensures kept { OnErr result (seen (λ s. content s.boxed) self.new ≡ seen (λ s. content s.boxed) self.old) }
     {
         self.host.open()?;
@@ -103,11 +109,14 @@ impl State {
             return Err(Stop::NoMemory);
         };
         let view = self.view(i, act);
-        let message = Message::Call {
-            inc,
-            act,
-            n,
-            operation,
+        let message = Message {
+            session,
+            said: Said::Call {
+                inc,
+                act,
+                n,
+                operation,
+            },
         };
         let Stocked { boxed } = self.stock.boxes.remove(at);
         match self.instances[i].core.on_call(alloc, message, Some(boxed)) {
@@ -132,7 +141,7 @@ impl State {
 
     // What a call at a server comes to.
     fn plan_call(&self, inc: u32, call: &Message) -> Result<Plan, Stop>
-        requires { IsCallOf inc call.now }
+        requires { IsCallOf inc call.now.said }
         ensures planned { IfOk result (λ p. (delivered (seen (λ s. content s.boxed) self.now) call.now ≡ carried (seen (λ s. content s.boxed) self.now) call.now p) × Fits (seen (λ s. content s.boxed) self.now) call.now p) }
         ensures refused { IfErr result (λ stop. delivered (seen (λ s. content s.boxed) self.now) call.now ≡ Err stop) }
     {
@@ -157,9 +166,9 @@ impl State {
         ensures planned { IfOk result (λ p. (delivered (seen (λ s. content s.boxed) self.now) message.now ≡ carried (seen (λ s. content s.boxed) self.now) message.now p) × Fits (seen (λ s. content s.boxed) self.now) message.now p) }
         ensures refused { IfErr result (λ stop. delivered (seen (λ s. content s.boxed) self.now) message.now ≡ Err stop) }
     {
-        match message {
-            Message::Call { inc, .. } => self.plan_call(*inc, message),
-            Message::Reply { inc, .. } | Message::Write { inc, .. } | Message::Ask { inc, .. } => {
+        match &message.said {
+            Said::Call { inc, .. } => self.plan_call(*inc, message),
+            Said::Reply { inc, .. } | Said::Write { inc, .. } | Said::Ask { inc, .. } => {
                 Ok(Plan::Tell(*inc))
             }
         }
@@ -172,8 +181,9 @@ impl State {
         ensures refused { IfErr result (Refuses (carry (seen (λ s. content s.boxed) self.old) p message plan)) }
         ensures kept { OnErr result (seen (λ s. content s.boxed) self.new ≡ seen (λ s. content s.boxed) self.old) }
     {
-        match message {
-            Message::Call {
+        let Message { session, said } = message;
+        match said {
+            Said::Call {
                 inc,
                 act,
                 n,
@@ -184,11 +194,11 @@ impl State {
                     self.host.quiet(alloc);
                     Ok(())
                 }
-                Plan::Serve(i) => self.serve(alloc, i, inc, act, n, operation),
-                Plan::Begin(i, at) => self.begin(alloc, i, at, inc, act, n, operation),
+                Plan::Serve(i) => self.serve(alloc, i, session, inc, act, n, operation),
+                Plan::Begin(i, at) => self.begin(alloc, i, at, session, inc, act, n, operation),
                 Plan::Tell(_) => unreachable!(),
             },
-            Message::Reply {
+            Said::Reply {
                 inc,
                 act,
                 n,
@@ -196,15 +206,18 @@ impl State {
             } => self.tell(
                 alloc,
                 p,
-                inc,
-                Message::Reply {
-                    inc,
-                    act,
-                    n,
-                    answer,
+                ServerLink { session, inc },
+                Message {
+                    session,
+                    said: Said::Reply {
+                        inc,
+                        act,
+                        n,
+                        answer,
+                    },
                 },
             ),
-            Message::Write {
+            Said::Write {
                 inc,
                 act,
                 s,
@@ -213,16 +226,27 @@ impl State {
             } => self.tell(
                 alloc,
                 p,
-                inc,
-                Message::Write {
-                    inc,
-                    act,
-                    s,
-                    w,
-                    content,
+                ServerLink { session, inc },
+                Message {
+                    session,
+                    said: Said::Write {
+                        inc,
+                        act,
+                        s,
+                        w,
+                        content,
+                    },
                 },
             ),
-            Message::Ask { inc, act, g } => self.tell(alloc, p, inc, Message::Ask { inc, act, g }),
+            Said::Ask { inc, act, g } => self.tell(
+                alloc,
+                p,
+                ServerLink { session, inc },
+                Message {
+                    session,
+                    said: Said::Ask { inc, act, g },
+                },
+            ),
         }
     }
 

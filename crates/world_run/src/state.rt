@@ -14,6 +14,7 @@ ghost use Rattle.world_model.specs.declared.event.Event.TheVariants as event;
 use crate::instance::{Instance, end_of};
 use crate::stock::Stock;
 use container_model::command::Command;
+use container_model::server_link::ServerLink;
 use embed_core::embedded::Embedded;
 use server_core::server::ServerCore;
 use std::alloc::Global;
@@ -51,11 +52,12 @@ impl State {
     // Starts servers of these incarnations.
     fn start(&mut self, alloc: Global, starts: Vec<u32>)
         requires { vec_len self.old.instances + vec_len starts ≤ vec_capacity self.old.instances }
-        ensures { seen (λ s. content s.boxed) self.new ≡ record (seen (λ s. content s.boxed) self.old) { instances = map (seen_instance (λ s. content s.boxed)) self.old.instances.items ++ map (fresh self.old.host.core.numbers) starts.items } }
+        ensures { seen (λ s. content s.boxed) self.new ≡ record (seen (λ s. content s.boxed) self.old) { instances = map (seen_instance (λ s. content s.boxed)) self.old.instances.items ++ map (fresh self.old.host.core.session self.old.host.core.numbers) starts.items } }
     {
+        let session = self.host.core.session();
         let numbers = self.host.core.numbers();
         for inc in starts {
-            let core = ServerCore::new(alloc, inc, numbers);
+            let core = ServerCore::new(alloc, session, inc, numbers);
             add(
                 &mut self.instances,
                 Instance {
@@ -69,7 +71,7 @@ impl State {
     // The servers that a step of the container ends and starts.
     fn finish(&mut self, alloc: Global, servers: Servers)
         requires { vec_len self.old.instances + vec_len servers.starts ≤ vec_capacity self.old.instances }
-        ensures { seen (λ s. content s.boxed) self.new ≡ record (seen (λ s. content s.boxed) self.old) { instances = ends_by servers.ends.items (seen (λ s. content s.boxed) self.old).instances ++ map (fresh self.old.host.core.numbers) servers.starts.items } }
+        ensures { seen (λ s. content s.boxed) self.new ≡ record (seen (λ s. content s.boxed) self.old) { instances = ends_by servers.ends.items (seen (λ s. content s.boxed) self.old).instances ++ map (fresh self.old.host.core.session self.old.host.core.numbers) servers.starts.items } }
     {
         let Servers { ends, starts } = servers;
         self.end(&ends);
@@ -100,18 +102,18 @@ impl State {
         &mut self,
         alloc: Global,
         p: u32,
-        inc: u32,
+        link: ServerLink,
         message: Message,
     ) -> Result<(), Stop>
-        ensures taken { OnOk result (tell (seen (λ s. content s.boxed) self.old) p inc message ≡ Ok (seen (λ s. content s.boxed) self.new)) }
-        ensures refused { IfErr result (Refuses (tell (seen (λ s. content s.boxed) self.old) p inc message)) }
+        ensures taken { OnOk result (tell (seen (λ s. content s.boxed) self.old) p link message ≡ Ok (seen (λ s. content s.boxed) self.new)) }
+        ensures refused { IfErr result (Refuses (tell (seen (λ s. content s.boxed) self.old) p link message)) }
         ensures kept { OnErr result (seen (λ s. content s.boxed) self.new ≡ seen (λ s. content s.boxed) self.old) }
     {
         self.host.open()?;
         if self.instances.reserve(self.host.most()).is_err() {
             return Err(Stop::NoMemory);
         }
-        match self.host.tell(alloc, p, inc, message) {
+        match self.host.tell(alloc, p, link, message) {
             Ok(servers) => {
                 self.finish(alloc, servers);
                 Ok(())

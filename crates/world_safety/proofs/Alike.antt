@@ -5,7 +5,7 @@ use Rattle.container_model.specs.declared.answer.Done.{Done}
 use Rattle.world_model.specs.declared.logs.Sent.{Sent}
 use Rattle.world_model.specs.declared.logs.ServerDone.{ServerDone}
 use Rattle.world_model.specs.World.{Instance}
-use Rattle.world_model.specs.Safe.{links_of, acts_of, messages}
+use Rattle.world_model.specs.Safe.{links_of, acts_of, sayings}
 use Rattle.world_facts.specs.Words.{lives_of}
 pub use Rattle.world_facts.specs.Shapes.{IsAlike, Alike}
 use Rattle.world_facts.proofs.Alike.{facts_alike}
@@ -20,7 +20,7 @@ pub agrees_alike : (hostile : List ℕ) (rec : Record) (is js : List Instance) (
 agrees_alike hostile rec is js sent owners counted served many same still h = record {
   steady = h.steady;
   servers = h.servers ∙ sym many;
-  facts = facts_alike (links_of rec.objects) (acts_of is) (acts_of js) (lives_of is) (lives_of js) (messages sent) owners rec.last_act counted served same still h.facts;
+  facts = facts_alike (links_of rec.objects) (acts_of is) (acts_of js) (lives_of is) (lives_of js) (sayings sent) owners rec.last_act counted served same still h.facts;
   views = views_kept (links_of rec.objects) (links_of rec.objects) (acts_of is) (acts_of js) sent sent (tells_leave hostile (links_of rec.objects) (acts_of is) (acts_of js) same) (grows_none sent) h.views;
-  grants = grants_alike (links_of rec.objects) (roles_of rec) (acts_of is) (acts_of js) (messages sent) same h.grants;
+  grants = grants_alike (links_of rec.objects) (roles_of rec) (acts_of is) (acts_of js) (sayings sent) same h.grants;
 }

@@ -30,9 +30,9 @@ use Rattle.world_model.specs.declared.life.Life.TheVariants.{Running, Ended, Rea
 use Rattle.world_model.specs.declared.event.Event.{Event}
 use Rattle.world_model.specs.declared.event.Event.TheVariants as event
 use Rattle.world_model.specs.declared.event.Stop.{Stop}
-use Rattle.world_model.specs.World.{World, Instance, messages_of, of_container, started_by, ended_by, joined, took, commanded, owners_by, delivered, taken_at, with_taken, server_of, deliver, forged_on, forged, forge, crashed, crash, ended, reap, kept_commit, done_taken, done_imaged, done_in, only_taken, resolved, happened, Choice}
-use Rattle.world_model.specs.Safe.{Among, IsHonest, is_hostile, links_of, acts_of, messages}
-use Rattle.world_facts.specs.Words.{life_at, lives_of}
+use Rattle.world_model.specs.World.{World, Instance, messages_of, of_container, started_by, ended_by, joined, took, commanded, owners_by, delivered, taken_at, with_taken, server_of, deliver, forged_on, forged, forge, crashed, crash, ended, reap, kept_commit, done_taken, done_imaged, done_in, only_taken, resolved, happened, Choice, delivered_said, link_of, link_to}
+use Rattle.world_model.specs.Safe.{Among, IsHonest, is_hostile, links_of, acts_of, sayings, messages}
+use Rattle.world_facts.specs.Words.{life_at, lives_of, sayings_of}
 use Rattle.world_facts.specs.Shapes.{IsTold}
 use Rattle.world_facts.proofs.Lookups.{among_map}
 use Rattle.world_facts.proofs.Counting.{all_counted}
@@ -61,13 +61,16 @@ use Rattle.world_safety.proofs.Joining.{plain_joined, asked_views, joined_grants
 use Rattle.world_safety.proofs.Serving.{agrees_called}
 use Rattle.world_safety.proofs.Shaping.{asks_followed}
 use Rattle.world_safety.proofs.Scribbling.{agrees_scribble, agrees_ask}
+use Rattle.wire_msgs.specs.declared.message.Said.{Said}
+use Rattle.container_model.specs.declared.server_link.ServerLink.{ServerLink}
+use Rattle.container_model.proofs.SaidOn.{is_said_on, said_on}
 
 ok_is : (x y : World) → ◌≡◌ {A = Result World Stop} (Ok x) (Ok y) → x ≡ y
 ok_is x y e = cc
 
 -- commands
 plain_owners : (w : World) (t : Took) → AgreesIn (joined w t) → AgreesIn (record (joined w t) { owners = w.owners ++ [] })
-plain_owners w t h = subst (λ o. Agrees w.hostile t.rec (ended_by t.answer.actions w.instances ++ started_by t.rec.numbers t.answer.actions) (w.sent ++ map of_container (messages_of t.answer.actions)) o w.container_done w.server_done) (sym (append-nil w.owners)) h
+plain_owners w t h = subst (λ o. Agrees w.hostile t.rec (ended_by t.answer.actions w.instances ++ started_by t.rec.session t.rec.numbers t.answer.actions) (w.sent ++ map of_container (messages_of t.answer.actions)) o w.container_done w.server_done) (sym (append-nil w.owners)) h
 
 -- by the shapes that it is
 agrees_shaped : (w : World) (ns : List ℕ) (t : Took) → AgreesIn w → Steady t.rec → MovesBy w.rec t.rec [] → IsCommanded w.rec (lives_of w.instances) w.owners t ns → AgreesIn (record (joined w t) { owners = w.owners ++ ns })
@@ -90,9 +93,18 @@ agrees_commanded w c (Err fault) h e = h
 agrees_commanded w c (Ok t) h e = agrees_command w c t h e
 
 -- deliveries
-pub among_place : (sent : List Sent) (p : ℕ) (x : Sent) → nth sent p ≡ Some x → Among (messages sent) x.message
+pub among_place : (sent : List Sent) (p : ℕ) (x : Sent) → nth sent p ≡ Some x → Among (sayings sent) x.message.said
 among_place sent zero x e = cc
 among_place sent (suc i) x e = at sent i e
+  where
+    at : (xs : List Sent) (i : ℕ) → slice_get xs i ≡ Some x → Among (sayings xs) x.message.said
+    at [] i e = cc
+    at (y ∷ ys) zero e = (let q : y ≡ x = cc in inl (ap (λ (z : Sent). z.message.said) (sym q)))
+    at (y ∷ ys) (suc i) e = inr (at ys i e)
+
+pub sent_place : (sent : List Sent) (p : ℕ) (x : Sent) → nth sent p ≡ Some x → Among (messages sent) x.message
+sent_place sent zero x e = cc
+sent_place sent (suc i) x e = at sent i e
   where
     at : (xs : List Sent) (i : ℕ) → slice_get xs i ≡ Some x → Among (messages xs) x.message
     at [] i e = cc
@@ -104,32 +116,41 @@ agrees_took w (Err fault) h g = h
 agrees_took w (Ok t) h g = g t refl
 
 -- the message that is taken was sent, or it is of a hostile server
-sent_one : (w : World) (m : Message) → (IsHonest w.hostile (server_of m) → Among (messages w.sent) m) → AreSent w.hostile (messages w.sent) (m ∷ [])
-sent_one w m g x (inl e) honest = subst (Among (messages w.sent)) (sym e) (g (subst (λ v. IsHonest w.hostile (server_of v)) e honest))
+sent_one : (w : World) (m : Said) → (IsHonest w.hostile (server_of m) → Among (sayings w.sent) m) → AreSent w.hostile (sayings w.sent) (m ∷ [])
+sent_one w m g x (inl e) honest = subst (Among (sayings w.sent)) (sym e) (g (subst (λ v. IsHonest w.hostile (server_of v)) e honest))
 sent_one w m g x (inr z) honest = absurd z
 
-agrees_replied : (w : World) (inc act n : ℕ) (answer : _) (t : Took) → AgreesIn w → (IsHonest w.hostile inc → Among (messages w.sent) (Reply inc act n answer)) → on_message w.rec inc (Reply inc act n answer) ≡ Ok t → AgreesIn (joined w t)
-agrees_replied w inc act n answer t h g e =
-    let m = Reply inc act n answer in
-    answered_joined w t (m ∷ []) h (on_message_keeps w.rec inc m t h.steady e) (message_moves w.rec inc m t h.steady e) (sent_one w m g)
-    (reply_answers w.rec (acts_of w.instances) (lives_of w.instances) (messages w.sent) w.owners w.rec.last_act w.container_done w.server_done inc act n answer h.steady h.facts g t e)
+agrees_replied : (w : World) (link : ServerLink) (m : Message) (inc act n : ℕ) (answer : _) (t : Took) → AgreesIn w → m.said ≡ Reply inc act n answer → (IsHonest w.hostile inc → Among (sayings w.sent) (Reply inc act n answer))
+    → on_message w.rec link m ≡ Ok t → said_on w.rec inc (Reply inc act n answer) ≡ Ok t → AgreesIn (joined w t)
+agrees_replied w link m inc act n answer t h is g e own =
+    let x = Reply inc act n answer in
+    answered_joined w t (x ∷ []) h (on_message_keeps w.rec link m t h.steady e) (subst (λ y. MovesBy w.rec t.rec (y ∷ [])) is (message_moves w.rec link m t h.steady e)) (sent_one w x g)
+    (reply_answers w.rec (acts_of w.instances) (lives_of w.instances) (sayings w.sent) w.owners w.rec.last_act w.container_done w.server_done inc act n answer h.steady h.facts g t own)
 
 -- a message that asks, or nothing
-agrees_asked : (w : World) (inc : ℕ) (m : Message) (t : Took) → AgreesIn w → (IsHonest w.hostile (server_of m) → Among (messages w.sent) m) → on_message w.rec inc m ≡ Ok t → IsTurned w.rec t → AgreesIn (joined w t)
-agrees_asked w inc m t h g e turned = turned_joined w t (m ∷ []) h (on_message_keeps w.rec inc m t h.steady e) (message_moves w.rec inc m t h.steady e) (sent_one w m g) turned
+agrees_asked : (w : World) (link : ServerLink) (m : Message) (t : Took) → AgreesIn w → (IsHonest w.hostile (server_of m.said) → Among (sayings w.sent) m.said) → on_message w.rec link m ≡ Ok t → IsTurned w.rec t → AgreesIn (joined w t)
+agrees_asked w link m t h g e turned = turned_joined w t (m.said ∷ []) h (on_message_keeps w.rec link m t h.steady e) (message_moves w.rec link m t h.steady e) (sent_one w m.said g) turned
 
--- a message on the link of its own server
-agrees_own : (w : World) (m : Message) (t : Took) → AgreesIn w → (IsHonest w.hostile (server_of m) → Among (messages w.sent) m) → on_message w.rec (server_of m) m ≡ Ok t → AgreesIn (joined w t)
-agrees_own w (Call inc act n op) t h g e = cc
-agrees_own w (Reply inc act n answer) t h g e = agrees_replied w inc act n answer t h g e
-agrees_own w (Write inc act s n content) t h g e = agrees_asked w inc (Write inc act s n content) t h g e (asks_turned w.rec t (write_asks w.rec inc act s n content t h.steady e))
-agrees_own w (Ask inc act j) t h g e = agrees_asked w inc (Ask inc act j) t h g e (asks_turned w.rec t (ask_asks w.rec inc act j t h.steady e))
+-- a message that is taken, on the link of its own server
+agrees_said : (w : World) (link : ServerLink) (m : Message) (x : Said) (t : Took) → AgreesIn w → m.said ≡ x → (IsHonest w.hostile (server_of m.said) → Among (sayings w.sent) m.said) → on_message w.rec link m ≡ Ok t → said_on w.rec (server_of x) x ≡ Ok t → AgreesIn (joined w t)
+agrees_said w link m (Call inc act n op) t h is g e own = cc
+agrees_said w link m (Reply inc act n answer) t h is g e own = agrees_replied w link m inc act n answer t h is (subst (λ y. IsHonest w.hostile (server_of y) → Among (sayings w.sent) y) is g) e own
+agrees_said w link m (Write inc act s n content) t h is g e own = agrees_asked w link m t h g e (asks_turned w.rec t (write_asks w.rec inc act s n content t h.steady own))
+agrees_said w link m (Ask inc act j) t h is g e own = agrees_asked w link m t h g e (asks_turned w.rec t (ask_asks w.rec inc act j t h.steady own))
 
-agrees_delivered : (w : World) (m : Message) (v : World) → AgreesIn w → Among (messages w.sent) m → delivered w m ≡ Ok v → AgreesIn v
-agrees_delivered w (Call inc act n op) v h g e = agrees_called w h inc act n op g (nth w.instances inc) v refl e
-agrees_delivered w (Reply inc act n answer) v h g e = subst AgreesIn (ok_is _ v e) (agrees_took w (on_message w.rec inc (Reply inc act n answer)) h (λ t q. agrees_own w (Reply inc act n answer) t h (λ honest. g) q))
-agrees_delivered w (Write inc act s n content) v h g e = subst AgreesIn (ok_is _ v e) (agrees_took w (on_message w.rec inc (Write inc act s n content)) h (λ t q. agrees_own w (Write inc act s n content) t h (λ honest. g) q))
-agrees_delivered w (Ask inc act j) v h g e = subst AgreesIn (ok_is _ v e) (agrees_took w (on_message w.rec inc (Ask inc act j)) h (λ t q. agrees_own w (Ask inc act j) t h (λ honest. g) q))
+agrees_own : (w : World) (link : ServerLink) (m : Message) (t : Took) → AgreesIn w → (IsHonest w.hostile (server_of m.said) → Among (sayings w.sent) m.said) → on_message w.rec link m ≡ Ok t → AgreesIn (joined w t)
+agrees_own w link m t h g e =
+    let on : said_on w.rec link.inc m.said ≡ Ok t = (is_said_on w.rec link m t e).said in
+    agrees_said w link m m.said t h refl g e (subst (λ i. said_on w.rec i m.said ≡ Ok t) (sym (own_link w.rec link.inc m.said t on)) on)
+
+agrees_delivered_said : (w : World) (m : Message) (x : Said) (v : World) → AgreesIn w → m.said ≡ x → Among (sayings w.sent) m.said → delivered_said w m x ≡ Ok v → AgreesIn v
+agrees_delivered_said w m (Call inc act n op) v h is g e = agrees_called w h m.session inc act n op (subst (Among (sayings w.sent)) is g) (nth w.instances inc) v refl e
+agrees_delivered_said w m (Reply inc act n answer) v h is g e = subst AgreesIn (ok_is _ v e) (agrees_took w (on_message w.rec (link_of m) m) h (λ t q. agrees_own w (link_of m) m t h (λ honest. g) q))
+agrees_delivered_said w m (Write inc act s n content) v h is g e = subst AgreesIn (ok_is _ v e) (agrees_took w (on_message w.rec (link_of m) m) h (λ t q. agrees_own w (link_of m) m t h (λ honest. g) q))
+agrees_delivered_said w m (Ask inc act j) v h is g e = subst AgreesIn (ok_is _ v e) (agrees_took w (on_message w.rec (link_of m) m) h (λ t q. agrees_own w (link_of m) m t h (λ honest. g) q))
+
+agrees_delivered : (w : World) (m : Message) (v : World) → AgreesIn w → Among (sayings w.sent) m.said → delivered w m ≡ Ok v → AgreesIn v
+agrees_delivered w m v h g e = agrees_delivered_said w m m.said v h refl g e
 
 -- A server is hostile from now on.
 abbrev pub turned : World → ℕ → World
@@ -139,13 +160,13 @@ pub agrees_turned : (w : World) (inc : ℕ) → AgreesIn w → AgreesIn (turned 
 agrees_turned w inc h = record {
   steady = h.steady;
   servers = h.servers;
-  facts = turned_facts w.hostile inc (links_of w.rec.objects) (acts_of w.instances) (lives_of w.instances) (messages w.sent) w.owners w.rec.last_act w.container_done w.server_done h.facts;
+  facts = turned_facts w.hostile inc (links_of w.rec.objects) (acts_of w.instances) (lives_of w.instances) (sayings w.sent) w.owners w.rec.last_act w.container_done w.server_done h.facts;
   views = turned_views w.hostile inc (links_of w.rec.objects) (acts_of w.instances) w.sent h.views;
-  grants = fewer_grants w.hostile (w.hostile ++ inc ∷ []) (links_of w.rec.objects) (roles_of w.rec) (acts_of w.instances) (messages w.sent) (honest_before w.hostile inc) h.grants;
+  grants = fewer_grants w.hostile (w.hostile ++ inc ∷ []) (links_of w.rec.objects) (roles_of w.rec) (acts_of w.instances) (sayings w.sent) (honest_before w.hostile inc) h.grants;
 }
 
 -- so no message of it has to be one that was sent
-pub none_honest : (w : World) (inc i : ℕ) (m : Message) → i ≡ inc → IsHonest (w.hostile ++ inc ∷ []) i → Among (messages w.sent) m
+pub none_honest : (w : World) (inc i : ℕ) (m : Said) → i ≡ inc → IsHonest (w.hostile ++ inc ∷ []) i → Among (sayings w.sent) m
 none_honest w inc i m e honest = absurd (let z : true ≡ false = sym (just_hostile w.hostile inc) ∙ (ap (is_hostile (w.hostile ++ inc ∷ [])) (sym e) ∙ honest) in cc)
 
 -- a forged message
@@ -156,8 +177,9 @@ agrees_forged_as w hostile taken (Ok t) h = h
 agrees_forged_on : (w : World) (inc : ℕ) (m : Message) → AgreesIn w → AgreesIn (forged_on w inc m)
 agrees_forged_on w inc m h =
     let now = agrees_turned w inc h in
-    agrees_forged_as w (w.hostile ++ inc ∷ []) (w.taken ++ taken_at w.rec None inc m) (on_message w.rec inc m) (agrees_took (turned w inc) (on_message w.rec inc m) now (λ t q. (let own = own_link w.rec inc m t q in
-    agrees_own (turned w inc) m t now (none_honest w inc (server_of m) m own) (subst (λ i. on_message w.rec i m ≡ Ok t) (sym own) q))))
+    let link = link_to w inc in
+    agrees_forged_as w (w.hostile ++ inc ∷ []) (w.taken ++ taken_at w.rec None link m) (on_message w.rec link m) (agrees_took (turned w inc) (on_message w.rec link m) now (λ t q. (let own = own_link w.rec inc m.said t (is_said_on w.rec link m t q).said in
+    agrees_own (turned w inc) link m t now (none_honest w inc (server_of m.said) m.said own) q)))
 
 agrees_forged : (w : World) (inc : ℕ) (m : Message) (life : Life) (v : World) → AgreesIn w → forged w inc m life ≡ Ok v → AgreesIn v
 agrees_forged w inc m Running v h e = subst AgreesIn (ok_is _ v e) (agrees_forged_on w inc m h)
@@ -175,7 +197,7 @@ agrees_logged w more (Ok u) v h e = subst AgreesIn (ok_is _ v e) (h u refl)
 
 agrees_deliver : (w : World) (p : ℕ) (sent : Option Sent) (v : World) → AgreesIn w → nth w.sent p ≡ sent → deliver w p sent ≡ Ok v → AgreesIn v
 agrees_deliver w p None v h f e = cc
-agrees_deliver w p (Some sent) v h f e = agrees_logged w (taken_at w.rec (Some p) (server_of sent.message) sent.message) (delivered w sent.message) v (λ u g. agrees_delivered w sent.message u h (among_place w.sent p sent f) g) e
+agrees_deliver w p (Some sent) v h f e = agrees_logged w (taken_at w.rec (Some p) (link_of sent.message) sent.message) (delivered w sent.message) v (λ u g. agrees_delivered w sent.message u h (among_place w.sent p sent f) g) e
 
 -- crashes, and ends that are told
 agrees_crashed : (w : World) (inc : ℕ) (i : Instance) (life : Life) (v : World) → AgreesIn w → nth w.instances inc ≡ Some i → crashed w inc i life ≡ Ok v → AgreesIn v
@@ -221,18 +243,18 @@ module _ (w : World) (k : Files w) (h : AgreesIn w) (f : ℕ) (frame : Frame) (a
       absurd (omega arith)
 
   -- what is told of the commit is pending then
-  pub commit_pending : ArePending (links_of made.rec.objects) (messages_of made.answer.actions)
-  commit_pending = asks_pending (IsTold (links_of w.rec.objects) frame.k fresh) (links_of w.rec.objects) (links_of made.rec.objects) (messages_of made.answer.actions)
+  pub commit_pending : ArePending (links_of made.rec.objects) (sayings_of made.answer.actions)
+  commit_pending = asks_pending (IsTold (links_of w.rec.objects) frame.k fresh) (links_of w.rec.objects) (links_of made.rec.objects) (sayings_of made.answer.actions)
       (commit_counts w.rec f frame h.steady at unsettled w.container_done apart).tells
 
   pub commit_agrees : Steady (commit_made w.rec f frame).rec
-      → Agrees w.hostile (commit_made w.rec f frame).rec (ended_by (commit_made w.rec f frame).answer.actions w.instances ++ started_by (commit_made w.rec f frame).rec.numbers (commit_made w.rec f frame).answer.actions)
+      → Agrees w.hostile (commit_made w.rec f frame).rec (ended_by (commit_made w.rec f frame).answer.actions w.instances ++ started_by (commit_made w.rec f frame).rec.session (commit_made w.rec f frame).rec.numbers (commit_made w.rec f frame).answer.actions)
       (w.sent ++ map of_container (messages_of (commit_made w.rec f frame).answer.actions)) w.owners (w.container_done ++ map (done_entry frame.k) (parts_in f w.rec.objects)) w.server_done
   commit_agrees steady = (let counts = commit_counts w.rec f frame h.steady at unsettled w.container_done apart in plain_joined w made (w.container_done ++ fresh) h steady (commit_plain w.rec f frame h.steady at unsettled)
-      (all_counted (links_of w.rec.objects) (links_of made.rec.objects) (acts_of w.instances) (lives_of w.instances) (messages w.sent) (messages_of made.answer.actions) w.owners w.rec.last_act w.container_done fresh w.server_done frame.k
+      (all_counted (links_of w.rec.objects) (links_of made.rec.objects) (acts_of w.instances) (lives_of w.instances) (sayings w.sent) (sayings_of made.answer.actions) w.owners w.rec.last_act w.container_done fresh w.server_done frame.k
       counts h.facts)
       (asked_views (IsTold (links_of w.rec.objects) frame.k fresh) w made h counts.tells)
-      (joined_grants w made [] h (committed_moves w.rec f frame h.steady at) (λ x z honest. absurd z) (asks_followed (IsTold (links_of w.rec.objects) frame.k fresh) (links_of w.rec.objects) (links_of made.rec.objects) (messages_of made.answer.actions) counts.tells)))
+      (joined_grants w made [] h (committed_moves w.rec f frame h.steady at) (λ x z honest. absurd z) (asks_followed (IsTold (links_of w.rec.objects) frame.k fresh) (links_of w.rec.objects) (links_of made.rec.objects) (sayings_of made.answer.actions) counts.tells)))
 
 -- a step that keeps a record steady
 abbrev Keeps : Result Took ContainerFault → Type 0

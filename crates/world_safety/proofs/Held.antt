@@ -1,13 +1,13 @@
 -- Every world that a run reaches is safe.
-use Rattle.std.proofs.Common.{◌≡◌, ℕ, zero, suc, List, [], ◌∷◌, Option, Some, None, Ok, refl, sym, ap, ◌∙◌, subst}
+use Rattle.std.proofs.Common.{◌≡◌, ℕ, zero, suc, List, [], ◌∷◌, Option, Some, None, Ok, refl, sym, ap, ◌∙◌, subst, inl, inr}
 use Rattle.embed_core.specs.Kinds.{Kind}
 use Rattle.stored_streams.specs.declared.stored.Stored.{Stored}
 use Rattle.server_model.specs.Server.{Activation}
 use Rattle.container_model.specs.declared.record.Link.{Link}
 use Rattle.container_steady.proofs.SteadyRecords.{empty_steady}
 use Rattle.world_model.specs.declared.event.Event.{Event}
-use Rattle.world_model.specs.World.{World, empty_world, happened, IsImage, Run, Choice}
-use Rattle.world_model.specs.Safe.{Safe, acts_of, links_of}
+use Rattle.world_model.specs.World.{World, empty_world, happened, IsImage, Run, Choice, in_session}
+use Rattle.world_model.specs.Safe.{Safe, acts_of, links_of, Among, WasSent, messages, sayings}
 use Rattle.wire_msgs.specs.declared.operation.Operation.{Operation}
 use Rattle.wire_msgs.specs.declared.operation.Operation.TheVariants.{SaveCompleted}
 use Rattle.world_facts.specs.Words.{Issued, called, waits}
@@ -20,25 +20,41 @@ use Rattle.world_safety.proofs.Holders.{holder, one_holder}
 use Rattle.world_safety.proofs.Numbering.{empty_numbers, numbers_happened}
 use Rattle.world_safety.proofs.Opened.{files_kept, files_opened_give, shared_kept}
 use Rattle.world_safety.proofs.Once.{once_answered}
+use Rattle.world_safety.proofs.Sessions.{empty_session, session_happened}
+use Rattle.wire_msgs.specs.declared.message.Message.{Message}
+use Rattle.wire_msgs.specs.declared.message.Said.{Said}
+use Rattle.wire_msgs.specs.declared.message.Said.TheVariants.{Reply}
+use Rattle.world_model.specs.declared.logs.Sent.{Sent}
 
 has_saved : (a : Option Activation) (c : Stored) → HasSaved c a → (b : Activation) × (a ≡ Some b) × (b.saved ≡ Some c)
 has_saved None c h = absurd h
 has_saved (Some b) c h = (b, refl, h)
 
+-- what was sent in a session was said
+said_of : (w : World) (s : ℕ) (x : Said) → WasSent w (in_session s x) → Among (sayings w.sent) x
+said_of w s x g = at w.sent g
+  where
+    at : (xs : List Sent) → Among (messages xs) (in_session s x) → Among (sayings xs) x
+    at [] g = absurd g
+    at (y ∷ ys) (inl e) = inl (ap (λ (m : Message). m.said) e)
+    at (y ∷ ys) (inr g) = inr (at ys g)
+
 pub safe_held : (w : World) → Holds w → Safe w
 safe_held w h = (let f = h.agrees.facts in record {
-  acts_once = λ inc act n op r next g e. once_answered w inc act n op r h.agrees g next e;
-  one_reply = λ inc act n r q g k. f.replies.one_reply inc act n r q g k;
-  kept_reply = λ inc act a r e g. (let k = f.replies.replies_kept inc act a.last r g in
+  acts_once = λ s inc act n op r next g e. once_answered w s inc act n op r h.agrees (said_of w s (Reply inc act n r) g) next e;
+  one_reply = λ s inc act n r q g k. f.replies.one_reply inc act n r q (said_of w s (Reply inc act n r) g) (said_of w s (Reply inc act n q) k);
+  kept_reply = λ inc act a r e g. (let k = f.replies.replies_kept inc act a.last r (said_of w w.rec.session (Reply inc act a.last r) g) in
       let is : a ≡ k.0 = (let z : Some a ≡ Some k.0 = sym e ∙ k.1 in cc) in
       k.3 (ap (λ (x : Activation). x.last) is) ∙ ap (λ (x : Activation). x.reply) (sym is));
   answered = λ n l content e honest s. has_saved (acts_of w.instances l.inc l.act) content (f.saved_same n l content e honest s);
   one_holder = one_holder w h.agrees;
-  holder = holder w h.agrees;
+  holder = holder w h.agrees h.in_session.sent;
   writes = h.taken_held;
   container_once = h.files.counted_bounded.counted_once;
   server_once = f.counts.server_once;
   agreed = λ e g honest. f.counts.server_counted e g honest;
+  of_session = h.in_session.sent;
+  servers = h.in_session.servers;
   numbered = h.numbers.sent;
   commits = h.files.commits.commits;
   counted = commits_kept w h.files;
@@ -101,13 +117,13 @@ empty_agrees numbers stock = record {
 }
 
 pub empty_held : (numbers : ℕ) (stock : List Kind) → Holds (empty_world numbers stock)
-empty_held numbers stock = record { agrees = empty_agrees numbers stock; files = empty_files numbers stock; numbers = empty_numbers numbers stock; taken_held = λ t h. absurd h }
+empty_held numbers stock = record { in_session = empty_session numbers stock; agrees = empty_agrees numbers stock; files = empty_files numbers stock; numbers = empty_numbers numbers stock; taken_held = λ t h. absurd h }
 
 held_happened : (w : World) (choice : Choice) (e : Event) (v : World) → Holds w → IsImage w choice e → happened w choice e ≡ Ok v → Holds v
 held_happened w choice e v h im ok =
     let agrees = agrees_happened w choice e v h.files h.agrees ok in
     let files = files_happened w choice e v h.agrees.steady h.files im ok in
-    record { agrees = agrees; files = files; numbers = numbers_happened w choice e v h.agrees h.files h.numbers agrees files ok; taken_held = granted_happened w choice e v h.agrees h.taken_held ok }
+    record { in_session = session_happened w choice e v h.in_session ok; agrees = agrees; files = files; numbers = numbers_happened w choice e v h.agrees h.files h.numbers agrees files ok; taken_held = granted_happened w choice e v h.agrees h.in_session.sent h.taken_held ok }
 
 pub held_run : (w : World) (es : List Event) (after : World) → Holds w → Run w es after → Holds after
 held_run w [] after h r = subst Holds (sym r) h

@@ -15,12 +15,16 @@ use Rattle.container_steady.specs.Roles.{Holding, IsClaim, role_in}
 use Rattle.container_steady.proofs.SteadyRecords.{if_at}
 use Rattle.world_model.specs.declared.life.Life.TheVariants.{Running}
 use Rattle.world_model.specs.World.{World, nth_or_zero, owner}
-use Rattle.world_model.specs.Safe.{link_at, links_of, act_at, acts_of, messages, IsHonest, HoldsFrame, IsHolder, WasAnswered}
+use Rattle.world_model.specs.Safe.{link_at, links_of, act_at, acts_of, sayings, IsHonest, HoldsFrame, IsHolder, WasAnswered}
 use Rattle.world_facts.specs.Words.{life_at, lives_of, IsLinked, IsOpen}
 use Rattle.world_grants.specs.Grants.{Names, WasTold, roles_of}
 use Rattle.world_grants.proofs.Moving.{IsIn, in_frame}
 use Rattle.world_grants.proofs.States.{named_is, is_holding}
 use Rattle.world_safety.specs.Holding.{AgreesIn}
+use Rattle.world_safety.proofs.Granting.{AllIn, sent_said}
+use Rattle.wire_msgs.specs.declared.message.Said.TheVariants.{Call, Reply}
+use Rattle.wire_msgs.specs.declared.operation.Operation.TheVariants.{UiActivate}
+use Rattle.wire_msgs.specs.declared.answer.Answer.TheVariants as told
 
 claim_is : (c : Claim) (o a g : ℕ) → c.object ≡ o → c.act ≡ a → c.g ≡ g → c ≡ record { object = o; act = a; g = g }
 claim_is c o a g eo ea eg = ap (λ x. record { object = x; act = c.act; g = c.g }) eo ∙ (ap (λ x. record { object = o; act = x; g = c.g }) ea ∙ ap (λ x. record { object = o; act = a; g = x }) eg)
@@ -121,22 +125,22 @@ module _ (w : World) (h : AgreesIn w) where
       let runs : lives_of w.instances inc ≡ Some Running = ap life_at x.hosted ∙ ap Some x.runs in
       named_linked inc act g f x.activation x.object honest at x.has_grant x.owned x.inside (linked_open inc act x.activation honest at runs (h.grants.g_is_ui inc act g x.activation honest at x.has_grant).0)
 
-  answered : (inc act g f : ℕ) (honest : IsHonest w.hostile inc) (n : IsNamed inc act g f) (holder : Claim) (tools : Tools) → n.frame.ui.state ≡ Held holder tools → WasAnswered w inc act g tools
-  answered inc act g f honest n holder tools e =
+  answered : AllIn w → (inc act g f : ℕ) (honest : IsHonest w.hostile inc) (n : IsNamed inc act g f) (holder : Claim) (tools : Tools) → n.frame.ui.state ≡ Held holder tools → WasAnswered w inc act g tools
+  answered all inc act g f honest n holder tools e =
       let hc : holder ≡ n.claim = (let z : Some holder ≡ Some n.claim = ap who (sym e) ∙ n.named in cc) in
       let role : roles_of w.rec n.number ≡ Holding g tools = n.role ∙ (ap (λ s. role_in s n.number) (e ∙ ap (λ c. Held c tools) hc) ∙ (ap (role_in (Held n.claim tools)) (sym n.object_is) ∙ (is_holding n.claim tools ∙ ap (λ x. Holding x tools) n.g_is))) in
-      let t : WasTold (messages w.sent) inc act g tools = subst (λ i. WasTold (messages w.sent) i act g tools) n.inc_is (subst (λ a. WasTold (messages w.sent) n.link.inc a g tools) n.act_is (h.grants.held_told n.number g tools n.link n.linked (subst (IsHonest w.hostile) (sym n.inc_is) honest) role)) in
-      record { n = t.n; called = t.called; replied = t.replied }
+      let t : WasTold (sayings w.sent) inc act g tools = subst (λ i. WasTold (sayings w.sent) i act g tools) n.inc_is (subst (λ a. WasTold (sayings w.sent) n.link.inc a g tools) n.act_is (h.grants.held_told n.number g tools n.link n.linked (subst (IsHonest w.hostile) (sym n.inc_is) honest) role)) in
+      record { n = t.n; called = sent_said w w.rec.session (Call inc act t.n (UiActivate g)) all refl t.called; replied = sent_said w w.rec.session (Reply inc act t.n (told.Tools tools.menus tools.border)) all refl t.replied }
 
-  pub holder : (f inc act g : ℕ) → IsHonest w.hostile inc → HoldsFrame w inc act g f → IsHolder w inc act g f
-  holder f inc act g honest x =
+  pub holder : AllIn w → (f inc act g : ℕ) → IsHonest w.hostile inc → HoldsFrame w inc act g f → IsHolder w inc act g f
+  holder all f inc act g honest x =
       let n = named_in inc act g f honest x in
       record {
         frame = n.frame;
         there = n.there;
         named = n.named ∙ ap Some (claim_is n.claim (owner w act) act g (n.object_is ∙ sym n.owned) n.claimed n.g_is);
         unwaiting = λ claim e q. waits_apart n.frame.ui.state n.claim claim (h.steady.grants f n.frame n.there).apart n.named e (q ∙ sym n.claimed);
-        told = λ holder tools e. answered inc act g f honest n holder tools e;
+        told = λ holder tools e. answered all inc act g f honest n holder tools e;
       }
 
   pub one_holder : (f inc act g inc' act' g' : ℕ) → IsHonest w.hostile inc → IsHonest w.hostile inc' → HoldsFrame w inc act g f → HoldsFrame w inc' act' g' f → (inc ≡ inc') × (act ≡ act') × (g ≡ g')

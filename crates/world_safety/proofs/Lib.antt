@@ -10,4 +10,5 @@ pub mod Alike
 pub mod Holders
 pub mod Numbering
 pub mod Opened
+pub mod Sessions
 pub mod Held

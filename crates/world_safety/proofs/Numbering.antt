@@ -35,9 +35,9 @@ use Rattle.world_model.specs.declared.life.Life.{Life}
 use Rattle.world_model.specs.declared.life.Life.TheVariants.{Running, Ended, Reaped}
 use Rattle.world_model.specs.declared.logs.Sent.{Sent}
 use Rattle.world_model.specs.declared.logs.Taken.{Taken}
-use Rattle.world_model.specs.World.{World, Instance, called, called_in, called_wanting, commanded, crash, crashed, deliver, delivered, done_imaged, done_in, done_taken, empty_world, ended, forge, forged, forged_on, happened, is_of, joined, kept_commit, messages_of, only_taken, reap, resolved, served, server_of, spoken, spoken_by, scribble, ask, started_by, stocked, taken_at, took, view_in, with_taken, Choice}
-use Rattle.world_model.specs.Safe.{Among, IsHonest, IsWithin, WasSent, acts_of, links_of, messages}
-use Rattle.world_facts.specs.Words.{called as was_called, life_at, lives_of}
+use Rattle.world_model.specs.World.{World, Instance, called, called_in, called_wanting, commanded, crash, crashed, deliver, delivered, done_imaged, done_in, done_taken, empty_world, ended, forge, forged, forged_on, happened, is_of, joined, kept_commit, messages_of, only_taken, reap, resolved, served, server_of, spoken, spoken_by, scribble, ask, started_by, stocked, taken_at, took, view_in, with_taken, Choice, in_session, delivered_said, link_of, link_to}
+use Rattle.world_model.specs.Safe.{Among, IsHonest, IsWithin, WasSent, acts_of, links_of, sayings, IsSaidWithin, messages}
+use Rattle.world_facts.specs.Words.{called as was_called, life_at, lives_of, sayings_of}
 use Rattle.world_facts.proofs.Lookups.{among_map, find_among}
 use Rattle.world_files.specs.Files.{Files, id_of}
 use Rattle.world_numbers.specs.Numbers.{ArePending, Follow, IsPending, Numbers, RunsWithin}
@@ -58,19 +58,22 @@ use Rattle.world_steps.proofs.Relieving.{ask_asks}
 use Rattle.world_steps.proofs.Replying.{reply_answers}
 use Rattle.world_steps.proofs.Taking.{write_asks}
 use Rattle.world_safety.specs.Holding.{AgreesIn}
-use Rattle.world_safety.proofs.Events.{agrees_turned, among_place, commit_pending, none_honest, turned}
+use Rattle.world_safety.proofs.Events.{agrees_turned, among_place, commit_pending, none_honest, turned, sent_place}
 use Rattle.world_safety.proofs.Joining.{asks_turned, command_shapes}
+use Rattle.wire_msgs.specs.declared.message.Said.{Said}
+use Rattle.container_model.specs.declared.server_link.ServerLink.{ServerLink}
+use Rattle.container_model.proofs.SaidOn.{is_said_on, said_on}
 
 ok_is : (x y : World) → ◌≡◌ {A = Result World Stop} (Ok x) (Ok y) → x ≡ y
 ok_is x y e = cc
 
 -- ---- the container's steps
-plain_taken : (limit : ℕ) (t : Took) → IsNumbered limit t.rec → ArePending (links_of t.rec.objects) (messages_of t.answer.actions) → ((numbers : ℕ) → started_by numbers t.answer.actions ≡ []) → IsTaken limit t
-plain_taken limit t r p none = record { recorded = r; pending = p; starts = subst (AllByRecursion (RunsWithin limit)) (sym (none t.rec.numbers)) tt }
+plain_taken : (limit : ℕ) (t : Took) → IsNumbered limit t.rec → ArePending (links_of t.rec.objects) (sayings_of t.answer.actions) → ((session numbers : ℕ) → started_by session numbers t.answer.actions ≡ []) → IsTaken limit t
+plain_taken limit t r p none = record { recorded = r; pending = p; starts = subst (AllByRecursion (RunsWithin limit)) (sym (none t.rec.session t.rec.numbers)) tt }
 
 module _ (limit : ℕ) (w : World) (h : AgreesIn w) (k : Numbers limit w) where
   turned_taken : (t : Took) → IsNumbered limit t.rec → IsTurned w.rec t → IsTaken limit t
-  turned_taken t r m = plain_taken limit t r (turned_pending (links_of w.rec.objects) (links_of t.rec.objects) (messages_of t.answer.actions) m.0) m.1.starts
+  turned_taken t r m = plain_taken limit t r (turned_pending (links_of w.rec.objects) (links_of t.rec.objects) (sayings_of t.answer.actions) m.0) m.1.starts
 
   start_taken : (t : Took) → IsNumbered limit t.rec → start_made w.rec ≡ t → IsTaken limit t
   start_taken t r is =
@@ -84,39 +87,36 @@ module _ (limit : ℕ) (w : World) (h : AgreesIn w) (k : Numbers limit w) where
   shaped_taken _ t r (command_asks turned) = turned_taken t r turned
   shaped_taken _ t r (command_starts made) = start_taken t r made
   shaped_taken _ t r (command_begins o b) = plain_taken limit t r
-      (begins_pending (links_of w.rec.objects) (links_of t.rec.objects) (lives_of w.instances) (w.owners ++ o ∷ []) w.rec.last_act o (messages_of t.answer.actions) b.begins) b.starts
+      (begins_pending (links_of w.rec.objects) (links_of t.rec.objects) (lives_of w.instances) (w.owners ++ o ∷ []) w.rec.last_act o (sayings_of t.answer.actions) b.begins) b.starts
   shaped_taken _ t r (command_ends inc made) = subst (IsTaken limit) made (record { recorded = k.recorded; pending = none_pending (links_of w.rec.objects) [] refl; starts = tt })
 
   command_taken : (c : Command) (t : Took) → on_command w.rec c ≡ Ok t → IsTaken limit t
   command_taken c t e = shaped_taken (run_by c) t (numbers_after limit w.rec (Input.Ordered c) t h.steady k.recorded e) (command_shapes w c t h e)
 
-  message_numbered : (inc : ℕ) (m : Message) (t : Took) → on_message w.rec inc m ≡ Ok t → IsNumbered limit t.rec
-  message_numbered inc m t e = numbers_after limit w.rec (Input.Told inc m) t h.steady k.recorded e
+  message_numbered : (link : ServerLink) (m : Message) (t : Took) → on_message w.rec link m ≡ Ok t → IsNumbered limit t.rec
+  message_numbered link m t e = numbers_after limit w.rec (Input.Told link m) t h.steady k.recorded e
 
-  reply_taken : (inc act n : ℕ) (answer : _) (t : Took) → (IsHonest w.hostile inc → WasSent w (Reply inc act n answer)) → on_message w.rec inc (Reply inc act n answer) ≡ Ok t → IsTaken limit t
-  reply_taken inc act n answer t g e =
+  -- what is said by its own server, and taken
+  said_taken : (x : Said) (t : Took) → IsNumbered limit t.rec → (IsHonest w.hostile (server_of x) → Among (sayings w.sent) x) → said_on w.rec (server_of x) x ≡ Ok t → IsTaken limit t
+  said_taken (Call inc act n op) t r g e = cc
+  said_taken (Reply inc act n answer) t r g e =
       let acts = acts_of w.instances in
       let lives = lives_of w.instances in
-      let m = reply_answers w.rec acts lives (messages w.sent) w.owners w.rec.last_act w.container_done w.server_done inc act n answer h.steady h.facts g t e in
-      plain_taken limit t (message_numbered inc (Reply inc act n answer) t e) (replied_pending w.hostile (links_of w.rec.objects) (links_of t.rec.objects) acts lives (messages_of t.answer.actions) m.0) m.1.starts
+      let m = reply_answers w.rec acts lives (sayings w.sent) w.owners w.rec.last_act w.container_done w.server_done inc act n answer h.steady h.facts g t e in
+      plain_taken limit t r (replied_pending w.hostile (links_of w.rec.objects) (links_of t.rec.objects) acts lives (sayings_of t.answer.actions) m.0) m.1.starts
+  said_taken (Write inc act s n content) t r g e = turned_taken t r (asks_turned w.rec t (write_asks w.rec inc act s n content t h.steady e))
+  said_taken (Ask inc act j) t r g e = turned_taken t r (asks_turned w.rec t (ask_asks w.rec inc act j t h.steady e))
 
-  write_taken : (inc act s n : ℕ) (content : _) (t : Took) → on_message w.rec inc (Write inc act s n content) ≡ Ok t → IsTaken limit t
-  write_taken inc act s n content t e = turned_taken t (message_numbered inc (Write inc act s n content) t e) (asks_turned w.rec t (write_asks w.rec inc act s n content t h.steady e))
-
-  ask_taken : (inc act g : ℕ) (t : Took) → on_message w.rec inc (Ask inc act g) ≡ Ok t → IsTaken limit t
-  ask_taken inc act g t e = turned_taken t (message_numbered inc (Ask inc act g) t e) (asks_turned w.rec t (ask_asks w.rec inc act g t h.steady e))
-
-  -- a message on the link of its own server
-  own_taken : (m : Message) (t : Took) → (IsHonest w.hostile (server_of m) → WasSent w m) → on_message w.rec (server_of m) m ≡ Ok t → IsTaken limit t
-  own_taken (Call inc act n op) t g e = cc
-  own_taken (Reply inc act n answer) t g e = reply_taken inc act n answer t g e
-  own_taken (Write inc act s n content) t g e = write_taken inc act s n content t e
-  own_taken (Ask inc act j) t g e = ask_taken inc act j t e
+  -- a message that is taken is on the link of its own server
+  own_taken : (link : ServerLink) (m : Message) (t : Took) → (IsHonest w.hostile (server_of m.said) → Among (sayings w.sent) m.said) → on_message w.rec link m ≡ Ok t → IsTaken limit t
+  own_taken link m t g e =
+      let on : said_on w.rec link.inc m.said ≡ Ok t = (is_said_on w.rec link m t e).said in
+      said_taken m.said t (message_numbered link m t e) g (subst (λ i. said_on w.rec i m.said ≡ Ok t) (sym (own_link w.rec link.inc m.said t on)) on)
 
   reap_taken : (is : List Instance) (inc : ℕ) (t : Took) → (lives_of is inc ≡ Some Running → ⊥) → on_reap w.rec inc ≡ Ok t → IsTaken limit t
   reap_taken is inc t over e =
       let m = reap_ends w.hostile w.rec (acts_of is) (lives_of is) inc h.steady over t e in
-      plain_taken limit t (numbers_after limit w.rec (Input.Reaped inc) t h.steady k.recorded e) (reaped_pending w.hostile (links_of w.rec.objects) (links_of t.rec.objects) (acts_of is) (lives_of is) (messages_of t.answer.actions) m.0) m.1.starts
+      plain_taken limit t (numbers_after limit w.rec (Input.Reaped inc) t h.steady k.recorded e) (reaped_pending w.hostile (links_of w.rec.objects) (links_of t.rec.objects) (acts_of is) (lives_of is) (sayings_of t.answer.actions) m.0) m.1.starts
 
   commit_taken : (f : ℕ) (frame : Frame) (told : Result Took ContainerFault) (t : Took) → Files w → nth w.rec.frames f ≡ Some frame → IsCommitOf w.rec f frame told → IsNumbered limit t.rec → told ≡ Ok t → IsTaken limit t
   commit_taken f frame told t files at commits numbered e =
@@ -151,39 +151,39 @@ module _ (limit : ℕ) (w : World) (h : AgreesIn w) (k : Numbers limit w) where
   commanded_follows c (Ok t) e within = stays limit (joined w t) _ refl refl refl (joined_follows limit w t k (command_taken limit w h k c t e) within)
 
   -- a call
-  module _ (inc act n : ℕ) (op : Operation) (call : IsWithin limit (Call inc act n op)) where
-    served_follows : (i : Instance) (stock : List Kind) (box : Option Kind) (told : Result Served ServerFault) → nth w.instances inc ≡ Some i → on_call i.core (Call inc act n op) box ≡ told → Follow limit (served w inc act n i stock told)
+  module _ (s inc act n : ℕ) (op : Operation) (call : IsSaidWithin limit (Call inc act n op)) where
+    served_follows : (i : Instance) (stock : List Kind) (box : Option Kind) (told : Result Served ServerFault) → nth w.instances inc ≡ Some i → on_call i.core (in_session s (Call inc act n op)) box ≡ told → Follow limit (served w s inc act n i stock told)
     served_follows i stock box (Err fault) at e within = stays limit w _ refl refl refl k
     served_follows i stock box (Ok v) at e within = record {
       recorded = k.recorded;
-      sent = sent_one limit w (record { message = Reply inc act n v.answer; view = view_in i.core act }) k.sent (call.0, call.1, call.2);
+      sent = sent_one limit w (record { message = in_session s (Reply inc act n v.answer); view = view_in i.core act }) k.sent (call.0, call.1, call.2);
       servers = set_within limit w.instances inc (record i { core = v.server }) k.servers
-          (served_within limit i.core act n op box (hosted_within limit w.instances inc i k.servers at) call.1 call.2 call.3 v inc e);
+          (served_within limit i.core s act n op box (hosted_within limit w.instances inc i k.servers at) call.1 call.2 call.3 v inc e);
     }
 
-    stocked_follows : (i : Instance) (class : List ℕ) (kind : Option Kind) (v : World) → nth w.instances inc ≡ Some i → stocked w inc act n op i class kind ≡ Ok v → Follow limit v
+    stocked_follows : (i : Instance) (class : List ℕ) (kind : Option Kind) (v : World) → nth w.instances inc ≡ Some i → stocked w s inc act n op i class kind ≡ Ok v → Follow limit v
     stocked_follows i class None v at e = cc
-    stocked_follows i class (Some kind) v at e = subst (Follow limit) (ok_is _ v e) (served_follows i _ (Some kind) (on_call i.core (Call inc act n op) (Some kind)) at refl)
+    stocked_follows i class (Some kind) v at e = subst (Follow limit) (ok_is _ v e) (served_follows i _ (Some kind) (on_call i.core (in_session s (Call inc act n op)) (Some kind)) at refl)
 
-    wanting_follows : (i : Instance) (class : Option (List ℕ)) (v : World) → nth w.instances inc ≡ Some i → called_wanting w inc act n op i class ≡ Ok v → Follow limit v
-    wanting_follows i None v at e = subst (Follow limit) (ok_is _ v e) (served_follows i w.stock None (on_call i.core (Call inc act n op) None) at refl)
+    wanting_follows : (i : Instance) (class : Option (List ℕ)) (v : World) → nth w.instances inc ≡ Some i → called_wanting w s inc act n op i class ≡ Ok v → Follow limit v
+    wanting_follows i None v at e = subst (Follow limit) (ok_is _ v e) (served_follows i w.stock None (on_call i.core (in_session s (Call inc act n op)) None) at refl)
     wanting_follows i (Some class) v at e = stocked_follows i class (find (is_of class) w.stock) v at e
 
-    called_in_follows : (i : Instance) (life : Life) (v : World) → nth w.instances inc ≡ Some i → called_in w inc act n op i life ≡ Ok v → Follow limit v
-    called_in_follows i Running v at e = wanting_follows i (wanted i.core (Call inc act n op)) v at e
+    called_in_follows : (i : Instance) (life : Life) (v : World) → nth w.instances inc ≡ Some i → called_in w s inc act n op i life ≡ Ok v → Follow limit v
+    called_in_follows i Running v at e = wanting_follows i (wanted i.core (in_session s (Call inc act n op))) v at e
     called_in_follows i Ended v at e = subst (Follow limit) (ok_is _ v e) (λ within. stays limit w _ refl refl refl k)
     called_in_follows i Reaped v at e = subst (Follow limit) (ok_is _ v e) (λ within. stays limit w _ refl refl refl k)
 
-    called_follows : (i : Option Instance) (v : World) → nth w.instances inc ≡ i → called w inc act n op i ≡ Ok v → Follow limit v
+    called_follows : (i : Option Instance) (v : World) → nth w.instances inc ≡ i → called w s inc act n op i ≡ Ok v → Follow limit v
     called_follows None v at e = subst (Follow limit) (ok_is _ v e) (λ within. stays limit w _ refl refl refl k)
     called_follows (Some i) v at e = called_in_follows i i.life v at e
 
   -- deliveries
-  delivered_follows : (m : Message) (v : World) → WasSent w m → delivered w m ≡ Ok v → Follow limit v
-  delivered_follows (Call inc act n op) v g e = called_follows inc act n op (k.sent (Call inc act n op) g) (nth w.instances inc) v refl e
-  delivered_follows (Reply inc act n answer) v g e = subst (Follow limit) (ok_is _ v e) (took_follows limit w (on_message w.rec inc (Reply inc act n answer)) k (λ t q. reply_taken limit w h k inc act n answer t (λ honest. g) q))
-  delivered_follows (Write inc act s n content) v g e = subst (Follow limit) (ok_is _ v e) (took_follows limit w (on_message w.rec inc (Write inc act s n content)) k (λ t q. write_taken limit w h k inc act s n content t q))
-  delivered_follows (Ask inc act j) v g e = subst (Follow limit) (ok_is _ v e) (took_follows limit w (on_message w.rec inc (Ask inc act j)) k (λ t q. ask_taken limit w h k inc act j t q))
+  said_follows : (m : Message) (x : Said) (v : World) → m.said ≡ x → WasSent w m → Among (sayings w.sent) m.said → delivered_said w m x ≡ Ok v → Follow limit v
+  said_follows m (Call inc act n op) v is g there e = called_follows m.session inc act n op (subst (IsSaidWithin limit) is (k.sent m g)) (nth w.instances inc) v refl e
+  said_follows m (Reply inc act n answer) v is g there e = subst (Follow limit) (ok_is _ v e) (took_follows limit w (on_message w.rec (link_of m) m) k (λ t q. own_taken limit w h k (link_of m) m t (λ honest. there) q))
+  said_follows m (Write inc act s n content) v is g there e = subst (Follow limit) (ok_is _ v e) (took_follows limit w (on_message w.rec (link_of m) m) k (λ t q. own_taken limit w h k (link_of m) m t (λ honest. there) q))
+  said_follows m (Ask inc act j) v is g there e = subst (Follow limit) (ok_is _ v e) (took_follows limit w (on_message w.rec (link_of m) m) k (λ t q. own_taken limit w h k (link_of m) m t (λ honest. there) q))
 
   logged_follows : (more : List Taken) (told : Result World Stop) (v : World) → ((u : World) → told ≡ Ok u → Follow limit u) → with_taken w more told ≡ Ok v → Follow limit v
   logged_follows more (Err stop) v g e = cc
@@ -191,15 +191,15 @@ module _ (limit : ℕ) (w : World) (h : AgreesIn w) (k : Numbers limit w) where
 
   deliver_follows : (p : ℕ) (sent : Option Sent) (v : World) → nth w.sent p ≡ sent → deliver w p sent ≡ Ok v → Follow limit v
   deliver_follows p None v at e = cc
-  deliver_follows p (Some x) v at e = logged_follows (taken_at w.rec (Some p) (server_of x.message) x.message) (delivered w x.message) v (λ u g. delivered_follows x.message u (among_place w.sent p x at) g) e
+  deliver_follows p (Some x) v at e = logged_follows (taken_at w.rec (Some p) (link_of x.message) x.message) (delivered w x.message) v (λ u g. said_follows x.message x.message.said u refl (sent_place w.sent p x at) (among_place w.sent p x at) g) e
 
   -- a forged message
-  forged_taken : (inc : ℕ) (m : Message) (t : Took) → on_message w.rec inc m ≡ Ok t → IsTaken limit t
-  forged_taken inc m t e = (let own = own_link w.rec inc m t e in
-      own_taken limit (turned w inc) (agrees_turned w inc h) (stays limit w (turned w inc) refl refl refl k) m t (none_honest w inc (server_of m) m own) (subst (λ i. on_message w.rec i m ≡ Ok t) (sym own) e))
+  forged_taken : (inc : ℕ) (m : Message) (t : Took) → on_message w.rec (link_to w inc) m ≡ Ok t → IsTaken limit t
+  forged_taken inc m t e = (let own = own_link w.rec inc m.said t (is_said_on w.rec (link_to w inc) m t e).said in
+      own_taken limit (turned w inc) (agrees_turned w inc h) (stays limit w (turned w inc) refl refl refl k) (link_to w inc) m t (none_honest w inc (server_of m.said) m.said own) e)
 
   forged_on_follows : (inc : ℕ) (m : Message) → Follow limit (forged_on w inc m)
-  forged_on_follows inc m within = stays limit (took w (on_message w.rec inc m)) _ refl refl refl (took_follows limit w (on_message w.rec inc m) k (λ t q. forged_taken inc m t q) within)
+  forged_on_follows inc m within = stays limit (took w (on_message w.rec (link_to w inc) m)) _ refl refl refl (took_follows limit w (on_message w.rec (link_to w inc) m) k (λ t q. forged_taken inc m t q) within)
 
   forged_follows : (inc : ℕ) (m : Message) (life : Life) (v : World) → forged w inc m life ≡ Ok v → Follow limit v
   forged_follows inc m Running v e = subst (Follow limit) (ok_is _ v e) (forged_on_follows inc m)
@@ -296,7 +296,7 @@ module _ (limit : ℕ) (w : World) (h : AgreesIn w) (k : Numbers limit w) where
   follows choice (event.Open name x y) v files e = subst (Follow limit) (ok_is _ v e) (took_follows limit w (opened w.rec name x y choice.given) k (λ t q. opened_taken limit w h k name x y choice.given t q))
 
 -- ---- what is sent of pending calls
-module _ (limit : ℕ) (w : World) (h : AgreesIn w) (files : Files w) (numbers : IsNumbered limit w.rec) (m : Message) (p : IsPending (links_of w.rec.objects) m) (sent : WasSent w m) where
+module _ (limit : ℕ) (w : World) (h : AgreesIn w) (files : Files w) (numbers : IsNumbered limit w.rec) (m : Said) (p : IsPending (links_of w.rec.objects) m) (sent : Among (sayings w.sent) m) where
   held : IsHeld w.rec p.object p.link
   held = link_held w.rec p.object p.link h.steady p.linked
 
@@ -304,7 +304,7 @@ module _ (limit : ℕ) (w : World) (h : AgreesIn w) (files : Files w) (numbers :
   completed : (n : ℕ) (storage : _) → p.operation ≡ SaveCompleted n storage → n ≤ limit
   completed n storage is =
       let l = p.link in
-      let call : WasSent w (Call l.inc l.act l.last (SaveCompleted n storage)) = subst (WasSent w) (p.call ∙ ap (λ op. Call l.inc l.act l.last op) is) sent in
+      let call : Among (sayings w.sent) (Call l.inc l.act l.last (SaveCompleted n storage)) = subst (Among (sayings w.sent)) (p.call ∙ ap (λ op. Call l.inc l.act l.last op) is) sent in
       let c = h.facts.counts.completed_counted l.inc l.act l.last n storage (was_called call) in
       let named : Some c.0.object ≡ Some p.object = sym c.2 ∙ h.facts.drawn.calls_named p.object l p.linked in
       let own : c.0.object ≡ p.object = cc in
@@ -315,12 +315,12 @@ module _ (limit : ℕ) (w : World) (h : AgreesIn w) (files : Files w) (numbers :
       let same : c.0.k ≡ n = c.3 in
       omega arith
 
-  pending_within : IsWithin limit m
-  pending_within = subst (IsWithin limit) (sym p.call) (call_within limit w.rec h.steady numbers p.object p.link p.operation held p.pending completed)
+  pending_within : IsSaidWithin limit m
+  pending_within = subst (IsSaidWithin limit) (sym p.call) (call_within limit w.rec h.steady numbers p.object p.link p.operation held p.pending completed)
 
 pub numbers_happened : (w : World) (choice : Choice) (e : Event) (v : World) → AgreesIn w → Files w → Numbers w.rec.numbers w → AgreesIn v → Files v → happened w choice e ≡ Ok v → Numbers v.rec.numbers v
 numbers_happened w choice e v h files k after after_files ok =
-    let n : Numbers w.rec.numbers v = follows w.rec.numbers w h k choice e v files ok (λ m numbers p g. pending_within w.rec.numbers v after after_files numbers m p g) in
+    let n : Numbers w.rec.numbers v = follows w.rec.numbers w h k choice e v files ok (λ m numbers p g. pending_within w.rec.numbers v after after_files numbers m.said p (among_map (λ (y : Message). y.said) (messages v.sent) m g)) in
     subst (λ limit. Numbers limit v) (sym n.recorded.limit) n
 
 -- the world in which nothing has happened

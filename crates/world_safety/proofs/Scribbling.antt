@@ -2,7 +2,7 @@
 use Rattle.std.proofs.Common.{◌≡◌, ℕ, List, [], ◌∷◌, ◌++◌, Option, Some, None, Result, Ok, Err, refl, sym, ap, ◌∙◌, inl, inr, subst}
 use Rattle.std.proofs.lemmas.Bool.Decides.{eqb_tells}
 use Rattle.wire_msgs.specs.Found.{find, nth, set_nth}
-use Rattle.wire_msgs.specs.declared.message.Message.{Message}
+use Rattle.wire_msgs.specs.declared.message.Said.{Said}
 use Rattle.server_model.specs.Server.{Told, is_act}
 use Rattle.server_model.specs.Server as server
 use Rattle.server_model.specs.declared.fault.ServerFault.{ServerFault}
@@ -11,7 +11,7 @@ use Rattle.world_model.specs.declared.life.Life.{Life}
 use Rattle.world_model.specs.declared.life.Life.TheVariants.{Running, Ended, Reaped}
 use Rattle.world_model.specs.declared.logs.Sent.{Sent}
 use Rattle.world_model.specs.World.{World, Instance, view_in, spoken_by, spoken, scribble, ask}
-use Rattle.world_model.specs.Safe.{Among, links_of, act_at, acts_of, messages}
+use Rattle.world_model.specs.Safe.{Among, links_of, act_at, acts_of, sayings}
 use Rattle.world_facts.specs.Words.{life_at, lives_of}
 use Rattle.world_facts.specs.Facts.{Facts}
 use Rattle.world_facts.specs.Shapes.{Alike, Tells, IsOwn}
@@ -49,21 +49,21 @@ module _ (w : World) (h : AgreesIn w) (inc act : ℕ) (i : Instance) (at : nth w
     abbrev entry : Sent
     entry = record { message = t.message; view = view_in i.core act }
 
-    own_only : (m : Message) → Among (t.message ∷ []) m → IsOwn m
+    own_only : (m : Said) → Among (t.message.said ∷ []) m → IsOwn m
     own_only m (inl e) = subst IsOwn (sym e) spoke.own
     own_only m (inr z) = absurd z
 
     spoke_agrees : Agrees w.hostile w.rec js (w.sent ++ entry ∷ []) w.owners w.container_done w.server_done
     spoke_agrees =
         let links = links_of w.rec.objects in
-        let ms : messages (w.sent ++ entry ∷ []) ≡ messages w.sent ++ t.message ∷ [] = messages_of_log w.sent (entry ∷ []) in
+        let ms : sayings (w.sent ++ entry ∷ []) ≡ sayings w.sent ++ t.message.said ∷ [] = messages_of_log w.sent (entry ∷ []) in
         record {
           steady = h.steady;
           servers = h.servers ∙ sym (length_set_nth w.instances inc later);
           facts = subst (λ s. Facts w.hostile links (acts_of js) (lives_of js) s w.owners w.rec.last_act w.container_done w.server_done) (sym ms)
-              (told_all links (acts_of w.instances) (acts_of js) (lives_of w.instances) (lives_of js) (messages w.sent) (t.message ∷ []) w.owners w.rec.last_act w.container_done w.server_done tells still own_only h.facts);
+              (told_all links (acts_of w.instances) (acts_of js) (lives_of w.instances) (lives_of js) (sayings w.sent) (t.message.said ∷ []) w.owners w.rec.last_act w.container_done w.server_done tells still own_only h.facts);
           views = views_kept links links (acts_of w.instances) (acts_of js) w.sent (w.sent ++ entry ∷ []) (tells_leave w.hostile links (acts_of w.instances) (acts_of js) tells) (grows_one w.sent entry spoke.sent_open) h.views;
-          grants = subst (λ s. Grants w.hostile links (roles_of w.rec) (acts_of js) s) (sym ms) (grants_told links (roles_of w.rec) (acts_of w.instances) (acts_of js) (messages w.sent) (t.message ∷ []) tells own_only h.grants);
+          grants = subst (λ s. Grants w.hostile links (roles_of w.rec) (acts_of js) s) (sym ms) (grants_told links (roles_of w.rec) (acts_of w.instances) (acts_of js) (sayings w.sent) (t.message.said ∷ []) tells own_only h.grants);
         }
 
   agrees_spoken_by : (told : Result Told ServerFault) → ((t : Told) → told ≡ Ok t → IsTelling i.core act t) → AgreesIn (spoken_by w inc act i told)

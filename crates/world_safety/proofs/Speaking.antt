@@ -6,7 +6,7 @@ use Rattle.wire_msgs.specs.Found.{find, put}
 use Rattle.wire_msgs.specs.declared.message.Said.TheVariants.{Write, Ask}
 use Rattle.object_state.specs.Persists.{may_write}
 use Rattle.embed_core.specs.Content.{Content}
-use Rattle.server_model.specs.Server.{Server, Activation, Told, is_act, stored_of, writes, scribbled_open, asks, asked}
+use Rattle.server_model.specs.Server.{Server, Activation, Told, is_act, stored_of, writes, scribbled_open, asks, asked, from_server}
 use Rattle.server_model.specs.Server as server
 use Rattle.server_model.specs.declared.fault.ServerFault.TheVariants.{Ignored, NumbersSpent}
 use Rattle.world_model.specs.World.{view_of}
@@ -19,8 +19,10 @@ use Rattle.world_steps.proofs.Taking.{normal_of}
 -- What a server tells: its activations are as they were, but for the number of a write, and a write goes out under its grant.
 pub record IsTelling (v : Server) (act : ℕ) (t : Told) : Type 0 where
   pub alike : (x : ℕ) → Alike (find (is_act x) v.acts) (find (is_act x) t.server.acts)
-  pub own : IsOwn t.message
-  pub sent_open : IsSentOpen t.message (option_map view_of (find (is_act act) v.acts))
+  pub session : t.message.session ≡ v.session
+  pub same : t.server.session ≡ v.session
+  pub own : IsOwn t.message.said
+  pub sent_open : IsSentOpen t.message.said (option_map view_of (find (is_act act) v.acts))
 
 pub alike_same : (x : Option Activation) → Alike x x
 alike_same None = tt
@@ -36,7 +38,7 @@ module _ (v : Server) (act : ℕ) where
     after = record a { w = a.w + 1 }
 
     abbrev wrote : Told
-    wrote = record { server = record v { acts = put (is_act a.act) after v.acts }; message = Write v.inc a.act a.s (a.w + 1) (stored_of c) }
+    wrote = record { server = record v { acts = put (is_act a.act) after v.acts }; message = from_server v (Write v.inc a.act a.s (a.w + 1) (stored_of c)) }
 
     own_act : a.act ≡ act
     own_act = eqb-true a.act act (find_passes (is_act act) v.acts a f)
@@ -53,13 +55,15 @@ module _ (v : Server) (act : ℕ) where
     wrote_tells : IsTelling v act wrote
     wrote_tells = record {
       alike = λ x. subst (Alike (find (is_act x) v.acts)) (sym (found x)) (alike_here x);
+      session = refl;
+      same = refl;
       own = tt;
       sent_open = (view_of a, ap (option_map view_of) f, record { opened = ap is_some o; storage = normal_of a.states.persist.state m; grant = refl });
     }
 
   module _ (t : Told) where
     writing_room : (a : Activation) (c : Content) (b : Bool) → find (is_act act) v.acts ≡ Some a → a.content ≡ Some c → may_write a.states.persist.state ≡ true
-        → cond b (Err NumbersSpent) (Ok (record { server = record v { acts = put (is_act a.act) (record a { w = a.w + 1 }) v.acts }; message = Write v.inc a.act a.s (a.w + 1) (stored_of c) })) ≡ Ok t → IsTelling v act t
+        → cond b (Err NumbersSpent) (Ok (record { server = record v { acts = put (is_act a.act) (record a { w = a.w + 1 }) v.acts }; message = from_server v (Write v.inc a.act a.s (a.w + 1) (stored_of c)) })) ≡ Ok t → IsTelling v act t
     writing_room a c true f o m e = cc
     writing_room a c false f o m e = (let is : wrote a c f o m ≡ t = cc in subst (IsTelling v act) is (wrote_tells a c f o m))
 
@@ -82,9 +86,9 @@ module _ (v : Server) (act : ℕ) where
     asking_by : (a : Activation) (g : Option ℕ) → asks v a g ≡ Ok t → IsTelling v act t
     asking_by a None e = cc
     asking_by a (Some g) e =
-        let made : Told = record { server = v; message = Ask v.inc a.act g } in
+        let made : Told = record { server = v; message = from_server v (Ask v.inc a.act g) } in
         let is : made ≡ t = cc in
-        subst (IsTelling v act) is (record { alike = λ x. alike_same (find (is_act x) v.acts); own = tt; sent_open = tt })
+        subst (IsTelling v act) is (record { alike = λ x. alike_same (find (is_act x) v.acts); session = refl; same = refl; own = tt; sent_open = tt })
 
     asking_at : (a : Option Activation) → asked v a ≡ Ok t → IsTelling v act t
     asking_at None e = cc

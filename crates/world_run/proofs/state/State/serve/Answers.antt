@@ -14,7 +14,7 @@ use Rattle.world_run.proofs.state.State.serve.Goals as goal
 pub returns-in-Ok-on_call-clause-taken : goal.returns-in-Ok-on_call-clause-taken
 returns-in-Ok-on_call-clause-taken g c =
     let x = c.index_mut.result.now in
-    serve_taken (seen (λ s. (goal.Embedded-dyn g (s.boxed.vtable, s.boxed.value)).content s.boxed.value) c.args.self.now) (bare c.replied.new.self) c.args.inc c.args.act c.args.n c.args.operation (map (seen_stocked (λ s. (goal.Embedded-dyn g (s.boxed.vtable, s.boxed.value)).content s.boxed.value)) c.args.self.now.stock.boxes.items) None (slice_get (map (seen_instance (λ s. (goal.Embedded-dyn g (s.boxed.vtable, s.boxed.value)).content s.boxed.value)) c.args.self.now.instances.items) c.args.i) ((seen_instance (λ s. (goal.Embedded-dyn g (s.boxed.vtable, s.boxed.value)).content s.boxed.value)) x) _ _ _ _ c.view-view.result c.in-Ok-on_call.reaction.reply c.in-Ok-on_call.reaction.counted
+    serve_taken (seen (λ s. (goal.Embedded-dyn g (s.boxed.vtable, s.boxed.value)).content s.boxed.value) c.args.self.now) (bare c.replied.new.self) c.args.session c.args.inc c.args.act c.args.n c.args.operation (map (seen_stocked (λ s. (goal.Embedded-dyn g (s.boxed.vtable, s.boxed.value)).content s.boxed.value)) c.args.self.now.stock.boxes.items) None (slice_get (map (seen_instance (λ s. (goal.Embedded-dyn g (s.boxed.vtable, s.boxed.value)).content s.boxed.value)) c.args.self.now.instances.items) c.args.i) ((seen_instance (λ s. (goal.Embedded-dyn g (s.boxed.vtable, s.boxed.value)).content s.boxed.value)) x) _ _ _ _ c.view-view.result c.in-Ok-on_call.reaction.reply c.in-Ok-on_call.reaction.counted
     (seen_at (seen_instance (λ s. (goal.Embedded-dyn g (s.boxed.vtable, s.boxed.value)).content s.boxed.value)) c.args.self.now.instances.items c.args.i x c.requires.fits c.index_mut.ensures.value)
     c.in_ok-open.ensures.open
     refl
@@ -27,7 +27,7 @@ returns-in-Ok-on_call-clause-taken g c =
 pub returns-in-NoMemory-clause-refused : goal.returns-in-NoMemory-clause-refused
 returns-in-NoMemory-clause-refused g c =
     let x = c.index_mut.result.now in
-    serve_allowed (seen (λ s. (goal.Embedded-dyn g (s.boxed.vtable, s.boxed.value)).content s.boxed.value) c.args.self.now) c.args.inc c.args.act c.args.n c.args.operation (map (seen_stocked (λ s. (goal.Embedded-dyn g (s.boxed.vtable, s.boxed.value)).content s.boxed.value)) c.args.self.now.stock.boxes.items) None (slice_get (map (seen_instance (λ s. (goal.Embedded-dyn g (s.boxed.vtable, s.boxed.value)).content s.boxed.value)) c.args.self.now.instances.items) c.args.i) ((seen_instance (λ s. (goal.Embedded-dyn g (s.boxed.vtable, s.boxed.value)).content s.boxed.value)) x)
+    serve_allowed (seen (λ s. (goal.Embedded-dyn g (s.boxed.vtable, s.boxed.value)).content s.boxed.value) c.args.self.now) c.args.session c.args.inc c.args.act c.args.n c.args.operation (map (seen_stocked (λ s. (goal.Embedded-dyn g (s.boxed.vtable, s.boxed.value)).content s.boxed.value)) c.args.self.now.stock.boxes.items) None (slice_get (map (seen_instance (λ s. (goal.Embedded-dyn g (s.boxed.vtable, s.boxed.value)).content s.boxed.value)) c.args.self.now.instances.items) c.args.i) ((seen_instance (λ s. (goal.Embedded-dyn g (s.boxed.vtable, s.boxed.value)).content s.boxed.value)) x)
     (seen_at (seen_instance (λ s. (goal.Embedded-dyn g (s.boxed.vtable, s.boxed.value)).content s.boxed.value)) c.args.self.now.instances.items c.args.i x c.requires.fits c.index_mut.ensures.value)
     c.in_ok-open.ensures.open
 
@@ -43,7 +43,7 @@ pub returns : goal.returns
 returns g c =
     let x = c.index_mut.result.now in
     record {
-      taken = serve_dropped (seen (λ s. (goal.Embedded-dyn g (s.boxed.vtable, s.boxed.value)).content s.boxed.value) c.args.self.now) (bare c.dropped.new.self) c.args.inc c.args.act c.args.n c.args.operation (map (seen_stocked (λ s. (goal.Embedded-dyn g (s.boxed.vtable, s.boxed.value)).content s.boxed.value)) c.args.self.now.stock.boxes.items) None (slice_get (map (seen_instance (λ s. (goal.Embedded-dyn g (s.boxed.vtable, s.boxed.value)).content s.boxed.value)) c.args.self.now.instances.items) c.args.i) ((seen_instance (λ s. (goal.Embedded-dyn g (s.boxed.vtable, s.boxed.value)).content s.boxed.value)) x) _ _ _ c.in-Err.refusal.fault
+      taken = serve_dropped (seen (λ s. (goal.Embedded-dyn g (s.boxed.vtable, s.boxed.value)).content s.boxed.value) c.args.self.now) (bare c.dropped.new.self) c.args.session c.args.inc c.args.act c.args.n c.args.operation (map (seen_stocked (λ s. (goal.Embedded-dyn g (s.boxed.vtable, s.boxed.value)).content s.boxed.value)) c.args.self.now.stock.boxes.items) None (slice_get (map (seen_instance (λ s. (goal.Embedded-dyn g (s.boxed.vtable, s.boxed.value)).content s.boxed.value)) c.args.self.now.instances.items) c.args.i) ((seen_instance (λ s. (goal.Embedded-dyn g (s.boxed.vtable, s.boxed.value)).content s.boxed.value)) x) _ _ _ c.in-Err.refusal.fault
           (seen_at (seen_instance (λ s. (goal.Embedded-dyn g (s.boxed.vtable, s.boxed.value)).content s.boxed.value)) c.args.self.now.instances.items c.args.i x c.requires.fits c.index_mut.ensures.value)
           c.in_ok-open.ensures.open
           refl
