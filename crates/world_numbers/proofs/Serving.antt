@@ -95,7 +95,7 @@ begun limit act class op (Err fault) le one = record { act = le; last = one; s =
 begun limit act class op (Ok c) le one = record { act = le; last = one; s = omega arith; granted = λ g e. cc }
 
 -- a server that is called
-module _ (limit : ℕ) (v : Server) (act n : ℕ) (op : Operation) (box : Option Kind) (h : IsServerWithin limit v) (drawn : act ≤ limit) (fits : n ≤ limit) (carries : CarriesWithin limit op) (told : Served) where
+module _ (limit : ℕ) (v : Server) (session act n : ℕ) (op : Operation) (box : Option Kind) (h : IsServerWithin limit v) (drawn : act ≤ limit) (fits : n ≤ limit) (carries : CarriesWithin limit op) (told : Served) where
   after_acted : (a : Activation) (r : Result Acted ServerFault) → IsActivationWithin limit a → known_call a n op ≡ r → after_known v act r ≡ Ok told → IsServerWithin limit told.server
   after_acted a (Err fault) k q e = cc
   after_acted a (Ok b) k q e =
@@ -139,5 +139,5 @@ module _ (limit : ℕ) (v : Server) (act n : ℕ) (op : Operation) (box : Option
   at_server true e = called_at (find (is_act act) v.acts) refl e
   at_server false e = cc
 
-  pub served_within : (session inc : ℕ) → on_call v (in_session session (Call inc act n op)) box ≡ Ok told → IsServerWithin limit told.server
-  served_within session inc e = at_server (is_for v session inc) e
+  pub served_within : (inc : ℕ) → on_call v (in_session session (Call inc act n op)) box ≡ Ok told → IsServerWithin limit told.server
+  served_within inc e = at_server (is_for v session inc) e

@@ -157,7 +157,7 @@ pub record IsTaken (is : List Instance) (inc act m : ℕ) (op : Operation) (i : 
   pub how : ActsOn (acts_of is) inc act m op after told.answer told.counted
   pub of : (v : Counted) → told.counted ≡ Some v → v.act ≡ act
 
-module _ (is : List Instance) (inc act m : ℕ) (op : Operation) (i : Instance) (at : nth is inc ≡ Some i) where
+module _ (is : List Instance) (session inc act m : ℕ) (op : Operation) (i : Instance) (at : nth is inc ≡ Some i) where
   -- one activation of the instance changed
   changes : (v : Server) (b : Activation) → ((x : ℕ) → find (is_act x) v.acts ≡ (if act == x then Some b else find (is_act x) i.core.acts)) → IsChanged (acts_of is) (acts_of (set_nth is inc (record i { core = v }))) inc act b
   changes v b f = record {
@@ -288,8 +288,8 @@ module _ (is : List Instance) (inc act m : ℕ) (op : Operation) (i : Instance) 
   called_taken box None told f e = unknown box (begun_class m op) told f refl e
   called_taken box (Some a) told f e = known a (known_call a m op) told f refl e
 
-  pub call_taken : (session : ℕ) (box : Option Kind) (told : Served) → on_call i.core (in_session session (Call inc act m op)) box ≡ Ok told → IsTaken is inc act m op i told
-  call_taken session box told e = mine (is_for i.core session inc) e
+  pub call_taken : (box : Option Kind) (told : Served) → on_call i.core (in_session session (Call inc act m op)) box ≡ Ok told → IsTaken is inc act m op i told
+  call_taken box told e = mine (is_for i.core session inc) e
     where
       mine : (t : Bool) → cond t (called i.core act m op box (find (is_act act) i.core.acts)) (Err WrongIncarnation) ≡ Ok told → IsTaken is inc act m op i told
       mine true g = called_taken box (find (is_act act) i.core.acts) told refl g
