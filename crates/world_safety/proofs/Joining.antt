@@ -105,7 +105,7 @@ kept_before w h = record { facts = h.facts; views = h.views }
 -- operations are asked, in turn
 pub turned_joined : (w : World) (t : Took) (taken : List Said) → AgreesIn w → Steady t.rec → MovesBy w.rec t.rec taken → AreSent w.hostile (sayings w.sent) taken → IsTurned w.rec t → AgreesIn (joined w t)
 turned_joined w t taken h steady moves sends m = kept_joined w t taken h steady m.1 moves sends (turned_followed (links_of w.rec.objects) (links_of t.rec.objects) (sayings_of t.answer.actions) m.0)
-    (turned_kept w.hostile (acts_of w.instances) (lives_of w.instances) w.owners w.rec.last_act w.container_done w.server_done (links_of w.rec.objects) (links_of t.rec.objects) w.sent (sayings_of t.answer.actions) m.0 (kept_before w h))
+    (turned_kept w.hostile (acts_of w.instances) (lives_of w.instances) w.owners w.rec.last_act w.container_done w.server_done (links_of w.rec.objects) (links_of t.rec.objects) w.sent (messages_of t.answer.actions) m.0 (kept_before w h))
 
 -- at once
 pub asks_turned : (r : Record) (t : Took) → AsksAll (λ o op. IsQuiet op) (links_of r.objects) (links_of t.rec.objects) (sayings_of t.answer.actions) × IsPlain r t → IsTurned r t
@@ -116,14 +116,14 @@ pub answered_joined : (w : World) (t : Took) (taken : List Said) → AgreesIn w 
     → IsReplied w.hostile (links_of w.rec.objects) (links_of t.rec.objects) (acts_of w.instances) (lives_of w.instances) (sayings_of t.answer.actions) × IsPlain w.rec t → AgreesIn (joined w t)
 answered_joined w t taken h steady moves sends m =
     kept_joined w t taken h steady m.1 moves sends (replied_followed w.hostile (links_of w.rec.objects) (links_of t.rec.objects) (acts_of w.instances) (lives_of w.instances) (sayings_of t.answer.actions) m.0)
-    (replied_kept w.hostile (acts_of w.instances) (lives_of w.instances) w.owners w.rec.last_act w.container_done w.server_done (links_of w.rec.objects) (links_of t.rec.objects) w.sent (sayings_of t.answer.actions) m.0 (kept_before w h))
+    (replied_kept w.hostile (acts_of w.instances) (lives_of w.instances) w.owners w.rec.last_act w.container_done w.server_done (links_of w.rec.objects) (links_of t.rec.objects) w.sent (messages_of t.answer.actions) m.0 (kept_before w h))
 
 -- the end of a server
 pub reaped_joined : (w : World) (t : Took) → AgreesIn w → Steady t.rec → MovesBy w.rec t.rec []
     → IsReaped w.hostile (links_of w.rec.objects) (links_of t.rec.objects) (acts_of w.instances) (lives_of w.instances) (sayings_of t.answer.actions) × IsPlain w.rec t → AgreesIn (joined w t)
 reaped_joined w t h steady moves m =
     kept_joined w t [] h steady m.1 moves (λ x z honest. absurd z) (reaped_followed w.hostile (links_of w.rec.objects) (links_of t.rec.objects) (acts_of w.instances) (lives_of w.instances) (sayings_of t.answer.actions) m.0)
-    (reaped_kept w.hostile (acts_of w.instances) (lives_of w.instances) w.owners w.rec.last_act w.container_done w.server_done (links_of w.rec.objects) (links_of t.rec.objects) w.sent (sayings_of t.answer.actions) m.0 (kept_before w h))
+    (reaped_kept w.hostile (acts_of w.instances) (lives_of w.instances) w.owners w.rec.last_act w.container_done w.server_done (links_of w.rec.objects) (links_of t.rec.objects) w.sent (messages_of t.answer.actions) m.0 (kept_before w h))
 
 -- an activation is made for an object
 owner_new : (owners : List ℕ) (last o : ℕ) → length owners ≡ last → nth (owners ++ o ∷ []) (last + 1) ≡ Some o
