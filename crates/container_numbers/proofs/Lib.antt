@@ -12,3 +12,5 @@ pub mod SoundSaves
 pub mod SoundVerbs
 pub mod SoundInputs
 pub mod FewFrames
+pub mod SessionLinks
+pub mod Sessions

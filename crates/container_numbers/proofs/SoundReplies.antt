@@ -19,25 +19,26 @@ use Rattle.container_model.specs.Room.{IfLinked, IsRoomy, count_pending}
 use Rattle.container_model.specs.Messages.{Replied, closed_with, done, done_link, granted_link, is_fit, next_at, next_link, next_s, replied, replied_fitting, reply_link, reply_pending, saved_link}
 
 -- a link after its pending call was answered, before what waits is called
-record Grown (l next : Link) : Type 0 where
-  pending : next.pending ≡ None
-  last : next.last ≡ l.last
-  waiting : next.waiting ≡ l.waiting
-  s : next.s ≤ l.s + 1
+pub record Grown (l next : Link) : Type 0 where
+  pub session : next.session ≡ l.session
+  pub pending : next.pending ≡ None
+  pub last : next.last ≡ l.last
+  pub waiting : next.waiting ≡ l.waiting
+  pub s : next.s ≤ l.s + 1
 
-abbrev IsFine : Link → Result Replied ContainerFault → Type 0
+abbrev pub IsFine : Link → Result Replied ContainerFault → Type 0
 IsFine l R = IfOk R (λ x. IfLinked (Grown l) x.link)
 
 done_link_fine : (l : Link) (s : ℕ) (R : Result States StateFault) → s ≤ l.s + 1 → IsFine l (done_link l s R)
 done_link_fine l s (Err fault) h = tt
-done_link_fine l s (Ok v) h = record { pending = refl; last = refl; waiting = refl; s = h }
+done_link_fine l s (Ok v) h = record { session = refl; pending = refl; last = refl; waiting = refl; s = h }
 
 done_fine : (l : Link) (op : Operation) → next_s op l.s ≤ l.s + 1 → IsFine l (done l op)
 done_fine l op h = done_link_fine l (next_s op l.s) (both.step l.states (op_of op)) h
 
 saved_link_fine : (l : Link) (content : Stored) (link : Option Link) → IfLinked (Grown l) link → IfLinked (Grown l) (elim link [ None ↦ None | Some x ↦ Some (record x { saved = Some content }) ])
 saved_link_fine l content None h = tt
-saved_link_fine l content (Some x) h = record { pending = h.pending; last = h.last; waiting = h.waiting; s = h.s }
+saved_link_fine l content (Some x) h = record { session = h.session; pending = h.pending; last = h.last; waiting = h.waiting; s = h.s }
 
 saved_fine : (l : Link) (content : Stored) (R : Result Replied ContainerFault) → IsFine l R → IsFine l (saved_link content R)
 saved_fine l content (Err fault) h = tt
@@ -69,7 +70,7 @@ replied_fine l operation.InPlaceDeactivate _ = tt
 replied_fine l operation.OpenWindow told.Done = done_fine l operation.OpenWindow (omega arith)
 replied_fine l operation.OpenWindow _ = tt
 replied_fine l (operation.Edit bytes) told.Done = done_fine l (operation.Edit bytes) (omega arith)
-replied_fine l (operation.Edit bytes) (told.Refused why) = record { pending = refl; last = refl; waiting = refl; s = omega arith }
+replied_fine l (operation.Edit bytes) (told.Refused why) = record { session = refl; pending = refl; last = refl; waiting = refl; s = omega arith }
 replied_fine l (operation.Edit bytes) _ = tt
 replied_fine l (operation.Save k) (told.Content content) = saved_fine l content (done l (operation.Save k)) (done_fine l (operation.Save k) (omega arith))
 replied_fine l (operation.Save k) _ = tt
@@ -84,7 +85,7 @@ replied_fine l (operation.Close SaveIfDirty) _ = tt
 replied_fine l (operation.Close NoSave) told.Done = closed_fine l None (both.step l.states (op_of (operation.Close NoSave)))
 replied_fine l (operation.Close NoSave) _ = tt
 
-fitting_fine : (l : Link) (op : Operation) (answer : Answer) → IsFine l (replied_fitting l op answer)
+pub fitting_fine : (l : Link) (op : Operation) (answer : Answer) → IsFine l (replied_fitting l op answer)
 fitting_fine l op answer = elim (is_fit answer) as (λ b. IsFine l (if b then replied l op answer else Err BadAnswer)) [ true ↦ replied_fine l op answer | false ↦ tt ]
 
 -- the answered call leaves a number for the next

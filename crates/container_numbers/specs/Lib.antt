@@ -1,2 +1,3 @@
 pub mod FewFrames
+pub mod Sessions
 pub mod Sound

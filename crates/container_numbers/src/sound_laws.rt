@@ -1,6 +1,8 @@
 //! Laws of a container's numbers: each step leaves its activations room for what they may be asked without a check, and no
-//! more frames than there may be. Each function is empty: its contract is the law, which is proved.
+//! more frames than there may be; and all of it is in its one session. Each function is empty: its contract is the law,
+//! which is proved.
 ghost use Rattle.container_numbers.specs.FewFrames.{FewFramesAfter};
+ghost use Rattle.container_numbers.specs.Sessions.{InSessionFromTheStart, SessionsStay};
 ghost use Rattle.container_numbers.specs.Sound.{NumbersAfter, SoundAfter};
 
 /// Whatever a container is given and takes, a command, a message, the end of a server or of a commit, leaves a sound
@@ -17,4 +19,14 @@ pub fn numbers_after()
 /// It leaves no more than 8 frames where there were no more: one is made only where there are fewer.
 pub fn few_frames_after()
     ensures { FewFramesAfter }
+{}
+
+/// From the start, each activation of a container is in the container's session: there is none yet.
+pub fn in_session_from_the_start()
+    ensures { InSessionFromTheStart }
+{}
+
+/// From then on, whatever is given, its session stays, each activation is in it, and so is each message that it sends.
+pub fn sessions_stay()
+    ensures { SessionsStay }
 {}
