@@ -102,6 +102,12 @@ among_place sent (suc i) x e = at sent i e
     at (y ∷ ys) zero e = (let q : y ≡ x = cc in inl (ap (λ (z : Sent). z.message.said) (sym q)))
     at (y ∷ ys) (suc i) e = inr (at ys i e)
 
+-- what a message that was sent says
+pub said_in_log : (xs : List Sent) (m : Message) → Among (messages xs) m → Among (sayings xs) m.said
+said_in_log [] m g = absurd g
+said_in_log (x ∷ xs) m (inl e) = inl (ap (λ (y : Message). y.said) e)
+said_in_log (x ∷ xs) m (inr g) = inr (said_in_log xs m g)
+
 pub sent_place : (sent : List Sent) (p : ℕ) (x : Sent) → nth sent p ≡ Some x → Among (messages sent) x.message
 sent_place sent zero x e = cc
 sent_place sent (suc i) x e = at sent i e

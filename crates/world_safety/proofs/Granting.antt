@@ -182,8 +182,8 @@ granted_more w v more t e g = (let s = g.sent in record {
   message = g.message;
   place = g.place;
   placed = g.placed;
-  delivered = ap (λ xs. nth (sayings xs) g.place) e ∙ (ap (λ xs. nth xs g.place) (sayings_of_log w.sent more) ∙ nth_old (sayings w.sent) (sayings more) g.place g.message g.delivered);
-  brings = brings_more w v more g.message t e g.brings;
+  delivered = ap (λ xs. nth (messages xs) g.place) e ∙ (ap (λ xs. nth xs g.place) (map-append message_in w.sent more) ∙ nth_old (messages w.sent) (messages more) g.place g.message g.delivered);
+  brings = brings_more w v more g.message.session g.message.said t e g.brings;
   sent = (s.0, subst (λ xs. Among xs (record { message = g.message; view = Some s.0 })) (sym e) (among_old w.sent more _ s.1), s.2, s.3, s.4);
   held_open = g.held_open;
   unasked = g.unasked;

@@ -14,7 +14,7 @@ use Rattle.world_facts.specs.Words.{Issued, called, waits}
 use Rattle.world_facts.specs.Facts.{HasSaved}
 use Rattle.world_files.proofs.Kept.{empty_files, files_happened, limited_ok, commits_kept}
 use Rattle.world_safety.specs.Holding.{AgreesIn, Holds}
-use Rattle.world_safety.proofs.Events.{agrees_happened}
+use Rattle.world_safety.proofs.Events.{agrees_happened, said_in_log}
 use Rattle.world_safety.proofs.Granting.{granted_happened}
 use Rattle.world_safety.proofs.Holders.{holder, one_holder}
 use Rattle.world_safety.proofs.Numbering.{empty_numbers, numbers_happened}
@@ -32,12 +32,7 @@ has_saved (Some b) c h = (b, refl, h)
 
 -- what was sent in a session was said
 said_of : (w : World) (s : ℕ) (x : Said) → WasSent w (in_session s x) → Among (sayings w.sent) x
-said_of w s x g = at w.sent g
-  where
-    at : (xs : List Sent) → Among (messages xs) (in_session s x) → Among (sayings xs) x
-    at [] g = absurd g
-    at (y ∷ ys) (inl e) = inl (ap (λ (m : Message). m.said) e)
-    at (y ∷ ys) (inr g) = inr (at ys g)
+said_of w s x g = said_in_log w.sent (in_session s x) g
 
 pub safe_held : (w : World) → Holds w → Safe w
 safe_held w h = (let f = h.agrees.facts in record {

@@ -1,5 +1,5 @@
 -- An activation that has a grant is named by its object's frame: so at most one has a frame.
-use Rattle.std.proofs.Common.{◌≡◌, ◌≢◌, ℕ, Some, None, sym, ap, ◌∙◌, inl, inr, subst}
+use Rattle.std.proofs.Common.{◌≡◌, ◌≢◌, ℕ, Some, None, sym, ap, ◌∙◌, inl, inr, subst, refl}
 use Rattle.wire_msgs.specs.Found.{find, nth}
 use Rattle.grant_core.specs.declared.grant_states.Claim.{Claim}
 use Rattle.grant_core.specs.declared.grant_states.Tools.{Tools}

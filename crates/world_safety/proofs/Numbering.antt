@@ -58,7 +58,7 @@ use Rattle.world_steps.proofs.Relieving.{ask_asks}
 use Rattle.world_steps.proofs.Replying.{reply_answers}
 use Rattle.world_steps.proofs.Taking.{write_asks}
 use Rattle.world_safety.specs.Holding.{AgreesIn}
-use Rattle.world_safety.proofs.Events.{agrees_turned, among_place, commit_pending, none_honest, turned, sent_place}
+use Rattle.world_safety.proofs.Events.{agrees_turned, among_place, commit_pending, none_honest, turned, sent_place, said_in_log}
 use Rattle.world_safety.proofs.Joining.{asks_turned, command_shapes}
 use Rattle.wire_msgs.specs.declared.message.Said.{Said}
 use Rattle.container_model.specs.declared.server_link.ServerLink.{ServerLink}
@@ -320,7 +320,7 @@ module _ (limit : ℕ) (w : World) (h : AgreesIn w) (files : Files w) (numbers :
 
 pub numbers_happened : (w : World) (choice : Choice) (e : Event) (v : World) → AgreesIn w → Files w → Numbers w.rec.numbers w → AgreesIn v → Files v → happened w choice e ≡ Ok v → Numbers v.rec.numbers v
 numbers_happened w choice e v h files k after after_files ok =
-    let n : Numbers w.rec.numbers v = follows w.rec.numbers w h k choice e v files ok (λ m numbers p g. pending_within w.rec.numbers v after after_files numbers m.said p (among_map (λ (y : Message). y.said) (messages v.sent) m g)) in
+    let n : Numbers w.rec.numbers v = follows w.rec.numbers w h k choice e v files ok (λ m numbers p g. pending_within w.rec.numbers v after after_files numbers m.said p (said_in_log v.sent m g)) in
     subst (λ limit. Numbers limit v) (sym n.recorded.limit) n
 
 -- the world in which nothing has happened
