@@ -1,6 +1,5 @@
 -- The first fields of a body.
 use Rattle.std.proofs.Common.{◌≡◌, ℕ, zero, suc, ◌-◌, ◌+◌, ◌<◌, ◌≤◌, Bool, true, false, cond, ◌&&◌, List, [], ◌∷◌, ◌++◌, length, take, drop, Option, Some, None, refl, sym, ap, ◌∙◌, append_assoc, arith, rules, nat_le, nat_lt, inl, inr}
-use Rattle.std.specs.Prelude.{IfSome}
 use Rattle.std.proofs.lemmas.Bool.{cases_lt}
 use Rattle.std.proofs.lemmas.List.{length-append, length-drop}
 use Rattle.object_state.specs.MenuTexts.{is_menu_text}
@@ -214,10 +213,6 @@ pub said_opens : {X : Type 0} (o : X → Opening) (left : X → ℕ) (rest : X �
 said_opens o left rest (Some x) kind said_in session xs behind is first shorter opens = λ ys. is (xs ++ ys) ∙ first said_in ys ∙ opens ys
 said_opens o left rest None kind said_in session xs behind is first shorter opens =
     λ ys lt. is (xs ++ ys) ∙ first said_in ys ∙ opens ys (omega (arith, lt, shorter, length-append xs ys, length-append behind ys))
-
-pub within_more : {X : Type 0} (rest : X → List ℕ) (r : Option X) (n m : ℕ) → n + 4 ≡ m → IfSome r (λ x. length (rest x) ≤ n) → IfSome r (λ x. length (rest x) ≤ m)
-within_more rest (Some x) n m shorter le = omega (arith, shorter, le)
-within_more rest None n m shorter le = tt
 
 -- ---- a body whose first fields came
 
