@@ -1,11 +1,14 @@
 -- Parts of a body that are read one after another.
-use Rattle.std.proofs.Common.{◌≡◌, ℕ, suc, ◌-◌, ◌+◌, ◌<◌, ◌≤◌, true, cond, List, [], ◌∷◌, ◌++◌, length, sym, ap, ◌∙◌, arith}
+use Rattle.std.proofs.Common.{◌≡◌, ℕ, suc, ◌-◌, ◌+◌, ◌<◌, ◌≤◌, true, cond, List, [], ◌∷◌, ◌++◌, length, refl, sym, ap, subst, ◌∙◌, Result, arith}
 use Rattle.stored_streams.specs.declared.streams.NamedStream.{NamedStream}
 use Rattle.stored_streams.specs.declared.stored.Stored.{Stored}
 use Rattle.message_bodies.specs.declared.body.BodyFault.{BodyFault}
 use Rattle.message_bodies.specs.declared.body.BodyFault.TheVariants.{Bad, Memory}
-use Rattle.message_bodies.specs.Decoding.{Lacks, Stops}
-use Rattle.message_model.specs.Reading.{Reader, bad, byte, blob, name, more, may_follow, pictured, counted, stored}
+use Rattle.message_bodies.specs.Decoding.{Fails, Lacks, Makes, Stops}
+use Rattle.message_model.specs.declared.codes.Kind.{Kind}
+use Rattle.message_model.specs.declared.codes.Kind.TheVariants as kind
+use Rattle.message_model.specs.declared.frame.Frame.{Frame}
+use Rattle.message_model.specs.Reading.{Reader, ask_in, bad, byte, blob, call_in, name, more, may_follow, number, pictured, counted, read_body, reply_in, stored, write_in}
 use Rattle.message_model.proofs.Fields.{le_passes}
 
 abbrev behind_bytes : ℕ → List NamedStream → ℕ → (List NamedStream → ℕ → Reader) → List ℕ → List ℕ → Reader
@@ -54,3 +57,33 @@ pub stored_read : (n : ℕ) (xs rest : List ℕ) (ss : List NamedStream) (room :
     → ((k : List NamedStream × ℕ → Reader) → streams_of n k rest ≡ k (ss, room) behind) → ((k : List ℕ → Reader) → blob room k behind ≡ k pic last) → (k : Stored → Reader) → stored k xs ≡ k (record { streams = ss; picture = pic }) last
 stored_read n xs rest ss room behind pic last first le read pictures k =
     counted_is n xs rest k first le ∙ read (λ p. pictured k p.0 p.1) ∙ pictures (λ bs. k (record { streams = ss; picture = bs }))
+
+-- ---- a session, and what is said behind it
+
+pub call_said : (xs : List ℕ) → read_body kind.Call xs ≡ number call_in xs
+unfolding read_body
+call_said xs = refl
+
+pub reply_said : (xs : List ℕ) → read_body kind.Reply xs ≡ number reply_in xs
+unfolding read_body
+reply_said xs = refl
+
+pub write_said : (xs : List ℕ) → read_body kind.Write xs ≡ number write_in xs
+unfolding read_body
+write_said xs = refl
+
+pub ask_said : (xs : List ℕ) → read_body kind.Ask xs ≡ number ask_in xs
+unfolding read_body
+ask_said xs = refl
+
+pub unsaid : (e : BodyFault) (k : Kind) (xs : List ℕ) → (k ≡ kind.Turn → ⊥) → Lacks e number xs → Fails e (read_body k xs)
+unsaid Memory k xs other lacks = tt
+unsaid Bad kind.Call xs other lacks = call_said xs ∙ lacks call_in
+unsaid Bad kind.Reply xs other lacks = reply_said xs ∙ lacks reply_in
+unsaid Bad kind.Write xs other lacks = write_said xs ∙ lacks write_in
+unsaid Bad kind.Ask xs other lacks = ask_said xs ∙ lacks ask_in
+unsaid Bad kind.Turn xs other lacks = absurd (other refl)
+
+-- what is made of what stands behind a session is made of the body
+pub made : (r : Result Frame BodyFault) (k : Kind) (said : ℕ → Reader) (session : ℕ) (xs rest : List ℕ) → read_body k xs ≡ number said xs → ((f : ℕ → Reader) → number f xs ≡ f session rest) → Makes r (said session rest) → Makes r (read_body k xs)
+made r k said session xs rest is given makes = subst (Makes r) (sym (is ∙ given said)) makes

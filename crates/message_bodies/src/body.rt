@@ -3,10 +3,10 @@
 ghost use Rattle.message_bodies.specs.Decoding.{Continues, Gives, Makes};
 ghost use Rattle.stored_streams.specs.declared.streams.NamedStream.{NamedStream};
 ghost use Rattle.message_model.specs.declared.codes.OperationCode.TheVariants.{Close, Edit, InitNew, Load, Save, SaveCompleted, SaveDropped, UiActivate};
-ghost use Rattle.message_model.specs.declared.codes.Kind.TheVariants.{Ask, Call, Reply, Turn, Write};
+ghost use Rattle.message_model.specs.declared.codes.Kind.TheVariants.{Turn};
 ghost use Rattle.message_model.specs.Frames.{number_in};
 ghost use Rattle.object_parts.specs.Limits.{MOST_BYTES};
-ghost use Rattle.message_model.specs.Reading.{answer, blob, byte, bytes, flag_of, more, may_follow, name, number, operation, option_of, pictured, read_body, stored, text, tools, whole, width_in, widths_in};
+ghost use Rattle.message_model.specs.Reading.{answer, ask_in, blob, byte, bytes, call_in, flag_of, more, may_follow, name, number, operation, option_of, pictured, read_body, reply_in, stored, text, tools, whole, width_in, widths_in, write_in};
 ghost use Rattle.std.specs.Prelude.{[], ◌∷◌, ◌++◌, ◌≡◌, ◌≤◌, ◌<◌, ◌-◌, ◌^◌, ℕ, List, None, IfOk, true, length, take, drop};
 
 use cfb_names::name::{Name, named};
@@ -23,7 +23,7 @@ use stored_streams::streams::{NamedStream, Streams};
 use stored_values::bytes::Bytes;
 use stored_values::class_id::ClassId;
 use wire_msgs::answer::Answer;
-use wire_msgs::message::Message;
+use wire_msgs::message::{Message, Said};
 use wire_msgs::operation::Operation;
 
 /// Why a body makes no frame.
@@ -466,10 +466,9 @@ fn whole(frame: Frame, rest: &[u8]) -> Result<Frame, BodyFault>
     }
 }
 
-// The call that a body spells.
-#[tactic(auto, unfolding(message_model::specs::Reading::read_body))]
-fn read_call(alloc: Global, xs: &[u8]) -> Result<Frame, BodyFault>
-    ensures { Makes result (read_body Call xs.now) }
+// The call that a body spells behind its session.
+fn read_call(alloc: Global, session: u32, xs: &[u8]) -> Result<Frame, BodyFault>
+    ensures { Makes result (call_in session xs.now) }
 {
     let (inc, rest) = take_number(xs)?;
     let (act, rest) = take_number(rest)?;
@@ -483,19 +482,18 @@ fn read_call(alloc: Global, xs: &[u8]) -> Result<Frame, BodyFault>
         Ok(read) => read,
         Err(fault) => return Err(fault),
     };
-    let call = Message::Call {
+    let said = Said::Call {
         inc,
         act,
         n,
         operation,
     };
-    whole(Frame::Message(call), rest)
+    whole(Frame::Message(Message { session, said }), rest)
 }
 
-// The reply that a body spells.
-#[tactic(auto, unfolding(message_model::specs::Reading::read_body))]
-fn read_reply(alloc: Global, xs: &[u8]) -> Result<Frame, BodyFault>
-    ensures { Makes result (read_body Reply xs.now) }
+// The reply that a body spells behind its session.
+fn read_reply(alloc: Global, session: u32, xs: &[u8]) -> Result<Frame, BodyFault>
+    ensures { Makes result (reply_in session xs.now) }
 {
     let (inc, rest) = take_number(xs)?;
     let (act, rest) = take_number(rest)?;
@@ -509,19 +507,18 @@ fn read_reply(alloc: Global, xs: &[u8]) -> Result<Frame, BodyFault>
         Ok(read) => read,
         Err(fault) => return Err(fault),
     };
-    let reply = Message::Reply {
+    let said = Said::Reply {
         inc,
         act,
         n,
         answer,
     };
-    whole(Frame::Message(reply), rest)
+    whole(Frame::Message(Message { session, said }), rest)
 }
 
-// The write that a body spells.
-#[tactic(auto, unfolding(message_model::specs::Reading::read_body))]
-fn read_write(alloc: Global, xs: &[u8]) -> Result<Frame, BodyFault>
-    ensures { Makes result (read_body Write xs.now) }
+// The write that a body spells behind its session.
+fn read_write(alloc: Global, session: u32, xs: &[u8]) -> Result<Frame, BodyFault>
+    ensures { Makes result (write_in session xs.now) }
 {
     let (inc, rest) = take_number(xs)?;
     let (act, rest) = take_number(rest)?;
@@ -531,25 +528,25 @@ fn read_write(alloc: Global, xs: &[u8]) -> Result<Frame, BodyFault>
         Ok(read) => read,
         Err(fault) => return Err(fault),
     };
-    let write = Message::Write {
+    let said = Said::Write {
         inc,
         act,
         s,
         w,
         content,
     };
-    whole(Frame::Message(write), rest)
+    whole(Frame::Message(Message { session, said }), rest)
 }
 
-// The ask that a body spells.
-#[tactic(auto, unfolding(message_model::specs::Reading::read_body))]
-fn read_ask(xs: &[u8]) -> Result<Frame, BodyFault>
-    ensures { Makes result (read_body Ask xs.now) }
+// The ask that a body spells behind its session.
+fn read_ask(session: u32, xs: &[u8]) -> Result<Frame, BodyFault>
+    ensures { Makes result (ask_in session xs.now) }
 {
     let (inc, rest) = take_number(xs)?;
     let (act, rest) = take_number(rest)?;
     let (g, rest) = take_number(rest)?;
-    whole(Frame::Message(Message::Ask { inc, act, g }), rest)
+    let said = Said::Ask { inc, act, g };
+    whole(Frame::Message(Message { session, said }), rest)
 }
 
 // The turn that a body spells.
@@ -566,11 +563,19 @@ fn read_turn(xs: &[u8]) -> Result<Frame, BodyFault>
 pub fn read_body(alloc: Global, kind: Kind, xs: &[u8]) -> Result<Frame, BodyFault>
     ensures { Makes result (read_body kind xs.now) }
 {
+    if let Kind::Turn = kind {
+        return read_turn(xs);
+    }
+    let (session, rest) = match take_number(xs) {
+        Ok(read) => read,
+        Err(fault) => return Err(fault),
+    };
     match kind {
-        Kind::Call => read_call(alloc, xs),
-        Kind::Reply => read_reply(alloc, xs),
-        Kind::Write => read_write(alloc, xs),
-        Kind::Ask => read_ask(xs),
-        Kind::Turn => read_turn(xs),
+        Kind::Call => read_call(alloc, session, rest),
+        Kind::Reply => read_reply(alloc, session, rest),
+        Kind::Write => read_write(alloc, session, rest),
+        Kind::Ask => read_ask(session, rest),
+        // It has no session, and is read above.
+        Kind::Turn => Err(BodyFault::Bad),
     }
 }

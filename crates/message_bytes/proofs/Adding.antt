@@ -47,10 +47,10 @@ content_added old a b new s within named p q r = adds_three old a b new (length 
 
 -- a head but for its length
 abbrev begun : ℕ → List ℕ
-begun kind = 79 ∷ 76 ∷ 67 ∷ 77 ∷ 1 ∷ kind ∷ []
+begun kind = 79 ∷ 76 ∷ 67 ∷ 77 ∷ 2 ∷ kind ∷ []
 
 -- what stands behind other bytes, its head's length put into its place
-pub patched : (old a b new rest : List ℕ) (kind at len : ℕ) → at ≡ length old → a ≡ old ++ 79 ∷ 76 ∷ 67 ∷ 77 ∷ 1 ∷ kind ∷ 0 ∷ 0 ∷ 0 ∷ 0 ∷ [] → b ≡ a ++ rest
+pub patched : (old a b new rest : List ℕ) (kind at len : ℕ) → at ≡ length old → a ≡ old ++ 79 ∷ 76 ∷ 67 ∷ 77 ∷ 2 ∷ kind ∷ 0 ∷ 0 ∷ 0 ∷ 0 ∷ [] → b ≡ a ++ rest
     → new ≡ take (at + 6) b ++ (four_bytes len ++ drop (at + 10) b) → len ≡ length rest → new ≡ old ++ (head kind (length rest) ++ rest)
 patched old a b new rest kind at len here p q written same =
     let whole : b ≡ (old ++ (begun kind ++ 0 ∷ 0 ∷ 0 ∷ 0 ∷ [])) ++ rest = q ∙ ap (λ x. x ++ rest) p in

@@ -27,7 +27,7 @@ head_more k len xs ys h =
     let cells : take 4 (drop 6 (xs ++ ys)) ≡ take 4 (drop 6 xs) = ap (take 4) (drop-append-le 6 xs ys (omega arith)) ∙ take-append-le 4 (drop 6 xs) ys (omega (arith, length-drop 6 xs)) in
     record {
       long = omega (arith, length-append xs ys);
-      parts = take-append-le 10 xs ys long ∙ h.parts ∙ ap (λ (c : List ℕ). 79 ∷ 76 ∷ 67 ∷ 77 ∷ 1 ∷ kind_number k ∷ c) (sym cells);
+      parts = take-append-le 10 xs ys long ∙ h.parts ∙ ap (λ (c : List ℕ). 79 ∷ 76 ∷ 67 ∷ 77 ∷ 2 ∷ kind_number k ∷ c) (sym cells);
       says = ap number_in cells ∙ h.says;
       short = h.short;
     }

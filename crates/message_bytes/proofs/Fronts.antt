@@ -31,7 +31,7 @@ shown_length-cells (a ∷ b ∷ c ∷ d ∷ e ∷ cells) rest len = absurd (omeg
 
 -- what a head and the bytes behind it show
 shown-head : (k : Kind) (cells rest : List ℕ) (len : ℕ) → length cells ≡ 4 → number_in cells ≡ len → len ≤ 1048576 → len ≤ length rest
-    → shown ((79 ∷ 76 ∷ 67 ∷ 77 ∷ 1 ∷ kind_number k ∷ cells) ++ rest) ≡ Some BadField
+    → shown ((79 ∷ 76 ∷ 67 ∷ 77 ∷ 2 ∷ kind_number k ∷ cells) ++ rest) ≡ Some BadField
 shown-head k cells rest len four says short enough =
     let not_long : nat_lt 1048576 len ≡ false = le-ltb _ _ short in
     let all_there : nat_lt (length rest) len ≡ false = le-ltb _ _ enough in
@@ -42,7 +42,7 @@ shown-head k cells rest len four says short enough =
     ∙ ap (λ b. cond b None (Some BadField)) all_there
 
 shown-begun : (k : Kind) (cells rest : List ℕ) (len : ℕ) → length cells ≡ 4 → number_in cells ≡ len → len ≤ 1048576 → length rest < len
-    → shown ((79 ∷ 76 ∷ 67 ∷ 77 ∷ 1 ∷ kind_number k ∷ cells) ++ rest) ≡ None
+    → shown ((79 ∷ 76 ∷ 67 ∷ 77 ∷ 2 ∷ kind_number k ∷ cells) ++ rest) ≡ None
 shown-begun k cells rest len four says short few =
     let not_long : nat_lt 1048576 len ≡ false = le-ltb _ _ short in
     let lacks : nat_lt (length rest) len ≡ true = search rules in
@@ -58,7 +58,7 @@ begun f more h =
     let short : length (body f) ≤ 1048576 = length-body f h in
     let enough : length (body f) ≤ length (body f ++ more) = omega (arith, length-append (body f) more) in
     ap shown (spell-parts f more)
-    ∙ ap (λ k. shown ((79 ∷ 76 ∷ 67 ∷ 77 ∷ 1 ∷ k ∷ four_bytes (length (body f))) ++ (body f ++ more))) (kind_in-number f)
+    ∙ ap (λ k. shown ((79 ∷ 76 ∷ 67 ∷ 77 ∷ 2 ∷ k ∷ four_bytes (length (body f))) ++ (body f ++ more))) (kind_in-number f)
     ∙ shown-head (kind_in f) (four_bytes (length (body f))) (body f ++ more) (length (body f)) (length-four_bytes (length (body f))) (number_in-four_bytes (length (body f)) (omega arith)) short enough
 
 pub not_begun : (bytes : List ℕ) → shown bytes ≡ None → BeginsNone bytes
@@ -76,14 +76,14 @@ faulty_head fault bytes other stays = record {
 record Headed (k : Kind) (len : ℕ) (bytes : List ℕ) : Type 0 where
   cells : List ℕ
   rest : List ℕ
-  parts : bytes ≡ (79 ∷ 76 ∷ 67 ∷ 77 ∷ 1 ∷ kind_number k ∷ cells) ++ rest
+  parts : bytes ≡ (79 ∷ 76 ∷ 67 ∷ 77 ∷ 2 ∷ kind_number k ∷ cells) ++ rest
   rest_is : drop 10 bytes ≡ rest
   four : length cells ≡ 4
   says : number_in cells ≡ len
   short : len ≤ 1048576
   cells_bytes : IsBytes cells
   rest_bytes : IsBytes rest
-  head_is : take 10 bytes ≡ 79 ∷ 76 ∷ 67 ∷ 77 ∷ 1 ∷ kind_number k ∷ cells
+  head_is : take 10 bytes ≡ 79 ∷ 76 ∷ 67 ∷ 77 ∷ 2 ∷ kind_number k ∷ cells
 
 headed : (k : Kind) (len : ℕ) (bytes : List ℕ) → IsBytes bytes → IsHead k len bytes → Headed k len bytes
 headed k len bytes are h =
@@ -120,13 +120,13 @@ whole_front k len bytes f are is_head enough read =
       spelled =
           take_both 10 len bytes long
           ∙ ap (λ a. a ++ take len (drop 10 bytes)) h.head_is
-          ∙ ap (λ a. (79 ∷ 76 ∷ 67 ∷ 77 ∷ 1 ∷ kind_number k ∷ a) ++ take len (drop 10 bytes)) cells
-          ∙ ap (λ a. (79 ∷ 76 ∷ 67 ∷ 77 ∷ 1 ∷ a ∷ four_bytes (length (body f))) ++ take len (drop 10 bytes)) (sym r.kind_is)
+          ∙ ap (λ a. (79 ∷ 76 ∷ 67 ∷ 77 ∷ 2 ∷ kind_number k ∷ a) ++ take len (drop 10 bytes)) cells
+          ∙ ap (λ a. (79 ∷ 76 ∷ 67 ∷ 77 ∷ 2 ∷ a ∷ four_bytes (length (body f))) ++ take len (drop 10 bytes)) (sym r.kind_is)
           ∙ ap (λ a. head (spelling.kind f) (length (body f)) ++ a) r.body_is;
     }
 
 spelled_otherwise : (k : Kind) (len : ℕ) (cells rest more : List ℕ) (f : Frame) (behind : List ℕ) → length cells ≡ 4 → number_in cells ≡ len → len ≤ length rest → read_body k (take len rest) ≡ None → IsFrame f
-    → (79 ∷ 76 ∷ 67 ∷ 77 ∷ 1 ∷ kind_number k ∷ cells) ++ (rest ++ more) ≡ spell f ++ behind → ⊥
+    → (79 ∷ 76 ∷ 67 ∷ 77 ∷ 2 ∷ kind_number k ∷ cells) ++ (rest ++ more) ≡ spell f ++ behind → ⊥
 spelled_otherwise k len cells rest more f behind four says there read is_frame e =
     let short : length (body f) ≤ 1048576 = length-body f is_frame in
     let h : AreHeadsAlike (kind_number k) cells (rest ++ more) (spelling.kind f) (four_bytes (length (body f))) (body f ++ behind) = heads_alike _ _ _ _ _ _ four (length-four_bytes (length (body f))) (e ∙ spell-parts f behind) in
@@ -149,7 +149,7 @@ faulty_body k len bytes are is_head enough read =
     let h : Headed k len bytes = headed k len bytes are is_head in
     let long : 10 ≤ length bytes = is_head.long in
     let there : len ≤ length h.rest = omega (arith, length-drop 10 bytes, ap length h.rest_is) in
-    let parts = λ (more : List ℕ). ap (λ a. a ++ more) h.parts ∙ append_assoc (79 ∷ 76 ∷ 67 ∷ 77 ∷ 1 ∷ kind_number k ∷ h.cells) h.rest more in
+    let parts = λ (more : List ℕ). ap (λ a. a ++ more) h.parts ∙ append_assoc (79 ∷ 76 ∷ 67 ∷ 77 ∷ 2 ∷ kind_number k ∷ h.cells) h.rest more in
     record {
       stays = λ more. ap shown (parts more) ∙ shown-head k h.cells (h.rest ++ more) len h.four h.says h.short (omega (arith, length-append h.rest more));
       none = λ more f behind is_frame e. spelled_otherwise k len h.cells h.rest more f behind h.four h.says there (ap (λ a. read_body k (take len a)) (sym h.rest_is) ∙ read) is_frame (sym (parts more) ∙ e);

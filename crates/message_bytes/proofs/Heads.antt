@@ -30,13 +30,13 @@ after_magic (a ∷ b ∷ c ∷ []) more long m = absurd (omega (arith, long))
 after_magic (a ∷ b ∷ c ∷ d ∷ r) more long m =
     (λ i. shown (m.0 i ∷ m.1 i ∷ m.2 i ∷ m.3 i ∷ (r ++ more))) ∙ ap (λ (s : List ℕ). shown_version (s ++ more)) (sym (rest_is 4 (a ∷ b ∷ c ∷ d ∷ r)))
 
-after_version : (r more : List ℕ) → 1 ≤ length r → get_or r 0 0 ≡ 1 → shown_version (r ++ more) ≡ shown_kind (behind 1 r ++ more)
+after_version : (r more : List ℕ) → 1 ≤ length r → get_or r 0 0 ≡ 2 → shown_version (r ++ more) ≡ shown_kind (behind 1 r ++ more)
 after_version [] more long e = absurd (omega (arith, long))
 after_version (v ∷ r) more long e = (λ i. shown_version (e i ∷ (r ++ more))) ∙ ap (λ (s : List ℕ). shown_kind (s ++ more)) (sym (rest_is 1 (v ∷ r)))
 
-other_version : (r more : List ℕ) → 1 ≤ length r → get_or r 0 0 ≢ 1 → shown_version (r ++ more) ≡ Some BadVersion
+other_version : (r more : List ℕ) → 1 ≤ length r → get_or r 0 0 ≢ 2 → shown_version (r ++ more) ≡ Some BadVersion
 other_version [] more long e = absurd (omega (arith, long))
-other_version (v ∷ r) more long e = rw (ne_eqb v 1 e) refl
+other_version (v ∷ r) more long e = rw (ne_eqb v 2 e) refl
 
 no_kind : (r more : List ℕ) → 1 ≤ length r → None ≡ kind_of (get_or r 0 0) → shown_kind (r ++ more) ≡ Some BadKind
 no_kind [] more long e = absurd (omega (arith, long))
@@ -58,23 +58,23 @@ pub ends_magic : (xs : List ℕ) → 4 ≤ length xs → IsMagic xs → length (
 ends_magic xs long m h = without xs ∙ after_magic xs [] long m ∙ ap (λ (r : List ℕ). shown_version (r ++ [])) (empty (behind 4 xs) h)
 
 -- another version
-pub shows_version : (xs more : List ℕ) → 4 ≤ length xs → IsMagic xs → 1 ≤ length (behind 4 xs) → get_or (behind 4 xs) 0 0 ≢ 1 → shown (xs ++ more) ≡ Some BadVersion
+pub shows_version : (xs more : List ℕ) → 4 ≤ length xs → IsMagic xs → 1 ≤ length (behind 4 xs) → get_or (behind 4 xs) 0 0 ≢ 2 → shown (xs ++ more) ≡ Some BadVersion
 shows_version xs more long m one v = after_magic xs more long m ∙ other_version (behind 4 xs) more one v
 
-to_kind : (xs more : List ℕ) → 4 ≤ length xs → IsMagic xs → 1 ≤ length (behind 4 xs) → get_or (behind 4 xs) 0 0 ≡ 1 → shown (xs ++ more) ≡ shown_kind (behind 1 (behind 4 xs) ++ more)
+to_kind : (xs more : List ℕ) → 4 ≤ length xs → IsMagic xs → 1 ≤ length (behind 4 xs) → get_or (behind 4 xs) 0 0 ≡ 2 → shown (xs ++ more) ≡ shown_kind (behind 1 (behind 4 xs) ++ more)
 to_kind xs more long m one v = after_magic xs more long m ∙ after_version (behind 4 xs) more one v
 
 -- bytes that end behind the version
-pub ends_version : (xs : List ℕ) → 4 ≤ length xs → IsMagic xs → 1 ≤ length (behind 4 xs) → get_or (behind 4 xs) 0 0 ≡ 1 → length (behind 1 (behind 4 xs)) < 1 → shown xs ≡ None
+pub ends_version : (xs : List ℕ) → 4 ≤ length xs → IsMagic xs → 1 ≤ length (behind 4 xs) → get_or (behind 4 xs) 0 0 ≡ 2 → length (behind 1 (behind 4 xs)) < 1 → shown xs ≡ None
 ends_version xs long m one v h = without xs ∙ to_kind xs [] long m one v ∙ ap (λ (r : List ℕ). shown_kind (r ++ [])) (empty (behind 1 (behind 4 xs)) h)
 
 -- another kind
-pub shows_kind : (xs more : List ℕ) → 4 ≤ length xs → IsMagic xs → 1 ≤ length (behind 4 xs) → get_or (behind 4 xs) 0 0 ≡ 1 → 1 ≤ length (behind 1 (behind 4 xs))
+pub shows_kind : (xs more : List ℕ) → 4 ≤ length xs → IsMagic xs → 1 ≤ length (behind 4 xs) → get_or (behind 4 xs) 0 0 ≡ 2 → 1 ≤ length (behind 1 (behind 4 xs))
     → None ≡ kind_of (get_or (behind 1 (behind 4 xs)) 0 0) → shown (xs ++ more) ≡ Some BadKind
 shows_kind xs more long m one v two k = to_kind xs more long m one v ∙ no_kind (behind 1 (behind 4 xs)) more two k
 
 -- a whole head
-head_parts : (k : Kind) (len : ℕ) (xs : List ℕ) → 4 ≤ length xs → IsMagic xs → 1 ≤ length (drop 4 xs) → get_or (drop 4 xs) 0 0 ≡ 1 → 1 ≤ length (drop 5 xs)
+head_parts : (k : Kind) (len : ℕ) (xs : List ℕ) → 4 ≤ length xs → IsMagic xs → 1 ≤ length (drop 4 xs) → get_or (drop 4 xs) 0 0 ≡ 2 → 1 ≤ length (drop 5 xs)
     → Some k ≡ kind_of (get_or (drop 5 xs) 0 0) → 4 ≤ length (drop 6 xs) → number_in (take 4 (drop 6 xs)) ≡ len → len ≤ 1048576 → IsHead k len xs
 head_parts k len [] long m one v two kn four says short = absurd (omega (arith, long))
 head_parts k len (a ∷ []) long m one v two kn four says short = absurd (omega (arith, long))
@@ -94,7 +94,7 @@ head_parts k len (a ∷ b ∷ c ∷ d ∷ e ∷ n ∷ r) long m one v two kn fou
 drop_behind : (xs : List ℕ) → behind 1 (behind 4 xs) ≡ drop 5 xs
 drop_behind xs = rest_is 1 (behind 4 xs) ∙ ap (drop 1) (rest_is 4 xs) ∙ drop-drop 1 4 xs
 
-pub shows_length : (h : Head) (k : Kind) (xs : List ℕ) → 4 ≤ length xs → IsMagic xs → 1 ≤ length (behind 4 xs) → get_or (behind 4 xs) 0 0 ≡ 1 → 1 ≤ length (behind 1 (behind 4 xs))
+pub shows_length : (h : Head) (k : Kind) (xs : List ℕ) → 4 ≤ length xs → IsMagic xs → 1 ≤ length (behind 4 xs) → get_or (behind 4 xs) 0 0 ≡ 2 → 1 ≤ length (behind 1 (behind 4 xs))
     → Some k ≡ kind_of (get_or (behind 1 (behind 4 xs)) 0 0) → LengthIs h k (behind 1 (behind 1 (behind 4 xs))) → HeadIs h xs
 shows_length Short k xs long m one v two kn h =
     without xs ∙ to_kind xs [] long m one v ∙ after_kind (behind 1 (behind 4 xs)) [] k two kn ∙ ap shown_length (append-nil (behind 1 (behind 1 (behind 4 xs)))) ∙ h

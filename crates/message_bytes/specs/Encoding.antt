@@ -36,7 +36,7 @@ pub record Begins (old new : List ℕ) : Type 0 where
 
 -- a frame behind other bytes, but that its head has 0 in the place of the length of its body
 pub record IsUnmeasured (old new : List ℕ) (frame : Frame) : Type 0 where
-  pub added : new ≡ (old ++ 79 ∷ 76 ∷ 67 ∷ 77 ∷ 1 ∷ kind frame ∷ 0 ∷ 0 ∷ 0 ∷ 0 ∷ []) ++ body frame
+  pub added : new ≡ (old ++ 79 ∷ 76 ∷ 67 ∷ 77 ∷ 2 ∷ kind frame ∷ 0 ∷ 0 ∷ 0 ∷ 0 ∷ []) ++ body frame
   pub short : length (body frame) ≤ MOST_BODY
 
 -- bytes with these at their end, which are at most so many

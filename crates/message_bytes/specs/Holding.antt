@@ -8,13 +8,13 @@ use Rattle.message_drafts.specs.Opens.{Comes, Form}
 -- A head that is whole: so many bytes of a body of this kind come behind it.
 pub record IsHead (kind : Kind) (len : ℕ) (bytes : List ℕ) : Type 0 where
   pub long : 10 ≤ length bytes
-  pub parts : take 10 bytes ≡ 79 ∷ 76 ∷ 67 ∷ 77 ∷ 1 ∷ kind_number kind ∷ take 4 (drop 6 bytes)
+  pub parts : take 10 bytes ≡ 79 ∷ 76 ∷ 67 ∷ 77 ∷ 2 ∷ kind_number kind ∷ take 4 (drop 6 bytes)
   pub says : number_in (take 4 (drop 6 bytes)) ≡ len
   pub short : len ≤ MOST_BODY
 
 -- how many bytes are held as they came
 abbrev pub MOST_HELD : ℕ
-MOST_HELD = 82
+MOST_HELD = 86
 
 -- what is kept of a frame of which some bytes came: these bytes, or its body
 pub record Rest : Type 0 where

@@ -2,8 +2,8 @@
 
 ghost use Rattle.cfb_names.specs.Names.{IsName};
 ghost use Rattle.message_bytes.specs.Encoding.{Adds, AreNamed, Begins, Encodes, EncodesInto, IsUnmeasured};
-ghost use Rattle.message_model.specs.Frames.{MOST_BODY, MOST_EDIT, answer_fits, fits, operation_fits};
-ghost use Rattle.message_model.specs.Spelling.{answer, blob, body, four_bytes, kind, operation, option_number, stored, streams, text, two_bytes, widths};
+ghost use Rattle.message_model.specs.Frames.{MOST_BODY, MOST_EDIT, answer_fits, fits, operation_fits, said_fits};
+ghost use Rattle.message_model.specs.Spelling.{answer, blob, body, four_bytes, kind, operation, option_number, said_body, said_kind, stored, streams, text, two_bytes, widths};
 ghost use Rattle.object_parts.specs.Limits.{is_within, total};
 ghost use Rattle.wire_msgs.specs.declared.operation.Operation.TheVariants.{SaveCompleted};
 ghost use Rattle.std.specs.Prelude.{[], ◌∷◌, ◌++◌, ◌≡◌, ◌≤◌, ◌<◌, ◌+◌, ◌^◌, OnOk, drop, length, take, true};
@@ -18,7 +18,7 @@ use std::alloc::{AllocError, Global};
 use stored_streams::stored::Stored;
 use stored_streams::streams::NamedStream;
 use wire_msgs::answer::Answer;
-use wire_msgs::message::Message;
+use wire_msgs::message::{Message, Said};
 use wire_msgs::operation::Operation;
 
 /// How many bytes stand beside a stream's name and its bytes in a content.
@@ -49,38 +49,41 @@ fn answer_fits(answer: &Answer) -> bool
     }
 }
 
+// Whether what is said may be sent.
+fn said_fits(said: &Said) -> bool
+    ensures { result ≡ said_fits said.now }
+{
+    match said {
+        Said::Call {
+            inc,
+            act,
+            n,
+            operation,
+        } => *inc > 0 && *act > 0 && *n > 0 && operation_fits(operation),
+        Said::Reply {
+            inc,
+            act,
+            n,
+            answer,
+        } => *inc > 0 && *act > 0 && *n > 0 && answer_fits(answer),
+        Said::Write {
+            inc,
+            act,
+            s,
+            w,
+            content,
+        } => *inc > 0 && *act > 0 && *s > 0 && *w > 0 && is_within(content),
+        Said::Ask { inc, act, g } => *inc > 0 && *act > 0 && *g > 0,
+    }
+}
+
 /// Whether a frame may be sent: no number in it is 0, an edit has at most 65,536 bytes, and a content may be stored
 /// (`object_parts::limits::is_within`).
 pub fn fits(frame: &Frame) -> bool
     ensures { result ≡ fits frame.now }
 {
     match frame {
-        Frame::Message(
-            Message::Call {
-                inc,
-                act,
-                n,
-                operation,
-            },
-        ) => *inc > 0 && *act > 0 && *n > 0 && operation_fits(operation),
-        Frame::Message(
-            Message::Reply {
-                inc,
-                act,
-                n,
-                answer,
-            },
-        ) => *inc > 0 && *act > 0 && *n > 0 && answer_fits(answer),
-        Frame::Message(
-            Message::Write {
-                inc,
-                act,
-                s,
-                w,
-                content,
-            },
-        ) => *inc > 0 && *act > 0 && *s > 0 && *w > 0 && is_within(content),
-        Frame::Message(Message::Ask { inc, act, g }) => *inc > 0 && *act > 0 && *g > 0,
+        Frame::Message(message) => message.session > 0 && said_fits(&message.said),
         Frame::Turn => true,
     }
 }
@@ -350,52 +353,81 @@ fn push_three(out: &mut Vec<u8>, a: u32, b: u32, c: u32) -> Result<(), AllocErro
     Ok(())
 }
 
-// Adds a frame's body.
+// Adds what is said.
 #[tactic(auto, using(crate::proofs::Begins::through))]
+fn push_said(out: &mut Vec<u8>, said: &Said) -> Result<(), AllocError>
+    requires { said_fits said.now ≡ true }
+    ensures added { OnOk result (Adds out.old.items out.new.items (said_body said.now) 1048572) }
+    ensures begins { Begins out.old.items out.new.items }
+{
+    match said {
+        Said::Call {
+            inc,
+            act,
+            n,
+            operation,
+        } => {
+            push_three(out, *inc, *act, *n)?;
+            push_operation(out, operation)?;
+        }
+        Said::Reply {
+            inc,
+            act,
+            n,
+            answer,
+        } => {
+            push_three(out, *inc, *act, *n)?;
+            push_answer(out, answer)?;
+        }
+        Said::Write {
+            inc,
+            act,
+            s,
+            w,
+            content,
+        } => {
+            push_three(out, *inc, *act, *s)?;
+            push_write(out, *w, content)?;
+        }
+        Said::Ask { inc, act, g } => push_three(out, *inc, *act, *g)?,
+    }
+    Ok(())
+}
+
+// Adds a message: its session, and what is said.
+#[tactic(auto, using(crate::proofs::Begins::through))]
+fn push_message(out: &mut Vec<u8>, message: &Message) -> Result<(), AllocError>
+    requires { said_fits message.now.said ≡ true }
+    ensures added { OnOk result (Adds out.old.items out.new.items (four_bytes message.now.session ++ said_body message.now.said) MOST_BODY) }
+    ensures begins { Begins out.old.items out.new.items }
+{
+    push_u32(out, message.session)?;
+    push_said(out, &message.said)?;
+    Ok(())
+}
+
+// Adds a frame's body.
 fn push_body(out: &mut Vec<u8>, frame: &Frame) -> Result<(), AllocError>
     requires { fits frame.now ≡ true }
     ensures added { OnOk result (Adds out.old.items out.new.items (body frame.now) MOST_BODY) }
     ensures begins { Begins out.old.items out.new.items }
 {
     match frame {
-        Frame::Message(
-            Message::Call {
-                inc,
-                act,
-                n,
-                operation,
-            },
-        ) => {
-            push_three(out, *inc, *act, *n)?;
-            push_operation(out, operation)?;
-        }
-        Frame::Message(
-            Message::Reply {
-                inc,
-                act,
-                n,
-                answer,
-            },
-        ) => {
-            push_three(out, *inc, *act, *n)?;
-            push_answer(out, answer)?;
-        }
-        Frame::Message(
-            Message::Write {
-                inc,
-                act,
-                s,
-                w,
-                content,
-            },
-        ) => {
-            push_three(out, *inc, *act, *s)?;
-            push_write(out, *w, content)?;
-        }
-        Frame::Message(Message::Ask { inc, act, g }) => push_three(out, *inc, *act, *g)?,
-        Frame::Turn => {}
+        Frame::Message(message) => push_message(out, message),
+        Frame::Turn => Ok(()),
     }
-    Ok(())
+}
+
+// The number of the kind of what is said.
+fn said_number(said: &Said) -> u8
+    ensures { result ≡ said_kind said.now }
+{
+    match said {
+        Said::Call { .. } => 1,
+        Said::Reply { .. } => 2,
+        Said::Write { .. } => 3,
+        Said::Ask { .. } => 4,
+    }
 }
 
 // The number of a frame's kind.
@@ -403,10 +435,7 @@ fn kind_number(frame: &Frame) -> u8
     ensures { result ≡ kind frame.now }
 {
     match frame {
-        Frame::Message(Message::Call { .. }) => 1,
-        Frame::Message(Message::Reply { .. }) => 2,
-        Frame::Message(Message::Write { .. }) => 3,
-        Frame::Message(Message::Ask { .. }) => 4,
+        Frame::Message(message) => said_number(&message.said),
         Frame::Turn => 5,
     }
 }
@@ -432,24 +461,30 @@ fn stored_room(content: &Stored) -> usize {
     room
 }
 
-// How many bytes a frame takes at the most, so that its vector grows once. It is a guess: what doesn't fit grows it again.
-fn room(frame: &Frame) -> usize {
-    let inside = match frame {
-        Frame::Message(Message::Call { operation, .. }) => match operation {
+// How many bytes the contents and edits of what is said take.
+fn said_room(said: &Said) -> usize {
+    match said {
+        Said::Call { operation, .. } => match operation {
             Operation::Load(_, content) => stored_room(content),
             Operation::Edit(bytes) => bytes.len(),
             _ => 0,
         },
-        Frame::Message(Message::Reply { answer, .. }) => match answer {
+        Said::Reply { answer, .. } => match answer {
             Answer::Content(content) => stored_room(content),
             _ => 0,
         },
-        Frame::Message(Message::Write { content, .. }) => stored_room(content),
-        Frame::Message(Message::Ask { .. }) => 0,
+        Said::Write { content, .. } => stored_room(content),
+        Said::Ask { .. } => 0,
+    }
+}
+
+// How many bytes a frame takes at the most, so that its vector grows once. It is a guess: what doesn't fit grows it again.
+fn room(frame: &Frame) -> usize {
+    match frame {
+        Frame::Message(message) => said_room(&message.said).saturating_add(MOST_HELD),
         // A head alone.
-        Frame::Turn => return 10,
-    };
-    inside.saturating_add(MOST_HELD)
+        Frame::Turn => 10,
+    }
 }
 
 // Adds a frame, but that its head has 0 in the place of the length of its body.
@@ -460,7 +495,7 @@ fn push_frame(out: &mut Vec<u8>, frame: &Frame) -> Result<(), AllocError>
     ensures begins { Begins out.old.items out.new.items }
 {
     out.reserve(room(frame))?;
-    push_bytes(out, &[79, 76, 67, 77, 1, kind_number(frame), 0, 0, 0, 0])?;
+    push_bytes(out, &[79, 76, 67, 77, 2, kind_number(frame), 0, 0, 0, 0])?;
     push_body(out, frame)?;
     Ok(())
 }

@@ -67,7 +67,7 @@ pub(crate) fn head_of(xs: &[u8]) -> Head
         [] => return Head::Short,
         [version, rest @ ..] => (*version, rest),
     };
-    if version != 1 {
+    if version != 2 {
         return Head::Bad(WireFault::BadVersion);
     }
     let (number, rest) = match rest {

@@ -10,7 +10,7 @@ use std::alloc::{AllocError, Global};
 use std::marker::Model;
 
 /// How many bytes are held as they came: a whole frame, where it has neither a blob nor a content.
-pub(crate) const MOST_HELD: usize = 82;
+pub(crate) const MOST_HELD: usize = 86;
 
 /// How many bytes stand before a body.
 const HEAD_LEN: usize = 10;

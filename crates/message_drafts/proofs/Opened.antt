@@ -9,7 +9,6 @@ use Rattle.wire_msgs.specs.declared.answer.Answer.{Answer}
 use Rattle.wire_msgs.specs.declared.answer.Answer.TheVariants as ans
 use Rattle.wire_msgs.specs.declared.message.Said.TheVariants.{Call, Reply}
 use Rattle.message_model.specs.declared.frame.Frame.{Frame}
-use Rattle.message_model.specs.declared.frame.Frame.TheVariants.{Message}
 use Rattle.message_model.specs.declared.codes.Kind.{Kind}
 use Rattle.message_model.specs.declared.codes.Kind.TheVariants as kind
 use Rattle.message_model.specs.declared.codes.OperationCode.{OperationCode}
@@ -18,13 +17,14 @@ use Rattle.message_model.specs.declared.codes.AnswerCode.{AnswerCode}
 use Rattle.message_model.specs.declared.codes.AnswerCode.TheVariants as said
 use Rattle.message_model.specs.Codes.{answer_code_of, operation_code_of, refusal_of}
 use Rattle.message_model.specs.Frames.{number_in}
-use Rattle.message_model.specs.Reading.{Reader, answer, bad, byte, bytes, flag_of, more, nonzero, number, operation, option_of, read_body, some, text, text_of, texted, tools, whole}
+use Rattle.message_model.specs.Reading.{Reader, answer, ask_in, bad, byte, bytes, call_in, flag_of, more, nonzero, number, operation, option_of, read_body, reply_in, some, text, text_of, texted, tools, whole, write_in}
 use Rattle.message_model.proofs.Fields.{bytes_again, le_passes}
+use Rattle.message_model.proofs.Bodies.{heard}
 use Rattle.message_drafts.specs.declared.draft.Draft.{Draft}
 use Rattle.message_drafts.specs.declared.draft.Opening.{Opening}
 use Rattle.message_drafts.specs.declared.draft.Opening.TheVariants as opening
 use Rattle.message_drafts.specs.Drafts.{Advances, last, resume}
-use Rattle.message_drafts.specs.Opens.{Comes, Opens, OpensLoad, form, reads, room_of}
+use Rattle.message_drafts.specs.Opens.{Comes, Opens, OpensLoad, OpensSaid, form, reads, room_of}
 use Rattle.message_drafts.proofs.Plans.{bytes_long, bytes_short}
 
 -- ---- numbers
@@ -130,65 +130,93 @@ no_answer said.Tools g p =
 
 -- ---- kinds without a blob
 
-pub no_ask : (zs : List ℕ) → 72 < length zs → read_body kind.Ask zs ≡ None
+pub no_ask : (zs : List ℕ) → 76 < length zs → read_body kind.Ask zs ≡ None
 unfolding read_body
-no_ask zs lt = short_number 8 _ (λ inc. short_number 4 _ (λ act. short_number 0 _ (λ g. short_whole _))) zs (omega arith)
+no_ask zs lt = short_number 12 _ (λ session. short_number 8 _ (λ inc. short_number 4 _ (λ act. short_number 0 _ (λ g. short_whole _)))) zs (omega arith)
 
-pub no_turn : (zs : List ℕ) → 72 < length zs → read_body kind.Turn zs ≡ None
+pub no_turn : (zs : List ℕ) → 76 < length zs → read_body kind.Turn zs ≡ None
 unfolding read_body
 no_turn [] lt = absurd (omega arith)
 no_turn (b ∷ zs) lt = refl
 
 -- ---- a call or a reply, by its operation or answer
 
-abbrev call_code : ℕ → ℕ → ℕ → OperationCode → Reader
-call_code inc act n c = operation c (λ o. whole (Message (Call inc act n o)))
+abbrev call_code : ℕ → ℕ → ℕ → ℕ → OperationCode → Reader
+call_code session inc act n c = operation c (λ o. whole (heard session (Call inc act n o)))
 
-abbrev call_by : ℕ → ℕ → ℕ → ℕ → Reader
-call_by inc act n b = some (call_code inc act n) (operation_code_of b)
+abbrev call_by : ℕ → ℕ → ℕ → ℕ → ℕ → Reader
+call_by session inc act n b = some (call_code session inc act n) (operation_code_of b)
 
-pub call_is : (inc act n b : ℕ) (c : OperationCode) (xs r1 r2 r3 r4 : List ℕ) → ((k : ℕ → Reader) (ys : List ℕ) → number k (xs ++ ys) ≡ k inc (r1 ++ ys)) → ((k : ℕ → Reader) (ys : List ℕ) → number k (r1 ++ ys) ≡ k act (r2 ++ ys))
+pub call_is : (session inc act n b : ℕ) (c : OperationCode) (xs r1 r2 r3 r4 : List ℕ) → ((k : ℕ → Reader) (ys : List ℕ) → number k (xs ++ ys) ≡ k inc (r1 ++ ys)) → ((k : ℕ → Reader) (ys : List ℕ) → number k (r1 ++ ys) ≡ k act (r2 ++ ys))
     → ((k : ℕ → Reader) (ys : List ℕ) → number k (r2 ++ ys) ≡ k n (r3 ++ ys)) → ((k : ℕ → Reader) (ys : List ℕ) → byte k (r3 ++ ys) ≡ k b (r4 ++ ys)) → operation_code_of b ≡ Some c
-    → (ys : List ℕ) → read_body kind.Call (xs ++ ys) ≡ operation c (λ o. whole (Message (Call inc act n o))) (r4 ++ ys)
-unfolding read_body
-call_is inc act n b c xs r1 r2 r3 r4 p1 p2 p3 p4 e ys =
-    p1 (λ i. number (λ a. number (λ m. byte (call_by i a m)))) ys
-    ∙ p2 (λ a. number (λ m. byte (call_by inc a m))) ys
-    ∙ p3 (λ m. byte (call_by inc act m)) ys
-    ∙ p4 (call_by inc act n) ys
-    ∙ ap (λ o. some (call_code inc act n) o (r4 ++ ys)) e
+    → (ys : List ℕ) → call_in session (xs ++ ys) ≡ operation c (λ o. whole (heard session (Call inc act n o))) (r4 ++ ys)
+call_is session inc act n b c xs r1 r2 r3 r4 p1 p2 p3 p4 e ys =
+    p1 (λ i. number (λ a. number (λ m. byte (call_by session i a m)))) ys
+    ∙ p2 (λ a. number (λ m. byte (call_by session inc a m))) ys
+    ∙ p3 (λ m. byte (call_by session inc act m)) ys
+    ∙ p4 (call_by session inc act n) ys
+    ∙ ap (λ o. some (call_code session inc act n) o (r4 ++ ys)) e
 
-abbrev reply_code : ℕ → ℕ → ℕ → AnswerCode → Reader
-reply_code inc act n c = answer c (λ a. whole (Message (Reply inc act n a)))
+abbrev reply_code : ℕ → ℕ → ℕ → ℕ → AnswerCode → Reader
+reply_code session inc act n c = answer c (λ a. whole (heard session (Reply inc act n a)))
 
-abbrev reply_by : ℕ → ℕ → ℕ → ℕ → Reader
-reply_by inc act n b = some (reply_code inc act n) (answer_code_of b)
+abbrev reply_by : ℕ → ℕ → ℕ → ℕ → ℕ → Reader
+reply_by session inc act n b = some (reply_code session inc act n) (answer_code_of b)
 
-pub reply_is : (inc act n b : ℕ) (c : AnswerCode) (xs r1 r2 r3 r4 : List ℕ) → ((k : ℕ → Reader) (ys : List ℕ) → number k (xs ++ ys) ≡ k inc (r1 ++ ys)) → ((k : ℕ → Reader) (ys : List ℕ) → number k (r1 ++ ys) ≡ k act (r2 ++ ys))
+pub reply_is : (session inc act n b : ℕ) (c : AnswerCode) (xs r1 r2 r3 r4 : List ℕ) → ((k : ℕ → Reader) (ys : List ℕ) → number k (xs ++ ys) ≡ k inc (r1 ++ ys)) → ((k : ℕ → Reader) (ys : List ℕ) → number k (r1 ++ ys) ≡ k act (r2 ++ ys))
     → ((k : ℕ → Reader) (ys : List ℕ) → number k (r2 ++ ys) ≡ k n (r3 ++ ys)) → ((k : ℕ → Reader) (ys : List ℕ) → byte k (r3 ++ ys) ≡ k b (r4 ++ ys)) → answer_code_of b ≡ Some c
-    → (ys : List ℕ) → read_body kind.Reply (xs ++ ys) ≡ answer c (λ a. whole (Message (Reply inc act n a))) (r4 ++ ys)
-unfolding read_body
-reply_is inc act n b c xs r1 r2 r3 r4 p1 p2 p3 p4 e ys =
-    p1 (λ i. number (λ a. number (λ m. byte (reply_by i a m)))) ys
-    ∙ p2 (λ a. number (λ m. byte (reply_by inc a m))) ys
-    ∙ p3 (λ m. byte (reply_by inc act m)) ys
-    ∙ p4 (reply_by inc act n) ys
-    ∙ ap (λ o. some (reply_code inc act n) o (r4 ++ ys)) e
+    → (ys : List ℕ) → reply_in session (xs ++ ys) ≡ answer c (λ a. whole (heard session (Reply inc act n a))) (r4 ++ ys)
+reply_is session inc act n b c xs r1 r2 r3 r4 p1 p2 p3 p4 e ys =
+    p1 (λ i. number (λ a. number (λ m. byte (reply_by session i a m)))) ys
+    ∙ p2 (λ a. number (λ m. byte (reply_by session inc a m))) ys
+    ∙ p3 (λ m. byte (reply_by session inc act m)) ys
+    ∙ p4 (reply_by session inc act n) ys
+    ∙ ap (λ o. some (reply_code session inc act n) o (r4 ++ ys)) e
 
 -- a load, whose class and count come
-pub load_opens : {X : Type 0} (o : X → Opening) (left : X → ℕ) (rest : X → List ℕ) (r : Option X) (inc act n : ℕ) (xs behind : List ℕ)
-    → ((ys : List ℕ) → read_body kind.Call (xs ++ ys) ≡ operation code.Load (λ p. whole (Message (Call inc act n p))) (behind ++ ys)) → OpensLoad o left rest r inc act n behind → Opens o left rest r kind.Call xs
-load_opens o left rest (Some x) inc act n xs behind is opens = λ ys. is ys ∙ opens ys
-load_opens o left rest None inc act n xs behind is opens = λ ys lt. is ys ∙ opens ys
+pub load_opens : {X : Type 0} (o : X → Opening) (left : X → ℕ) (rest : X → List ℕ) (r : Option X) (session inc act n : ℕ) (xs behind : List ℕ)
+    → ((ys : List ℕ) → call_in session (xs ++ ys) ≡ operation code.Load (λ p. whole (heard session (Call inc act n p))) (behind ++ ys)) → OpensLoad o left rest r session inc act n behind → OpensSaid o left rest r (call_in session) xs
+load_opens o left rest (Some x) session inc act n xs behind is opens = λ ys. is ys ∙ opens ys
+load_opens o left rest None session inc act n xs behind is opens = λ ys lt. is ys ∙ opens ys
 
 -- an edit
-pub edit_opens : (inc act n : ℕ) (xs : List ℕ) → operation code.Edit (λ p. whole (Message (Call inc act n p))) xs ≡ more 0 [] 65536 (last (opening.Edit inc act n)) xs
+pub edit_opens : (session inc act n : ℕ) (xs : List ℕ) → operation code.Edit (λ p. whole (heard session (Call inc act n p))) xs ≡ more 0 [] 65536 (last (opening.Edit session inc act n)) xs
 unfolding operation more
-edit_opens inc act n xs = refl
+edit_opens session inc act n xs = refl
+
+-- ---- a session, and what is said behind it
+
+-- no frame where no session comes
+pub no_session : (k : Kind) (xs : List ℕ) → ((r : ℕ → Reader) (ys : List ℕ) → number r (xs ++ ys) ≡ None) → (ys : List ℕ) → 76 < length (xs ++ ys) → read_body k (xs ++ ys) ≡ None
+unfolding read_body
+no_session kind.Call xs none ys lt = none call_in ys
+no_session kind.Reply xs none ys lt = none reply_in ys
+no_session kind.Write xs none ys lt = none write_in ys
+no_session kind.Ask xs none ys lt = none ask_in ys
+no_session kind.Turn xs none ys lt = no_turn (xs ++ ys) lt
+
+pub call_said : (zs : List ℕ) → read_body kind.Call zs ≡ number call_in zs
+unfolding read_body
+call_said zs = refl
+
+pub reply_said : (zs : List ℕ) → read_body kind.Reply zs ≡ number reply_in zs
+unfolding read_body
+reply_said zs = refl
+
+pub write_said : (zs : List ℕ) → read_body kind.Write zs ≡ number write_in zs
+unfolding read_body
+write_said zs = refl
+
+pub said_opens : {X : Type 0} (o : X → Opening) (left : X → ℕ) (rest : X → List ℕ) (r : Option X) (kind : Kind) (said_in : ℕ → Reader) (session : ℕ) (xs behind : List ℕ)
+    → ((zs : List ℕ) → read_body kind zs ≡ number said_in zs) → ((k : ℕ → Reader) (ys : List ℕ) → number k (xs ++ ys) ≡ k session (behind ++ ys)) → length behind + 4 ≡ length xs
+    → OpensSaid o left rest r (said_in session) behind → Opens o left rest r kind xs
+said_opens o left rest (Some x) kind said_in session xs behind is first shorter opens = λ ys. is (xs ++ ys) ∙ first said_in ys ∙ opens ys
+said_opens o left rest None kind said_in session xs behind is first shorter opens =
+    λ ys lt. is (xs ++ ys) ∙ first said_in ys ∙ opens ys (omega (arith, lt, shorter, length-append xs ys, length-append behind ys))
 
 -- ---- a body whose first fields came
 
-pub comes_bad : (kind : Kind) (len : ℕ) (front : List ℕ) (d : Draft) → 72 < len → length front ≤ len → ((ys : List ℕ) → 72 < length (front ++ ys) → read_body kind (front ++ ys) ≡ None)
+pub comes_bad : (kind : Kind) (len : ℕ) (front : List ℕ) (d : Draft) → 76 < len → length front ≤ len → ((ys : List ℕ) → 76 < length (front ++ ys) → read_body kind (front ++ ys) ≡ None)
     → d.plan.to_come ≡ len - length front → ((ys : List ℕ) → resume d ys ≡ None) → Comes kind len front (form d)
 unfolding resume reads
 comes_bad kind len front d long within none to_come bad = record {

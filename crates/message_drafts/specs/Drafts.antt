@@ -17,12 +17,16 @@ use Rattle.message_model.specs.declared.frame.Frame.{Frame}
 use Rattle.message_model.specs.declared.frame.Frame.TheVariants.{Message}
 use Rattle.message_model.specs.Reading.{Reader, bad, blob, more, name, sized, whole}
 
+-- a call
+abbrev pub call_of : ℕ → ℕ → ℕ → ℕ → Operation → Frame
+call_of session inc act n o = Message (record { session = session; said = Call inc act n o })
+
 -- the frame that these streams and this picture complete; an edit stands in the place of the picture
 abbrev pub frame_of : Opening → List NamedStream → List ℕ → Frame
-frame_of (opening.Edit inc act n) ss bs = Message (Call inc act n (op.Edit bs))
-frame_of (opening.Load inc act n class) ss bs = Message (Call inc act n (op.Load class (record { streams = ss; picture = bs })))
-frame_of (opening.Content inc act n) ss bs = Message (Reply inc act n (ans.Content (record { streams = ss; picture = bs })))
-frame_of (opening.Write inc act s w) ss bs = Message (Write inc act s w (record { streams = ss; picture = bs }))
+frame_of (opening.Edit session inc act n) ss bs = call_of session inc act n (op.Edit bs)
+frame_of (opening.Load session inc act n class) ss bs = call_of session inc act n (op.Load class (record { streams = ss; picture = bs }))
+frame_of (opening.Content session inc act n) ss bs = Message (record { session = session; said = Reply inc act n (ans.Content (record { streams = ss; picture = bs })) })
+frame_of (opening.Write session inc act s w) ss bs = Message (record { session = session; said = Write inc act s w (record { streams = ss; picture = bs }) })
 
 -- the last bytes of a body, and nothing behind them
 abbrev pub last : Opening → List NamedStream → ℕ → Reader
@@ -117,12 +121,8 @@ IsOver d = IsOverAt d.plan.phase d.plan.missing
 
 -- a content completes the frame
 abbrev pub IsOfContent : Opening → Type 0
-IsOfContent (opening.Edit inc act n) = ⊥
+IsOfContent (opening.Edit session inc act n) = ⊥
 IsOfContent _ = Unit {0}
-
--- a call
-abbrev pub call_of : ℕ → ℕ → ℕ → Operation → Frame
-call_of inc act n o = Message (Call inc act n o)
 
 -- a body of which the field is read
 pub record Begins (old new : Draft) : Type 0 where

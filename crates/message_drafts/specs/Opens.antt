@@ -26,20 +26,25 @@ Counts count rest None xs = (k : Stored → Reader) (ys : List ℕ) → stored k
 
 -- how many bytes may stand in the blobs
 abbrev pub room_of : Opening → ℕ
-room_of (opening.Edit inc act n) = MOST_EDIT
-room_of (opening.Load inc act n class) = MOST_BYTES
-room_of (opening.Content inc act n) = MOST_BYTES
-room_of (opening.Write inc act s w) = MOST_BYTES
+room_of (opening.Edit session inc act n) = MOST_EDIT
+room_of (opening.Load session inc act n class) = MOST_BYTES
+room_of (opening.Content session inc act n) = MOST_BYTES
+room_of (opening.Write session inc act s w) = MOST_BYTES
 
-abbrev pub OpensLoad : {X : Type 0} → (X → Opening) → (X → ℕ) → (X → List ℕ) → Option X → ℕ → ℕ → ℕ → List ℕ → Type 0
-OpensLoad o left rest (Some x) inc act n xs =
-    (ys : List ℕ) → operation code.Load (λ p. whole (call_of inc act n p)) (xs ++ ys) ≡ more (left x) [] (room_of (o x)) (last (o x)) (rest x ++ ys)
-OpensLoad o left rest None inc act n xs = (ys : List ℕ) → operation code.Load (λ p. whole (call_of inc act n p)) (xs ++ ys) ≡ None
+abbrev pub OpensLoad : {X : Type 0} → (X → Opening) → (X → ℕ) → (X → List ℕ) → Option X → ℕ → ℕ → ℕ → ℕ → List ℕ → Type 0
+OpensLoad o left rest (Some x) session inc act n xs =
+    (ys : List ℕ) → operation code.Load (λ p. whole (call_of session inc act n p)) (xs ++ ys) ≡ more (left x) [] (room_of (o x)) (last (o x)) (rest x ++ ys)
+OpensLoad o left rest None session inc act n xs = (ys : List ℕ) → operation code.Load (λ p. whole (call_of session inc act n p)) (xs ++ ys) ≡ None
 
--- The first fields of a body of more than 72 bytes; none where it makes no frame.
+-- The first fields behind a session, with more than 72 bytes to read; none where they make no frame.
+abbrev pub OpensSaid : {X : Type 0} → (X → Opening) → (X → ℕ) → (X → List ℕ) → Option X → Reader → List ℕ → Type 0
+OpensSaid o left rest (Some x) said xs = (ys : List ℕ) → said (xs ++ ys) ≡ more (left x) [] (room_of (o x)) (last (o x)) (rest x ++ ys)
+OpensSaid o left rest None said xs = (ys : List ℕ) → 72 < length (xs ++ ys) → said (xs ++ ys) ≡ None
+
+-- The first fields of a body of more than 76 bytes; none where it makes no frame.
 abbrev pub Opens : {X : Type 0} → (X → Opening) → (X → ℕ) → (X → List ℕ) → Option X → Kind → List ℕ → Type 0
 Opens o left rest (Some x) kind xs = (ys : List ℕ) → read_body kind (xs ++ ys) ≡ more (left x) [] (room_of (o x)) (last (o x)) (rest x ++ ys)
-Opens o left rest None kind xs = (ys : List ℕ) → 72 < length (xs ++ ys) → read_body kind (xs ++ ys) ≡ None
+Opens o left rest None kind xs = (ys : List ℕ) → 76 < length (xs ++ ys) → read_body kind (xs ++ ys) ≡ None
 
 -- What a body that comes has.
 pub record Form : Type 0 where

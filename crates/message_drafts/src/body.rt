@@ -29,11 +29,11 @@ impl Model for Body {
 }
 
 impl Body {
-    /// A body of a kind, of so many bytes, more than 72, of which these came, at least 72.
+    /// A body of a kind, of so many bytes, more than 76, of which these came, at least 76.
     ///
     /// Refused for want of memory alone.
     pub fn open(alloc: Global, kind: Kind, len: usize, front: &[u8]) -> Result<Body, AllocError>
-        requires long { (72 < len) × (72 ≤ length front.now) }
+        requires long { (76 < len) × (76 ≤ length front.now) }
         requires within { length front.now ≤ len }
         ensures { IfOk result (λ b. Comes kind len front.now b) }
     {

@@ -14,17 +14,17 @@ use object_parts::limits::is_ole_name;
 use std::alloc::{AllocError, Global};
 use stored_values::class_id::ClassId;
 
-/// What a body says before its first blob.
+/// What a body says before its first blob, the session first.
 #[derive(Drop)]
 pub enum Opening {
     /// A call of an edit.
-    Edit(u32, u32, u32),
+    Edit(u32, u32, u32, u32),
     /// A call of a load, as an object of this class.
-    Load(u32, u32, u32, ClassId),
+    Load(u32, u32, u32, u32, ClassId),
     /// A reply that is a content.
-    Content(u32, u32, u32),
+    Content(u32, u32, u32, u32),
     /// A write.
-    Write(u32, u32, u32, u32),
+    Write(u32, u32, u32, u32, u32),
 }
 
 /// What comes next.

@@ -10,19 +10,20 @@ use std::alloc::{AllocError, Global};
 use stored_streams::stored::Stored;
 use stored_streams::streams::{NamedStream, Streams};
 use wire_msgs::answer::Answer;
-use wire_msgs::message::Message;
+use wire_msgs::message::{Message, Said};
 use wire_msgs::operation::Operation;
 
 // A call.
-fn call(inc: u32, act: u32, n: u32, operation: Operation) -> Frame
-    ensures { result ≡ call_of inc act n operation }
+fn call(session: u32, inc: u32, act: u32, n: u32, operation: Operation) -> Frame
+    ensures { result ≡ call_of session inc act n operation }
 {
-    Frame::Message(Message::Call {
+    let said = Said::Call {
         inc,
         act,
         n,
         operation,
-    })
+    };
+    Frame::Message(Message { session, said })
 }
 
 // The frame that a content completes.
@@ -31,26 +32,36 @@ fn content_frame(opening: &Opening, content: Stored) -> Frame
     ensures { result ≡ frame_of opening.now content.streams content.picture }
 {
     match opening {
-        Opening::Edit(_, _, _) => Frame::Turn,
-        Opening::Load(inc, act, n, class) => {
-            call(*inc, *act, *n, Operation::Load(*class, content))
+        Opening::Edit(_, _, _, _) => Frame::Turn,
+        Opening::Load(session, inc, act, n, class) => {
+            call(*session, *inc, *act, *n, Operation::Load(*class, content))
         }
-        Opening::Content(inc, act, n) => {
+        Opening::Content(session, inc, act, n) => {
             let answer = Answer::Content(content);
-            Frame::Message(Message::Reply {
+            let said = Said::Reply {
                 inc: *inc,
                 act: *act,
                 n: *n,
                 answer,
+            };
+            Frame::Message(Message {
+                session: *session,
+                said,
             })
         }
-        Opening::Write(inc, act, s, w) => Frame::Message(Message::Write {
-            inc: *inc,
-            act: *act,
-            s: *s,
-            w: *w,
-            content,
-        }),
+        Opening::Write(session, inc, act, s, w) => {
+            let said = Said::Write {
+                inc: *inc,
+                act: *act,
+                s: *s,
+                w: *w,
+                content,
+            };
+            Frame::Message(Message {
+                session: *session,
+                said,
+            })
+        }
     }
 }
 
@@ -82,8 +93,8 @@ impl Draft {
             _ => return Ok(None),
         }
         let picture = self.picture.share(alloc)?;
-        if let Opening::Edit(inc, act, n) = &self.opening {
-            return Ok(Some(call(*inc, *act, *n, Operation::Edit(picture))));
+        if let Opening::Edit(session, inc, act, n) = &self.opening {
+            return Ok(Some(call(*session, *inc, *act, *n, Operation::Edit(picture))));
         }
         let items = shared(alloc, &mut self.streams)?;
         let streams = match Streams::from_vec(items) {

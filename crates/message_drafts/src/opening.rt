@@ -1,9 +1,8 @@
 //! The first fields of a body, up to its first blob.
 
-ghost use Rattle.message_drafts.specs.Opens.{Counts, Opens, OpensLoad, Takes, room_of};
+ghost use Rattle.message_drafts.specs.Opens.{Counts, Opens, OpensLoad, OpensSaid, Takes, room_of};
 ghost use Rattle.message_drafts.specs.Drafts.{IsPlanned, last, resume};
-ghost use Rattle.message_model.specs.Reading.{byte, bytes, more, number};
-ghost use Rattle.message_model.specs.declared.codes.Kind.TheVariants.{Call, Reply, Write};
+ghost use Rattle.message_model.specs.Reading.{byte, bytes, call_in, more, number, reply_in, write_in};
 ghost use Rattle.std.specs.Prelude.{[], ◌≡◌, ◌≤◌, ◌+◌, ℕ, List, IfSome, None, length};
 
 use crate::blob::Blob;
@@ -73,9 +72,9 @@ fn take_count(xs: &[u8]) -> Option<(usize, &[u8])>
 
 // The class and the count of a load.
 #[tactic(auto, unfolding(message_model::specs::Reading::operation))]
-fn open_load(inc: u32, act: u32, n: u32, xs: &[u8]) -> Option<(Opening, usize, &[u8])>
+fn open_load(session: u32, inc: u32, act: u32, n: u32, xs: &[u8]) -> Option<(Opening, usize, &[u8])>
     requires { 17 ≤ length xs.now }
-    ensures opens { OpensLoad (λ x. x.0) (λ x. x.1) (λ x. x.2.now) result inc act n xs.now }
+    ensures opens { OpensLoad (λ x. x.0) (λ x. x.1) (λ x. x.2.now) result session inc act n xs.now }
     ensures within { IfSome result (λ x. length x.2.now ≤ length xs.now) }
 {
     let (class, rest) = match take_class(xs) {
@@ -86,14 +85,14 @@ fn open_load(inc: u32, act: u32, n: u32, xs: &[u8]) -> Option<(Opening, usize, &
         Some(read) => read,
         None => return None,
     };
-    Some((Opening::Load(inc, act, n, class), count, rest))
+    Some((Opening::Load(session, inc, act, n, class), count, rest))
 }
 
-// The first fields of a call.
-#[tactic(auto, unfolding(message_model::specs::Reading::read_body, message_model::specs::Reading::operation, message_model::specs::Reading::more))]
-fn open_call(xs: &[u8]) -> Option<(Opening, usize, &[u8])>
+// The first fields of a call, behind its session.
+#[tactic(auto, unfolding(message_model::specs::Reading::operation, message_model::specs::Reading::more))]
+fn open_call(session: u32, xs: &[u8]) -> Option<(Opening, usize, &[u8])>
     requires { 72 ≤ length xs.now }
-    ensures opens { Opens (λ x. x.0) (λ x. x.1) (λ x. x.2.now) result Call xs.now }
+    ensures opens { OpensSaid (λ x. x.0) (λ x. x.1) (λ x. x.2.now) result (call_in session) xs.now }
     ensures within { IfSome result (λ x. length x.2.now ≤ length xs.now) }
 {
     let (inc, rest) = match take_number(xs) {
@@ -117,17 +116,17 @@ fn open_call(xs: &[u8]) -> Option<(Opening, usize, &[u8])>
         None => return None,
     };
     match code {
-        OperationCode::Edit => Some((Opening::Edit(inc, act, n), 0, rest)),
-        OperationCode::Load => open_load(inc, act, n, rest),
+        OperationCode::Edit => Some((Opening::Edit(session, inc, act, n), 0, rest)),
+        OperationCode::Load => open_load(session, inc, act, n, rest),
         _ => None,
     }
 }
 
-// The first fields of a reply.
-#[tactic(auto, unfolding(message_model::specs::Reading::read_body, message_model::specs::Reading::answer))]
-fn open_reply(xs: &[u8]) -> Option<(Opening, usize, &[u8])>
+// The first fields of a reply, behind its session.
+#[tactic(auto, unfolding(message_model::specs::Reading::answer))]
+fn open_reply(session: u32, xs: &[u8]) -> Option<(Opening, usize, &[u8])>
     requires { 72 ≤ length xs.now }
-    ensures opens { Opens (λ x. x.0) (λ x. x.1) (λ x. x.2.now) result Reply xs.now }
+    ensures opens { OpensSaid (λ x. x.0) (λ x. x.1) (λ x. x.2.now) result (reply_in session) xs.now }
     ensures within { IfSome result (λ x. length x.2.now ≤ length xs.now) }
 {
     let (inc, rest) = match take_number(xs) {
@@ -156,17 +155,16 @@ fn open_reply(xs: &[u8]) -> Option<(Opening, usize, &[u8])>
                 Some(read) => read,
                 None => return None,
             };
-            Some((Opening::Content(inc, act, n), count, rest))
+            Some((Opening::Content(session, inc, act, n), count, rest))
         }
         _ => None,
     }
 }
 
-// The first fields of a write.
-#[tactic(auto, unfolding(message_model::specs::Reading::read_body))]
-fn open_write(xs: &[u8]) -> Option<(Opening, usize, &[u8])>
+// The first fields of a write, behind its session.
+fn open_write(session: u32, xs: &[u8]) -> Option<(Opening, usize, &[u8])>
     requires { 72 ≤ length xs.now }
-    ensures opens { Opens (λ x. x.0) (λ x. x.1) (λ x. x.2.now) result Write xs.now }
+    ensures opens { OpensSaid (λ x. x.0) (λ x. x.1) (λ x. x.2.now) result (write_in session) xs.now }
     ensures within { IfSome result (λ x. length x.2.now ≤ length xs.now) }
 {
     let (inc, rest) = match take_number(xs) {
@@ -189,21 +187,24 @@ fn open_write(xs: &[u8]) -> Option<(Opening, usize, &[u8])>
         Some(read) => read,
         None => return None,
     };
-    Some((Opening::Write(inc, act, s, w), count, rest))
+    Some((Opening::Write(session, inc, act, s, w), count, rest))
 }
 
 /// What the first fields of a body say: how many streams come, and the bytes behind these fields. Nothing where a body of
-/// more than 72 bytes that begins so makes no frame.
-#[tactic(auto, using(crate::proofs::Opened::no_ask, crate::proofs::Opened::no_turn))]
+/// more than 76 bytes that begins so makes no frame.
 pub(crate) fn opened(kind: Kind, xs: &[u8]) -> Option<(Opening, usize, &[u8])>
-    requires { 72 ≤ length xs.now }
+    requires { 76 ≤ length xs.now }
     ensures opens { Opens (λ x. x.0) (λ x. x.1) (λ x. x.2.now) result kind xs.now }
     ensures within { IfSome result (λ x. length x.2.now ≤ length xs.now) }
 {
+    let (session, rest) = match take_number(xs) {
+        Some(read) => read,
+        None => return None,
+    };
     match kind {
-        Kind::Call => open_call(xs),
-        Kind::Reply => open_reply(xs),
-        Kind::Write => open_write(xs),
+        Kind::Call => open_call(session, rest),
+        Kind::Reply => open_reply(session, rest),
+        Kind::Write => open_write(session, rest),
         Kind::Ask => None,
         Kind::Turn => None,
     }
@@ -214,7 +215,7 @@ fn room_of(opening: &Opening) -> usize
     ensures { result ≡ room_of opening.now }
 {
     match opening {
-        Opening::Edit(_, _, _) => MOST_EDIT,
+        Opening::Edit(_, _, _, _) => MOST_EDIT,
         _ => MOST_BYTES,
     }
 }
@@ -259,7 +260,7 @@ impl Draft {
         ensures reads { (ys : List ℕ) → resume result ys ≡ None }
     {
         Draft {
-            opening: Opening::Content(0, 0, 0),
+            opening: Opening::Content(0, 0, 0, 0),
             plan: plan(Phase::Bad, 0, 0, to_come),
             streams: Vec::new(alloc),
             picture: Blob::new(alloc),

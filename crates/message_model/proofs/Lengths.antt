@@ -12,11 +12,12 @@ use Rattle.wire_msgs.specs.declared.operation.Operation.{Operation}
 use Rattle.wire_msgs.specs.declared.operation.Operation.TheVariants as op
 use Rattle.wire_msgs.specs.declared.answer.Answer.{Answer}
 use Rattle.wire_msgs.specs.declared.answer.Answer.TheVariants as ans
+use Rattle.wire_msgs.specs.declared.message.Said.{Said}
 use Rattle.wire_msgs.specs.declared.message.Said.TheVariants.{Call, Reply, Write, Ask}
 use Rattle.message_model.specs.declared.frame.Frame.{Frame}
 use Rattle.message_model.specs.declared.frame.Frame.TheVariants.{Message, Turn}
-use Rattle.message_model.specs.Spelling.{two_bytes, four_bytes, blob, text, streams, stored, flag, operation, widths, answer, body}
-use Rattle.message_model.specs.Frames.{operation_fits, answer_fits, IsOperation, IsAnswer, IsFrame}
+use Rattle.message_model.specs.Spelling.{two_bytes, four_bytes, blob, text, streams, stored, flag, operation, widths, answer, said_body, body}
+use Rattle.message_model.specs.Frames.{operation_fits, answer_fits, said_fits, IsOperation, IsAnswer, IsSaid, IsFrame}
 use Rattle.message_model.proofs.Fields.{first_of, second_of, le_told, length-two_bytes, length-four_bytes}
 use Rattle.message_model.proofs.Contents.{Names}
 
@@ -91,26 +92,30 @@ length-answer (ans.Tools m border) fit valid =
 with_three : (a b c : ℕ) (x : List ℕ) → length x ≤ 300000 → length (four_bytes a ++ (four_bytes b ++ (four_bytes c ++ x))) ≤ 300012
 with_three a b c x h = length-two (four_bytes a) (four_bytes b ++ (four_bytes c ++ x)) 4 300008 (length-number a) (length-two (four_bytes b) (four_bytes c ++ x) 4 300004 (length-number b) (length-two (four_bytes c) x 4 300000 (length-number c) h))
 
-wider : (n m : ℕ) → n ≤ m → m ≤ 1048576 → n ≤ 1048576
+wider : (n m : ℕ) → n ≤ m → m ≤ 1048572 → n ≤ 1048572
 wider n m p q = omega arith
+
+length-said : (x : Said) → said_fits x ≡ true → IsSaid x → length (said_body x) ≤ 1048572
+length-said (Call inc act n o) fit valid =
+    let r1 = second_of (nat_lt 0 inc) (nat_lt 0 act && (nat_lt 0 n && operation_fits o)) fit in
+    let r2 = second_of (nat_lt 0 act) (nat_lt 0 n && operation_fits o) r1 in
+    wider _ _ (with_three inc act n (operation o) (length-operation o (second_of (nat_lt 0 n) _ r2) valid.3)) (lit≤ tt)
+length-said (Reply inc act n a) fit valid =
+    let r1 = second_of (nat_lt 0 inc) (nat_lt 0 act && (nat_lt 0 n && answer_fits a)) fit in
+    let r2 = second_of (nat_lt 0 act) (nat_lt 0 n && answer_fits a) r1 in
+    wider _ _ (with_three inc act n (answer a) (length-answer a (second_of (nat_lt 0 n) _ r2) valid.3)) (lit≤ tt)
+length-said (Write inc act s w content) fit valid =
+    let r1 = second_of (nat_lt 0 inc) (nat_lt 0 act && (nat_lt 0 s && (nat_lt 0 w && is_within content))) fit in
+    let r2 = second_of (nat_lt 0 act) (nat_lt 0 s && (nat_lt 0 w && is_within content)) r1 in
+    let r3 = second_of (nat_lt 0 s) (nat_lt 0 w && is_within content) r2 in
+    let c : length (stored content) ≤ 262437 = length-stored content valid.4.names (second_of (nat_lt 0 w) _ r3) in
+    let l : length (four_bytes w ++ stored content) ≤ 300000 = omega (arith, length-append (four_bytes w) (stored content), length-four_bytes w) in
+    wider _ _ (with_three inc act s (four_bytes w ++ stored content) l) (lit≤ tt)
+length-said (Ask inc act g) fit valid =
+    wider _ 12 (length-two (four_bytes inc) (four_bytes act ++ four_bytes g) 4 8 (length-number inc) (length-two (four_bytes act) (four_bytes g) 4 4 (length-number act) (length-number g))) (lit≤ tt)
 
 -- a frame's body isn't too long
 pub length-body : (f : Frame) → IsFrame f → length (body f) ≤ 1048576
-length-body (Message (Call inc act n o)) h =
-    let r1 = second_of (nat_lt 0 inc) (nat_lt 0 act && (nat_lt 0 n && operation_fits o)) h.fits_all in
-    let r2 = second_of (nat_lt 0 act) (nat_lt 0 n && operation_fits o) r1 in
-    wider _ _ (with_three inc act n (operation o) (length-operation o (second_of (nat_lt 0 n) _ r2) h.value.3)) (lit≤ tt)
-length-body (Message (Reply inc act n a)) h =
-    let r1 = second_of (nat_lt 0 inc) (nat_lt 0 act && (nat_lt 0 n && answer_fits a)) h.fits_all in
-    let r2 = second_of (nat_lt 0 act) (nat_lt 0 n && answer_fits a) r1 in
-    wider _ _ (with_three inc act n (answer a) (length-answer a (second_of (nat_lt 0 n) _ r2) h.value.3)) (lit≤ tt)
-length-body (Message (Write inc act s w content)) h =
-    let r1 = second_of (nat_lt 0 inc) (nat_lt 0 act && (nat_lt 0 s && (nat_lt 0 w && is_within content))) h.fits_all in
-    let r2 = second_of (nat_lt 0 act) (nat_lt 0 s && (nat_lt 0 w && is_within content)) r1 in
-    let r3 = second_of (nat_lt 0 s) (nat_lt 0 w && is_within content) r2 in
-    let c : length (stored content) ≤ 262437 = length-stored content h.value.4.names (second_of (nat_lt 0 w) _ r3) in
-    let l : length (four_bytes w ++ stored content) ≤ 300000 = omega (arith, length-append (four_bytes w) (stored content), length-four_bytes w) in
-    wider _ _ (with_three inc act s (four_bytes w ++ stored content) l) (lit≤ tt)
-length-body (Message (Ask inc act g)) h =
-    wider _ 12 (length-two (four_bytes inc) (four_bytes act ++ four_bytes g) 4 8 (length-number inc) (length-two (four_bytes act) (four_bytes g) 4 4 (length-number act) (length-number g))) (lit≤ tt)
+length-body (Message m) h =
+    length-two (four_bytes m.session) (said_body m.said) 4 1048572 (length-number m.session) (length-said m.said (second_of (nat_lt 0 m.session) (said_fits m.said) h.fits_all) h.value.1)
 length-body Turn h = lit≤ tt

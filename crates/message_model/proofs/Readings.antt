@@ -25,14 +25,14 @@ pub record AreHeadsAlike (k : ℕ) (cells : List ℕ) (x : List ℕ) (l : ℕ) (
 
 -- the byte forms of frames are equal where heads and bodies are
 pub heads_alike : (k l : ℕ) (cells lens x y : List ℕ) → length cells ≡ 4 → length lens ≡ 4
-    → (79 ∷ 76 ∷ 67 ∷ 77 ∷ 1 ∷ k ∷ cells) ++ x ≡ (79 ∷ 76 ∷ 67 ∷ 77 ∷ 1 ∷ l ∷ lens) ++ y → AreHeadsAlike k cells x l lens y
+    → (79 ∷ 76 ∷ 67 ∷ 77 ∷ 2 ∷ k ∷ cells) ++ x ≡ (79 ∷ 76 ∷ 67 ∷ 77 ∷ 2 ∷ l ∷ lens) ++ y → AreHeadsAlike k cells x l lens y
 heads_alike k l cells lens x y p q e =
     let same : length cells ≡ length lens = p ∙ sym q in
     let kinds : k ≡ l = cc in
     let rests : cells ++ x ≡ lens ++ y = cc in
     record { kinds = kinds; lengths = same_front cells lens x y same rests; behind = same_back cells lens x y same rests }
 
-pub spell-parts : (f : Frame) (x : List ℕ) → spell f ++ x ≡ (79 ∷ 76 ∷ 67 ∷ 77 ∷ 1 ∷ spelling.kind f ∷ four_bytes (length (body f))) ++ (body f ++ x)
+pub spell-parts : (f : Frame) (x : List ℕ) → spell f ++ x ≡ (79 ∷ 76 ∷ 67 ∷ 77 ∷ 2 ∷ spelling.kind f ∷ four_bytes (length (body f))) ++ (body f ++ x)
 spell-parts f x = append_assoc (head (spelling.kind f) (length (body f))) (body f) x
 
 pub record AreAlike (f g : Frame) (x y : List ℕ) : Type 0 where

@@ -12,6 +12,7 @@ use Rattle.wire_msgs.specs.declared.operation.Operation.{Operation}
 use Rattle.wire_msgs.specs.declared.operation.Operation.TheVariants.{InitNew, Load, UiActivate, Edit, Save, SaveCompleted, SaveDropped}
 use Rattle.wire_msgs.specs.declared.answer.Answer.{Answer}
 use Rattle.wire_msgs.specs.declared.answer.Answer.TheVariants.{Content, Tools}
+use Rattle.wire_msgs.specs.declared.message.Said.{Said}
 use Rattle.wire_msgs.specs.declared.message.Said.TheVariants.{Call, Reply, Write, Ask}
 use Rattle.message_model.specs.declared.fault.WireFault.{WireFault}
 use Rattle.message_model.specs.declared.fault.WireFault.TheVariants.{BadMagic, BadVersion, BadKind, TooLong, BadField}
@@ -38,11 +39,14 @@ abbrev pub answer_fits : Answer → Bool
 answer_fits (Content content) = is_within content
 answer_fits _ = true
 
+abbrev pub said_fits : Said → Bool
+said_fits (Call inc act n op) = nat_lt 0 inc && (nat_lt 0 act && (nat_lt 0 n && operation_fits op))
+said_fits (Reply inc act n told) = nat_lt 0 inc && (nat_lt 0 act && (nat_lt 0 n && answer_fits told))
+said_fits (Write inc act s w content) = nat_lt 0 inc && (nat_lt 0 act && (nat_lt 0 s && (nat_lt 0 w && is_within content)))
+said_fits (Ask inc act g) = nat_lt 0 inc && (nat_lt 0 act && nat_lt 0 g)
+
 abbrev pub fits : Frame → Bool
-fits (Message (Call inc act n op)) = nat_lt 0 inc && (nat_lt 0 act && (nat_lt 0 n && operation_fits op))
-fits (Message (Reply inc act n said)) = nat_lt 0 inc && (nat_lt 0 act && (nat_lt 0 n && answer_fits said))
-fits (Message (Write inc act s w content)) = nat_lt 0 inc && (nat_lt 0 act && (nat_lt 0 s && (nat_lt 0 w && is_within content)))
-fits (Message (Ask inc act g)) = nat_lt 0 inc && (nat_lt 0 act && nat_lt 0 g)
+fits (Message m) = nat_lt 0 m.session && said_fits m.said
 fits Turn = true
 
 -- What the types of the code give of each frame: numbers have four bytes, class ids 16, names are names in order, and
@@ -67,11 +71,14 @@ IsAnswer (Tools m border) =
     × (length border ≡ 4) × AllByRecursion (λ n. n < 2 ^ 16) border
 IsAnswer _ = Unit {0}
 
+abbrev pub IsSaid : Said → Type 0
+IsSaid (Call inc act n op) = (inc < 2 ^ 32) × (act < 2 ^ 32) × (n < 2 ^ 32) × IsOperation op
+IsSaid (Reply inc act n told) = (inc < 2 ^ 32) × (act < 2 ^ 32) × (n < 2 ^ 32) × IsAnswer told
+IsSaid (Write inc act s w content) = (inc < 2 ^ 32) × (act < 2 ^ 32) × (s < 2 ^ 32) × (w < 2 ^ 32) × IsContent content
+IsSaid (Ask inc act g) = (inc < 2 ^ 32) × (act < 2 ^ 32) × (g < 2 ^ 32)
+
 abbrev pub IsValue : Frame → Type 0
-IsValue (Message (Call inc act n op)) = (inc < 2 ^ 32) × (act < 2 ^ 32) × (n < 2 ^ 32) × IsOperation op
-IsValue (Message (Reply inc act n said)) = (inc < 2 ^ 32) × (act < 2 ^ 32) × (n < 2 ^ 32) × IsAnswer said
-IsValue (Message (Write inc act s w content)) = (inc < 2 ^ 32) × (act < 2 ^ 32) × (s < 2 ^ 32) × (w < 2 ^ 32) × IsContent content
-IsValue (Message (Ask inc act g)) = (inc < 2 ^ 32) × (act < 2 ^ 32) × (g < 2 ^ 32)
+IsValue (Message m) = (m.session < 2 ^ 32) × IsSaid m.said
 IsValue Turn = Unit {0}
 
 pub record IsFrame (f : Frame) : Type 0 where
@@ -101,7 +108,7 @@ shown_kind (kind ∷ rest) = cond (is_some (kind_of kind)) (shown_length rest) (
 
 abbrev pub shown_version : List ℕ → Option WireFault
 shown_version [] = None
-shown_version (version ∷ rest) = cond (nat_eq version 1) (shown_kind rest) (Some BadVersion)
+shown_version (version ∷ rest) = cond (nat_eq version 2) (shown_kind rest) (Some BadVersion)
 
 abbrev pub shown : List ℕ → Option WireFault
 shown (a ∷ b ∷ c ∷ d ∷ rest) = cond (nat_eq a 79 && (nat_eq b 76 && (nat_eq c 67 && nat_eq d 77))) (shown_version rest) (Some BadMagic)

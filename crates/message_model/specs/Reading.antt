@@ -149,10 +149,26 @@ answer said.Refused k = byte (λ b. some (λ refusal. k (ans.Refused refusal)) (
 answer said.Content k = stored (λ content. k (ans.Content content))
 answer said.Tools k = tools k
 
+-- what is said of each kind, behind the session that it is said in
+abbrev pub call_in : ℕ → Reader
+call_in session =
+    number (λ inc. number (λ act. number (λ n. byte (λ b. some (λ c. operation c (λ o. whole (Message (record { session = session; said = Call inc act n o })))) (operation_code_of b)))))
+
+abbrev pub reply_in : ℕ → Reader
+reply_in session =
+    number (λ inc. number (λ act. number (λ n. byte (λ b. some (λ c. answer c (λ a. whole (Message (record { session = session; said = Reply inc act n a })))) (answer_code_of b)))))
+
+abbrev pub write_in : ℕ → Reader
+write_in session =
+    number (λ inc. number (λ act. number (λ s. number (λ w. stored (λ content. whole (Message (record { session = session; said = Write inc act s w content })))))))
+
+abbrev pub ask_in : ℕ → Reader
+ask_in session = number (λ inc. number (λ act. number (λ g. whole (Message (record { session = session; said = Ask inc act g })))))
+
 -- a body of a kind
 unfoldable pub read_body : Kind → Reader
-read_body kind.Call = number (λ inc. number (λ act. number (λ n. byte (λ b. some (λ c. operation c (λ o. whole (Message (Call inc act n o)))) (operation_code_of b)))))
-read_body kind.Reply = number (λ inc. number (λ act. number (λ n. byte (λ b. some (λ c. answer c (λ a. whole (Message (Reply inc act n a)))) (answer_code_of b)))))
-read_body kind.Write = number (λ inc. number (λ act. number (λ s. number (λ w. stored (λ content. whole (Message (Write inc act s w content)))))))
-read_body kind.Ask = number (λ inc. number (λ act. number (λ g. whole (Message (Ask inc act g)))))
+read_body kind.Call = number call_in
+read_body kind.Reply = number reply_in
+read_body kind.Write = number write_in
+read_body kind.Ask = number ask_in
 read_body kind.Turn = whole Turn

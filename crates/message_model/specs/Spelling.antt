@@ -1,5 +1,5 @@
--- The one byte form of a frame: `OLCM`, the version 1, its kind, the length of its body in four bytes, and its body. All
--- numbers stand with their low bytes first.
+-- The one byte form of a frame: `OLCM`, the version 2, its kind, the length of its body in four bytes, and its body. All
+-- numbers stand with their low bytes first. The body of a message begins with its session.
 use Rattle.std.specs.Prelude.{ℕ, Bool, true, false, List, [], ◌∷◌, ◌++◌, length}
 use Rattle.std.specs.Int.{w16, w32, to_le_bytes}
 use Rattle.object_state.specs.declared.operations.CloseOption.{CloseOption}
@@ -12,6 +12,7 @@ use Rattle.wire_msgs.specs.declared.operation.Operation.{Operation}
 use Rattle.wire_msgs.specs.declared.operation.Operation.TheVariants.{InitNew, Load, InPlace, UiActivate, UiDeactivate, InPlaceDeactivate, OpenWindow, Edit, Save, HandsOff, SaveCompleted, SaveDropped, Close}
 use Rattle.wire_msgs.specs.declared.answer.Answer.{Answer}
 use Rattle.wire_msgs.specs.declared.answer.Answer.TheVariants.{Done, Refused, Content, Tools}
+use Rattle.wire_msgs.specs.declared.message.Said.{Said}
 use Rattle.wire_msgs.specs.declared.message.Said.TheVariants.{Call, Reply, Write, Ask}
 use Rattle.message_model.specs.declared.frame.Frame.{Frame}
 use Rattle.message_model.specs.declared.frame.Frame.TheVariants.{Message, Turn}
@@ -79,18 +80,24 @@ answer (Content content) = 2 ∷ stored content
 answer (Tools m border) = 3 ∷ (text m.edit ++ (text m.object ++ (text m.help ++ widths border)))
 
 -- a kind's number, and a body
+abbrev pub said_kind : Said → ℕ
+said_kind (Call inc act n op) = 1
+said_kind (Reply inc act n told) = 2
+said_kind (Write inc act s w content) = 3
+said_kind (Ask inc act g) = 4
+
 abbrev pub kind : Frame → ℕ
-kind (Message (Call inc act n op)) = 1
-kind (Message (Reply inc act n said)) = 2
-kind (Message (Write inc act s w content)) = 3
-kind (Message (Ask inc act g)) = 4
+kind (Message m) = said_kind m.said
 kind Turn = 5
 
+abbrev pub said_body : Said → List ℕ
+said_body (Call inc act n op) = four_bytes inc ++ (four_bytes act ++ (four_bytes n ++ operation op))
+said_body (Reply inc act n told) = four_bytes inc ++ (four_bytes act ++ (four_bytes n ++ answer told))
+said_body (Write inc act s w content) = four_bytes inc ++ (four_bytes act ++ (four_bytes s ++ (four_bytes w ++ stored content)))
+said_body (Ask inc act g) = four_bytes inc ++ (four_bytes act ++ four_bytes g)
+
 abbrev pub body : Frame → List ℕ
-body (Message (Call inc act n op)) = four_bytes inc ++ (four_bytes act ++ (four_bytes n ++ operation op))
-body (Message (Reply inc act n said)) = four_bytes inc ++ (four_bytes act ++ (four_bytes n ++ answer said))
-body (Message (Write inc act s w content)) = four_bytes inc ++ (four_bytes act ++ (four_bytes s ++ (four_bytes w ++ stored content)))
-body (Message (Ask inc act g)) = four_bytes inc ++ (four_bytes act ++ four_bytes g)
+body (Message m) = four_bytes m.session ++ said_body m.said
 body Turn = []
 
 -- "OLCM"
@@ -99,7 +106,7 @@ MAGIC = 79 ∷ 76 ∷ 67 ∷ 77 ∷ []
 
 -- the ten bytes before a body of this kind and length
 abbrev pub head : ℕ → ℕ → List ℕ
-head kind len = 79 ∷ 76 ∷ 67 ∷ 77 ∷ 1 ∷ kind ∷ four_bytes len
+head kind len = 79 ∷ 76 ∷ 67 ∷ 77 ∷ 2 ∷ kind ∷ four_bytes len
 
 abbrev pub spell : Frame → List ℕ
 spell frame = head (kind frame) (length (body frame)) ++ body frame

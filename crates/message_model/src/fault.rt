@@ -9,7 +9,7 @@ pub enum WireFault {
     /// The first four bytes aren't `OLCM`.
     #[error("a frame begins with other bytes")]
     BadMagic,
-    /// The version isn't 1.
+    /// The version isn't 2.
     #[error("a frame has another version")]
     BadVersion,
     /// There is no such kind of frame.

@@ -2,6 +2,7 @@ ghost use Rattle.std.specs.Prelude.{◌≤◌, length};
 
 use crate::contents::{bytes_of, put};
 use crate::pieces::{encoded, next_is};
+use crate::texts::spelled;
 use message_bodies::body::{BodyFault, number_in, read_body};
 use message_bytes::codes::Kind;
 use message_bytes::decoder::Decoder;
@@ -12,13 +13,18 @@ use std::process::Abort;
 use stored_streams::stored::Stored;
 use stored_values::class_id::ClassId;
 use wire_msgs::answer::Answer;
-use wire_msgs::message::Message;
+use wire_msgs::message::{Message, Said};
 use wire_msgs::operation::Operation;
 use wire_msgs::refusal::Refusal;
 
+/// What is said in session 1.
+fn said(said: Said) -> Frame {
+    Frame::Message(Message { session: 1, said })
+}
+
 /// The call of an operation under 1, 2, 3.
 fn call(operation: Operation) -> Frame {
-    Frame::Message(Message::Call {
+    said(Said::Call {
         inc: 1,
         act: 2,
         n: 3,
@@ -28,7 +34,7 @@ fn call(operation: Operation) -> Frame {
 
 /// The reply of an answer under 1, 2, 3.
 fn reply(answer: Answer) -> Frame {
-    Frame::Message(Message::Reply {
+    said(Said::Reply {
         inc: 1,
         act: 2,
         n: 3,
@@ -59,7 +65,7 @@ fn tools(rt: &impl Abort) -> Frame {
 
 /// A write.
 fn write(rt: &impl Abort, alloc: Global) -> Frame {
-    Frame::Message(Message::Write {
+    said(Said::Write {
         inc: 1,
         act: 2,
         s: 3,
@@ -92,7 +98,7 @@ fn frame_at(rt: &impl Abort, alloc: Global, at: u32) -> Frame {
         15 => reply(Answer::Content(content(rt, alloc))),
         16 => tools(rt),
         17 => write(rt, alloc),
-        18 => Frame::Message(Message::Ask {
+        18 => said(Said::Ask {
             inc: 1,
             act: 2,
             g: 3,
@@ -143,6 +149,20 @@ fn each_frame_comes_again_at_every_cut(rt: HostRuntime) {
     for at in 0..20 {
         assert!(rt; comes_at_every_cut(&rt, rt.alloc(), at), "frame {at}");
     }
+}
+
+/// The call of UiDeactivate under 1, 2, 3 in session 1, byte for byte.
+const CALL: &str = "4f4c434d,02,01,11000000,01000000,01000000,02000000,03000000,05";
+
+fn is_call(rt: &impl Abort, alloc: Global, bytes: &[u8]) -> bool {
+    encoded(rt, alloc, &call(Operation::UiDeactivate)).as_slice() == bytes
+}
+
+#[test]
+fn a_call_is_as_it_is_written(rt: HostRuntime) {
+    let bytes = spelled(&rt, rt.alloc(), CALL);
+    assert!(rt; is_call(&rt, rt.alloc(), &bytes));
+    assert!(rt; first_bad_cut(&rt, rt.alloc(), &bytes).is_none());
 }
 
 /// Whether the body of a turn is read whole, or is bad.

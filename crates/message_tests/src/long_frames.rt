@@ -1,4 +1,4 @@
-//! Frames of more than 82 bytes, whose blobs come in pieces.
+//! Frames of more than 86 bytes, whose blobs come in pieces.
 
 ghost use Rattle.std.specs.Prelude.{◌<◌};
 
@@ -13,7 +13,7 @@ use std::process::Abort;
 use stored_streams::stored::Stored;
 use stored_values::class_id::ClassId;
 use wire_msgs::answer::Answer;
-use wire_msgs::message::Message;
+use wire_msgs::message::{Message, Said};
 use wire_msgs::operation::Operation;
 
 /// A stream of no bytes, one of 50, and a picture of 30.
@@ -25,9 +25,14 @@ fn content(rt: &impl Abort, alloc: Global) -> Stored {
     stored
 }
 
+/// What is said in session 5.
+fn said(said: Said) -> Frame {
+    Frame::Message(Message { session: 5, said })
+}
+
 /// A call under 1, 2, 3.
 fn call(operation: Operation) -> Frame {
-    Frame::Message(Message::Call {
+    said(Said::Call {
         inc: 1,
         act: 2,
         n: 3,
@@ -40,13 +45,13 @@ fn frame_at(rt: &impl Abort, alloc: Global, at: u32) -> Frame {
     match at {
         0 => call(Operation::Edit(bytes(rt, alloc, 90))),
         1 => call(Operation::Load(ClassId::from_bytes([7; 16]), content(rt, alloc))),
-        2 => Frame::Message(Message::Reply {
+        2 => said(Said::Reply {
             inc: 1,
             act: 2,
             n: 3,
             answer: Answer::Content(content(rt, alloc)),
         }),
-        _ => Frame::Message(Message::Write {
+        _ => said(Said::Write {
             inc: 1,
             act: 2,
             s: 3,
@@ -63,7 +68,7 @@ fn spelled_at(rt: &impl Abort, alloc: Global, at: u32) -> Vec<u8> {
 
 fn comes_however(rt: &impl Abort, alloc: Global, at: u32) -> bool {
     let bytes = spelled_at(rt, alloc, at);
-    82 < bytes.len()
+    86 < bytes.len()
         && first_bad_cut(rt, alloc, &bytes).is_none()
         && comes_in_pieces(rt, alloc, &bytes, 1)
 }
@@ -114,7 +119,7 @@ fn thrice(rt: &impl Abort, alloc: Global, spelled: &[u8]) -> Vec<u8> {
 fn long_frames_come_one_behind_the_other(rt: HostRuntime) {
     let spelled = spelled_at(&rt, rt.alloc(), 3);
     let all = thrice(&rt, rt.alloc(), &spelled);
-    for len in [1, 60, 127, 200, 378] {
+    for len in [1, 60, 131, 200, 390] {
         assert!(rt;
             three_come(&rt, rt.alloc(), &all, len, &spelled),
             "pieces of {len}"
@@ -122,20 +127,21 @@ fn long_frames_come_one_behind_the_other(rt: HostRuntime) {
     }
 }
 
-/// A byte of a frame of 126 bytes, and another in its place: the kind, a number, the count, the lengths of a name, a name,
-/// the lengths of a stream and of the picture.
+/// A byte of a frame of 130 bytes, and another in its place: the kind, the session, a number, the count, the lengths of a
+/// name, a name, the lengths of a stream and of the picture.
 const CHANGED: &str = "5 01
 5 02
 5 04
 5 05
 10 00
-26 09
-27 00
-27 20
-28 2f
-38 ff
-92 1d
-92 1f";
+14 00
+30 09
+31 00
+31 20
+32 2f
+42 ff
+96 1d
+96 1f";
 
 fn changed(rt: &impl Abort, alloc: Global, at: usize, byte: &str) -> Vec<u8> {
     let mut bytes = spelled_at(rt, alloc, 3);
@@ -154,7 +160,7 @@ fn is_bad(rt: &impl Abort, alloc: Global, row: &str) -> bool {
     let mut words = row.split_whitespace();
     let at = number(word(&mut words));
     let bytes = changed(rt, alloc, at, word(&mut words));
-    bytes.len() == 126 && is_shown_at(alloc, &bytes, 125, "BadField")
+    bytes.len() == 130 && is_shown_at(alloc, &bytes, 129, "BadField")
 }
 
 #[test]

@@ -12,19 +12,23 @@ use std::alloc::Global;
 use std::process::Abort;
 use stored_streams::stored::Stored;
 use stored_streams::streams::Streams;
-use wire_msgs::message::Message;
+use wire_msgs::message::{Message, Said};
 use wire_msgs::operation::Operation;
 
-/// Bytes that are fed, how that is answered, and what comes then. A call of UiDeactivate under 1, 2, 3 comes with its last
-/// byte; behind it a frame of no kind is refused, and so is all from then on.
+/// Bytes that are fed, how that is answered, and what comes then. A call of UiDeactivate under 1, 2, 3 in session 1 comes
+/// with its last byte; behind it a frame of no kind is refused, and so is all from then on.
 const FED: &str = ". ok none
 4f ok none
 4c ok none
 43 ok none
 4d ok none
+02 ok none
 01 ok none
+11 ok none
+00 ok none
+00 ok none
+00 ok none
 01 ok none
-0d ok none
 00 ok none
 00 ok none
 00 ok none
@@ -41,7 +45,7 @@ const FED: &str = ". ok none
 00 ok none
 00 ok none
 05 ok UiDeactivate
-4f4c434d,01 ok none
+4f4c434d,02 ok none
 09 BadKind BadKind
 00 BadKind BadKind
 00 BadKind BadKind";
@@ -49,11 +53,14 @@ const FED: &str = ". ok none
 fn is_deactivate(frame: &Frame) -> bool {
     match frame {
         Frame::Message(
-            Message::Call {
-                inc: 1,
-                act: 2,
-                n: 3,
-                operation: Operation::UiDeactivate,
+            Message {
+                session: 1,
+                said: Said::Call {
+                    inc: 1,
+                    act: 2,
+                    n: 3,
+                    operation: Operation::UiDeactivate,
+                },
             },
         ) => true,
         _ => false,
@@ -105,15 +112,24 @@ fn shown(alloc: Global, bytes: &[u8]) -> (usize, Option<WireFault>) {
 }
 
 /// Bytes, the one at which a fault is shown, and the fault: of the magic, the version, the kind, the length; a turn with a
-/// body, an ask with the number 0, a byte past the last field, a call without a body.
+/// body, an ask with the number 0, a byte past the last field, a call without a body; a call, a reply, a write and an ask
+/// of session 0; a call of version 1 with its body, and an ask without a session.
 const FAULTS: &str = "0001020304 3 BadMagic
-4f4c434d,02,01 4 BadVersion
-4f4c434d,01,00,01 5 BadKind
-4f4c434d,01,05,01001000,00 9 TooLong
-4f4c434d,01,05,02000000,010101 11 BadField
-4f4c434d,01,04,0c000000,01000000,00000000,03000000 21 BadField
-4f4c434d,01,04,0d000000,01000000,02000000,03000000,00 22 BadField
-4f4c434d,01,01,00000000 9 BadField";
+4f4c434d,01,01 4 BadVersion
+4f4c434d,03,01 4 BadVersion
+4f4c434d,02,00,01 5 BadKind
+4f4c434d,02,09 5 BadKind
+4f4c434d,02,05,01001000,00 9 TooLong
+4f4c434d,02,05,02000000,010101 11 BadField
+4f4c434d,02,04,10000000,01000000,01000000,00000000,03000000 25 BadField
+4f4c434d,02,04,11000000,01000000,01000000,02000000,03000000,00 26 BadField
+4f4c434d,02,01,00000000 9 BadField
+4f4c434d,02,01,11000000,00000000,01000000,02000000,03000000,05 26 BadField
+4f4c434d,02,02,11000000,00000000,01000000,02000000,03000000,00 26 BadField
+4f4c434d,02,03,19000000,00000000,01000000,02000000,03000000,04000000,00,00000000 34 BadField
+4f4c434d,02,04,10000000,00000000,01000000,02000000,03000000 25 BadField
+4f4c434d,01,01,0d000000,01000000,02000000,03000000,05 4 BadVersion
+4f4c434d,02,04,0c000000,01000000,02000000,03000000 21 BadField";
 
 /// Whether bytes show this fault with the byte at this place.
 pub(crate) fn is_shown_at(alloc: Global, bytes: &[u8], at: usize, want: &str) -> bool {
@@ -150,16 +166,17 @@ fn is_begun(alloc: Global, bytes: &[u8]) -> bool {
 }
 
 /// The beginning of a write whose body has 1,048,576 bytes: its head, and ten bytes of its numbers.
-const LONG: &str = "4f4c434d,01,03,00001000,01000000,01000000,0100";
+const LONG: &str = "4f4c434d,02,03,00001000,01000000,01000000,0100";
 
 fn write_of(content: Stored) -> Frame {
-    Frame::Message(Message::Write {
+    let said = Said::Write {
         inc: 1,
         act: 1,
         s: 1,
         w: 1,
         content,
-    })
+    };
+    Frame::Message(Message { session: 1, said })
 }
 
 /// A write of so many bytes in its picture.
@@ -236,13 +253,13 @@ fn comes(rt: &impl Abort, alloc: Global, large: &[u8]) -> bool {
 }
 
 fn first(large: &[u8]) -> &[u8] {
-    large.get(..26).unwrap_or(&[])
+    large.get(..30).unwrap_or(&[])
 }
 
 #[test]
 fn a_large_write_comes_in_pieces(rt: HostRuntime) {
     let large = encoded(&rt, rt.alloc(), &write(&rt, rt.alloc(), 262_144));
-    assert!(rt; large.len() == 10 + 16 + 1 + 4 + 262_144);
+    assert!(rt; large.len() == 10 + 20 + 1 + 4 + 262_144);
     assert!(rt; is_added(&rt, rt.alloc(), &write(&rt, rt.alloc(), 262_144), &large));
     assert!(rt; comes(&rt, rt.alloc(), &large));
     assert!(rt; is_begun(rt.alloc(), first(&large)));

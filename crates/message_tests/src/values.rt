@@ -11,7 +11,7 @@ use stored_values::bytes::Bytes;
 use stored_values::class_id::ClassId;
 use wire_msgs::answer::Answer;
 use wire_msgs::items::Items;
-use wire_msgs::message::Message;
+use wire_msgs::message::{Message, Said};
 use wire_msgs::operation::Operation;
 use wire_msgs::refusal::Refusal;
 
@@ -156,24 +156,25 @@ fn an_answer_is_copied(rt: HostRuntime) {
 }
 
 /// Whether a message is a Write with these numbers.
-fn is_write(message: &Message, numbers: [u32; 4]) -> bool {
-    match message {
-        Message::Write { inc, act, s, w, .. } => [*inc, *act, *s, *w] == numbers,
+fn is_write(message: &Message, numbers: [u32; 5]) -> bool {
+    match &message.said {
+        Said::Write { inc, act, s, w, .. } => [message.session, *inc, *act, *s, *w] == numbers,
         _ => false,
     }
 }
 
 #[test]
 fn a_message_is_copied(rt: HostRuntime) {
-    let message = Message::Write {
+    let said = Said::Write {
         inc: 1,
         act: 2,
         s: 3,
         w: 4,
         content: Stored::new(rt.alloc()),
     };
+    let message = Message { session: 5, said };
     let copy = message.copy(rt.alloc()).expect(&rt, "memory");
-    assert!(rt; is_write(&copy, [1, 2, 3, 4]));
+    assert!(rt; is_write(&copy, [5, 1, 2, 3, 4]));
 }
 
 fn push(rt: &impl Abort, alloc: Global, items: &mut Vec<NamedStream>, text: &str) {

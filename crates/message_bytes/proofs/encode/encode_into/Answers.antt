@@ -9,7 +9,7 @@ pub returns-in-Ok : goal.returns-in-Ok
 returns-in-Ok c =
     let may : fits c.args.frame.now ≡ true = search rules in
     let here : c.len-at.result ≡ length c.args.out.now.items = search rules in
-    let head : List ℕ = 79 ∷ 76 ∷ 67 ∷ 77 ∷ 1 ∷ kind c.args.frame.now ∷ 0 ∷ 0 ∷ 0 ∷ 0 ∷ [] in
+    let head : List ℕ = 79 ∷ 76 ∷ 67 ∷ 77 ∷ 2 ∷ kind c.args.frame.now ∷ 0 ∷ 0 ∷ 0 ∷ 0 ∷ [] in
     let begun : List ℕ = c.args.out.now.items ++ head in
     let whole : c.deref_mut.result.now ≡ begun ++ body c.args.frame.now = c.deref_mut.ensures.value ∙ c.in-Ok.ensures.added.added in
     let many : length c.deref_mut.result.now ≡ length begun + length (body c.args.frame.now) = ap length whole ∙ length-append begun (body c.args.frame.now) in

@@ -10,7 +10,7 @@ returns-in_default-clause-made c = finished_other c.args.self.now.plan.phase c.a
 
 pub returns-in-Edit-clause-made : goal.returns-in-Edit-clause-made
 returns-in-Edit-clause-made c =
-    ap Some (c.call.ensures ∙ ap (λ (b : List ℕ). call_of c.in-Edit.inc c.in-Edit.act c.in-Edit.n (op.Edit b)) c.in_ok-picture.ensures.given ∙ ap (λ (o : Opening). frame_of o c.args.self.now.streams.items c.args.self.now.picture) (sym c.in-Edit.is))
+    ap Some (c.call.ensures ∙ ap (λ (b : List ℕ). call_of c.in-Edit.session c.in-Edit.inc c.in-Edit.act c.in-Edit.n (op.Edit b)) c.in_ok-picture.ensures.given ∙ ap (λ (o : Opening). frame_of o c.args.self.now.streams.items c.args.self.now.picture) (sym c.in-Edit.is))
     ∙ finished_picture c.args.self.now c.requires.planned c.requires.whole c.in-Picture.is
 
 pub returns-clause-made : goal.returns-clause-made
