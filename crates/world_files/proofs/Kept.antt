@@ -50,6 +50,7 @@ use Rattle.world_files.proofs.Commits.{commits_moved, commits_framed, commits_co
 use Rattle.world_files.proofs.InTurn.{turns_asking, turns_fewer, turns_more, turns_same}
 use Rattle.world_files.proofs.Filing.{stored_asking, stored_same, stored_framed, stored_committed}
 use Rattle.wire_msgs.specs.declared.message.Said.{Said}
+use Rattle.world_model.proofs.InRun.{in_run_ok}
 
 -- the world in which nothing has happened
 pub empty_files : (numbers : ℕ) (stock : List Kind) → Files (empty_world numbers stock)
@@ -355,10 +356,10 @@ pub files_happened : (w : World) (choice : Choice) (e : Event) (v : World) → S
 files_happened w choice (event.Command c) v s k im e = subst Files (ok_is _ v e) (files_commanded w c (on_command w.rec c) k (λ t g. files_command w c t s k g))
 files_happened w choice (event.Deliver p) v s k im e = files_deliver w p (nth w.sent p) v k e
 files_happened w choice (event.Forge inc m) v s k im e = files_forge w inc m (nth w.instances inc) v k e
-files_happened w choice (event.Crash inc) v s k im e = files_crash w inc (nth w.instances inc) v k e
+files_happened w choice (event.Crash s inc) v st k im e = files_crash w inc (nth w.instances inc) v k (in_run_ok w s (crash w inc (nth w.instances inc)) v e)
 files_happened w choice (event.Reap inc) v s k im e = files_reap w inc (nth w.instances inc) v k e
-files_happened w choice (event.Scribble inc act) v s k im e = files_scribble w inc act (nth w.instances inc) v k e
-files_happened w choice (event.Ask inc act) v s k im e = files_ask w inc act (nth w.instances inc) v k e
+files_happened w choice (event.Scribble s inc act) v st k im e = files_scribble w inc act (nth w.instances inc) v k (in_run_ok w s (scribble w inc act (nth w.instances inc)) v e)
+files_happened w choice (event.Ask s inc act) v st k im e = files_ask w inc act (nth w.instances inc) v k (in_run_ok w s (ask w inc act (nth w.instances inc)) v e)
 files_happened w choice (event.Done f) v s k im e = files_done_in w f choice.file (commit_done w.rec f) (nth w.rec.frames f) v s k refl (λ x at. done_commits w.rec f x at) im e
 files_happened w choice (event.Fail f) v s k im e = files_only w (commit_failed w.rec f) v k (failed_quiet w.rec f) e
 files_happened w choice (event.Resolve f is_kept) v s k im e = files_resolved w choice f is_kept v s k im e

@@ -1,5 +1,5 @@
 -- Each event that is taken is answered, and no more of them than a world takes.
-use Rattle.std.proofs.Common.{◌≡◌, ◌≤◌, ◌<◌, ◌+◌, ◌++◌, ℕ, Bool, true, false, List, [], ◌∷◌, Option, Some, None, Result, Ok, Err, length, refl, ap, arith, nat_le, cond, length-append}
+use Rattle.std.proofs.Common.{◌≡◌, ◌≤◌, ◌<◌, ◌+◌, ◌++◌, ℕ, Bool, true, false, List, [], ◌∷◌, Option, Some, None, Result, Ok, Err, length, refl, ap, arith, nat_le, cond, length-append, ◌==◌, if◌then◌else◌}
 use Rattle.std.proofs.lemmas.Bool.Decides.{nat_tests}
 use Rattle.embed_core.specs.Kinds.{Kind}
 use Rattle.wire_msgs.specs.declared.message.Message.{Message}
@@ -18,11 +18,11 @@ use Rattle.container_model.specs.declared.answer.FrameDocument.{FrameDocument}
 use Rattle.container_model.specs.declared.command.Command.{Command}
 use Rattle.container_model.specs.declared.fault.ContainerFault.{ContainerFault}
 use Rattle.container_model.specs.declared.record.Frame.{Frame}
-use Rattle.world_model.specs.World.{World, Instance, took, commanded, served, stocked, called_wanting, called_in, called, delivered, taken_at, with_taken, deliver, forged, forge, spoken_by, spoken, scribble, ask, crashed, crash, ended, reap, done_taken, done_imaged, done_in, only_taken, resolved, happened, limited, Run, MOST_EVENTS, is_of, Choice, in_session, delivered_said, link_of, link_to}
+use Rattle.world_model.specs.World.{World, Instance, took, commanded, served, stocked, called_wanting, called_in, called, delivered, taken_at, with_taken, deliver, forged, forge, spoken_by, spoken, scribble, ask, crashed, crash, ended, reap, done_taken, done_imaged, done_in, only_taken, resolved, happened, limited, Run, MOST_EVENTS, is_of, Choice, in_session, delivered_said, link_of, link_to, in_run}
 use Rattle.world_model.specs.declared.event.Event.{Event}
 use Rattle.world_model.specs.declared.event.Event.TheVariants as event
 use Rattle.world_model.specs.declared.event.Stop.{Stop}
-use Rattle.world_model.specs.declared.event.Stop.TheVariants.{EventLimit}
+use Rattle.world_model.specs.declared.event.Stop.TheVariants.{EventLimit, NotEnabled}
 use Rattle.world_model.specs.declared.life.Life.{Life}
 use Rattle.world_model.specs.declared.life.Life.TheVariants.{Running, Ended, Reaped}
 use Rattle.world_model.specs.declared.logs.Sent.{Sent}
@@ -151,18 +151,21 @@ resolved-taken : (w : World) (f : ℕ) (is_kept : Bool) (bytes : List ℕ) → I
 resolved-taken w f true bytes = done_in-taken w f bytes (resolve w.rec f true) (nth w.rec.frames f)
 resolved-taken w f false bytes = only_taken-taken w (resolve w.rec f false)
 
+run-taken : (w : World) (s : ℕ) (r : Result World Stop) → IfTaken w r → IfTaken w (in_run w s r)
+run-taken w s r one = elim (s == w.rec.session) as (λ b. IfTaken w (if b then r else Err NotEnabled)) [ true ↦ one | false ↦ tt ]
+
 happened-taken : (w : World) (choice : Choice) (e : Event) → IfTaken w (happened w choice e)
 happened-taken w choice (event.Command c) = commanded-more w c (on_command w.rec c)
 happened-taken w choice (event.Deliver p) = deliver-taken w p (nth w.sent p)
 happened-taken w choice (event.Forge inc m) = forge-taken w inc m (nth w.instances inc)
-happened-taken w choice (event.Crash inc) = crash-taken w inc (nth w.instances inc)
+happened-taken w choice (event.Crash s inc) = run-taken w s (crash w inc (nth w.instances inc)) (crash-taken w inc (nth w.instances inc))
 happened-taken w choice (event.Reap inc) = reap-taken w inc (nth w.instances inc)
 happened-taken w choice (event.Done f) = done_in-taken w f choice.file (commit_done w.rec f) (nth w.rec.frames f)
 happened-taken w choice (event.Fail f) = only_taken-taken w (commit_failed w.rec f)
 happened-taken w choice (event.Resolve f is_kept) = resolved-taken w f is_kept choice.file
 happened-taken w choice (event.Open name width height) = took-more w (opened w.rec name width height choice.given)
-happened-taken w choice (event.Ask inc act) = ask-taken w inc act (nth w.instances inc)
-happened-taken w choice (event.Scribble inc act) = scribble-taken w inc act (nth w.instances inc)
+happened-taken w choice (event.Ask s inc act) = run-taken w s (ask w inc act (nth w.instances inc)) (ask-taken w inc act (nth w.instances inc))
+happened-taken w choice (event.Scribble s inc act) = run-taken w s (scribble w inc act (nth w.instances inc)) (scribble-taken w inc act (nth w.instances inc))
 
 limited-few : (w next : World) (r : Result World Stop) → IfTaken w r → limited w r ≡ Ok next → length next.answers ≤ MOST_EVENTS
 limited-few w next (Err stop) one is = absurd (cc)

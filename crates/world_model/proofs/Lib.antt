@@ -3,3 +3,4 @@ pub mod Counted
 pub mod Granted
 pub mod Opened
 pub mod Renamed
+pub mod InRun

@@ -59,7 +59,7 @@ pub record IsInTurn : Type 0 where
 
 -- A server that crashes while its note holds the frame: nobody holds it any more, and the reap frees it.
 abbrev pub held_lost : List Event
-held_lost = edited ++ Scribble 1 1 ∷ Deliver 5 ∷ Command (Edit 1 (codes "i 2 c")) ∷ Deliver 6 ∷ Deliver 7 ∷ Scribble 1 1 ∷ Deliver 8 ∷ activating 1 ∷ Deliver 9 ∷ Deliver 10 ∷ Deliver 11 ∷ Deliver 12 ∷ Crash 1 ∷ []
+held_lost = edited ++ Scribble 1 1 1 ∷ Deliver 5 ∷ Command (Edit 1 (codes "i 2 c")) ∷ Deliver 6 ∷ Deliver 7 ∷ Scribble 1 1 1 ∷ Deliver 8 ∷ activating 1 ∷ Deliver 9 ∷ Deliver 10 ∷ Deliver 11 ∷ Deliver 12 ∷ Crash 1 1 ∷ []
 
 abbrev pub held_again : List Event
 held_again = held_lost ++ Reap 1 ∷ Command Start ∷ Command (Run 1 2) ∷ Deliver 13 ∷ Deliver 14 ∷ Deliver 12 ∷ []
@@ -80,7 +80,7 @@ abbrev pub drawn_in : ℕ → List Event
 drawn_in w = Command (New (codes "a") w 10) ∷ Command (Insert 1 chosen.Drawing (area 0 0 3 3)) ∷ Command Start ∷ Command (Run 1 1) ∷ Deliver 1 ∷ Deliver 2 ∷ Command (Verb 1 (pos 0)) ∷ Deliver 3 ∷ Deliver 4 ∷ Deliver 5 ∷ Deliver 6 ∷ []
 
 abbrev pub offered : List Event
-offered = drawn_in 3 ++ Ask 1 1 ∷ Deliver 7 ∷ Deliver 8 ∷ Deliver 9 ∷ Deliver 7 ∷ Ask 1 1 ∷ []
+offered = drawn_in 3 ++ Ask 1 1 1 ∷ Deliver 7 ∷ Deliver 8 ∷ Deliver 9 ∷ Deliver 7 ∷ Ask 1 1 1 ∷ []
 
 pub record IsOffered : Type 0 where
   pub answers : answered (stocked offered) ≡ frame 1 ∷ object 1 ∷ server 1 ∷ sent 1 ∷ sent 2 ∷ ok ∷ sent 3 ∷ sent 4 ∷ sent 5 ∷ sent 6 ∷ no_tools ∷ sent 7 ∷ sent 8 ∷ sent 9 ∷ ok ∷ Refused Stale ∷ Dropped Ignored ∷ []

@@ -63,7 +63,7 @@ pub record IsReopened : Type 0 where
 -- A server that ends while storages are given away: what its note answered is saved, under the other name. So is a frame
 -- whose objects are all passive, at once.
 abbrev pub crashed_away : List Event
-crashed_away = asked_away ++ Crash 1 ∷ Reap 1 ∷ Done 1 ∷ []
+crashed_away = asked_away ++ Crash 1 1 ∷ Reap 1 ∷ Done 1 ∷ []
 
 abbrev pub renamed_passive : List Event
 renamed_passive = crashed_late ++ renaming ∷ Done 1 ∷ []

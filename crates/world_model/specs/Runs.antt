@@ -103,7 +103,7 @@ pub record IsSaved : Type 0 where
 
 -- A server that crashes before the save: the note is as it was when it was made, and another server may start.
 abbrev pub crashed_early : List Event
-crashed_early = edited ++ Crash 1 ∷ Reap 1 ∷ Command Start ∷ []
+crashed_early = edited ++ Crash 1 1 ∷ Reap 1 ∷ Command Start ∷ []
 
 pub record IsLost : Type 0 where
   pub answers : answered (from_start crashed_early) ≡ answered (from_start edited) ++ ok ∷ ok ∷ server 2 ∷ []
@@ -114,7 +114,7 @@ pub record IsLost : Type 0 where
 
 -- A server that crashes when the commit is asked: what it answered is saved.
 abbrev pub crashed_late : List Event
-crashed_late = saved ++ Crash 1 ∷ Reap 1 ∷ Done 1 ∷ []
+crashed_late = saved ++ Crash 1 1 ∷ Reap 1 ∷ Done 1 ∷ []
 
 pub record IsKept : Type 0 where
   pub answers : answered (from_start crashed_late) ≡ answered (from_start saved) ++ ok ∷ ok ∷ ok ∷ []
@@ -203,7 +203,7 @@ numbered numbers es = ran (Ok (empty_world numbers [])) es
 pub record IsLimited : Type 0 where
   pub frames : answered (from_start (map frame_named (range_with_len 97 9) ++ new_frame ∷ [])) ≡ map frame (range_with_len 1 8) ++ Refused Full ∷ Refused Busy ∷ []
   pub objects : answered (from_start (new_frame ∷ times 65 new_note)) ≡ frame 1 ∷ map object (range_with_len 1 64) ++ Refused Full ∷ []
-  pub servers : answered (from_start (times 9 (Command Start) ++ Crash 1 ∷ Command Start ∷ Reap 1 ∷ Command Start ∷ [])) ≡ map server (range_with_len 1 8) ++ Refused Full ∷ ok ∷ Refused Full ∷ ok ∷ server 9 ∷ []
+  pub servers : answered (from_start (times 9 (Command Start) ++ Crash 1 1 ∷ Command Start ∷ Reap 1 ∷ Command Start ∷ [])) ≡ map server (range_with_len 1 8) ++ Refused Full ∷ ok ∷ Refused Full ∷ ok ∷ server 9 ∷ []
   pub three_numbers : answered (numbered 3 (times 4 (Command Start))) ≡ server 1 ∷ server 2 ∷ server 3 ∷ Refused NumbersSpent ∷ []
   pub one_number : answered (numbered 1 (frame_named 97 ∷ frame_named 98 ∷ [])) ≡ frame 1 ∷ Refused NumbersSpent ∷ []
   pub undelivered : from_start (edited ++ Deliver 99 ∷ []) ≡ Err NotEnabled
@@ -226,7 +226,7 @@ abbrev pub taken : EventAnswer
 taken = Took (record quiet_outcome { taken = true })
 
 abbrev pub written : List Event
-written = edited ++ Scribble 1 1 ∷ Command (Save 1) ∷ Deliver 6 ∷ Deliver 5 ∷ Deliver 7 ∷ Done 1 ∷ Deliver 8 ∷ Deliver 9 ∷ Deliver 5 ∷ Scribble 1 1 ∷ Deliver 10 ∷ Deliver 10 ∷ []
+written = edited ++ Scribble 1 1 1 ∷ Command (Save 1) ∷ Deliver 6 ∷ Deliver 5 ∷ Deliver 7 ∷ Done 1 ∷ Deliver 8 ∷ Deliver 9 ∷ Deliver 5 ∷ Scribble 1 1 1 ∷ Deliver 10 ∷ Deliver 10 ∷ []
 
 pub record IsWritten : Type 0 where
   pub answers : answered (from_start written) ≡ answered (from_start edited) ++ sent 5 ∷ sent 6 ∷ sent 7 ∷ Refused Stale ∷ commit 1 ∷ sent 8 ∷ sent 9 ∷ ok ∷ Refused Stale ∷ sent 10 ∷ taken ∷ Refused Stale ∷ []

@@ -379,6 +379,10 @@ abbrev pub resolved : World → ℕ → Bool → List ℕ → Result World Stop
 resolved w f true bytes = done_in w f bytes (resolve w.rec f true) (nth w.rec.frames f)
 resolved w f false bytes = only_taken w (resolve w.rec f false)
 
+-- What happens at a server of this session: as yet a world has those of its container's session alone.
+abbrev pub in_run : World → ℕ → Result World Stop → Result World Stop
+in_run w s outcome = if s == w.rec.session then outcome else Err NotEnabled
+
 -- What the definitions leave open in a step: of a commit that is done, or resolved as kept, the bytes that it makes the file;
 -- of a file that is opened, what it gives.
 pub record Choice : Type 0 where
@@ -400,14 +404,14 @@ abbrev pub happened : World → Choice → Event → Result World Stop
 happened w choice (event.Command c) = Ok (commanded w c (on_command w.rec c))
 happened w choice (event.Deliver p) = deliver w p (nth w.sent p)
 happened w choice (event.Forge inc m) = forge w inc m (nth w.instances inc)
-happened w choice (event.Crash inc) = crash w inc (nth w.instances inc)
+happened w choice (event.Crash s inc) = in_run w s (crash w inc (nth w.instances inc))
 happened w choice (event.Reap inc) = reap w inc (nth w.instances inc)
 happened w choice (event.Done f) = done w f choice.file
 happened w choice (event.Fail f) = only_taken w (commit_failed w.rec f)
 happened w choice (event.Resolve f is_kept) = resolved w f is_kept choice.file
 happened w choice (event.Open name width height) = Ok (took w (opened w.rec name width height choice.given))
-happened w choice (event.Scribble inc act) = scribble w inc act (nth w.instances inc)
-happened w choice (event.Ask inc act) = ask w inc act (nth w.instances inc)
+happened w choice (event.Scribble s inc act) = in_run w s (scribble w inc act (nth w.instances inc))
+happened w choice (event.Ask s inc act) = in_run w s (ask w inc act (nth w.instances inc))
 
 -- no more events than these are taken
 abbrev pub MOST_EVENTS : ℕ
@@ -437,10 +441,10 @@ abbrev pub IsImage : World → Choice → Event → Type 0
 IsImage w choice (event.Command c) = ⊤
 IsImage w choice (event.Deliver p) = ⊤
 IsImage w choice (event.Forge inc m) = ⊤
-IsImage w choice (event.Crash inc) = ⊤
+IsImage w choice (event.Crash s inc) = ⊤
 IsImage w choice (event.Reap inc) = ⊤
-IsImage w choice (event.Scribble inc act) = ⊤
-IsImage w choice (event.Ask inc act) = ⊤
+IsImage w choice (event.Scribble s inc act) = ⊤
+IsImage w choice (event.Ask s inc act) = ⊤
 IsImage w choice (event.Done f) = IsImageOf w f choice.file
 IsImage w choice (event.Fail f) = ⊤
 IsImage w choice (event.Resolve f true) = IsImageOf w f choice.file

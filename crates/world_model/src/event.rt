@@ -16,8 +16,8 @@ pub enum Event {
     Deliver(u32),
     /// This message comes on the link of a server, whatever it is, and whether or not the server has sent it.
     Forge(u32, Message),
-    /// A server crashes.
-    Crash(u32),
+    /// The server of this session and incarnation crashes.
+    Crash(u32, u32),
     /// The end of a server is told.
     Reap(u32),
     /// The commit of a frame's file is done.
@@ -28,10 +28,11 @@ pub enum Event {
     Resolve(u32, bool),
     /// The file of this name is opened as a frame, so many columns wide and so many lines high.
     Open(Bytes, u16, u16),
-    /// An activation of a server writes the content that it has now.
-    Scribble(u32, u32),
-    /// An activation of a server asks to be relieved of its frame's menus and border.
-    Ask(u32, u32),
+    /// An activation writes the content that it has now: by the session and the incarnation of its server, and its number.
+    Scribble(u32, u32, u32),
+    /// An activation asks to be relieved of its frame's menus and border: by the session and the incarnation of its server, and
+    /// its number.
+    Ask(u32, u32, u32),
 }
 
 /// Why a run stops before an event.

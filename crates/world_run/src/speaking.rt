@@ -2,9 +2,10 @@
 
 ghost use Rattle.std.specs.Prelude.{◌≡◌, [], IfErr, OnErr, OnOk, Ok, slice_get};
 ghost use Rattle.container_model.specs.Numbered.{IsNth};
+ghost use Rattle.wire_msgs.specs.Found.{nth};
 ghost use Rattle.world_run.specs.Plans.{asking, scribbling};
 ghost use Rattle.world_run.specs.View.{seen};
-ghost use Rattle.world_model.specs.World.{Refuses, limited, step, no_choice};
+ghost use Rattle.world_model.specs.World.{Refuses, ask, limited, scribble, step, no_choice};
 ghost use Rattle.world_model.specs.declared.event.Event.TheVariants as event;
 
 use crate::state::State;
@@ -43,9 +44,9 @@ impl State {
     }
 
     // An activation of a server that runs writes.
-    pub(crate) fn scribble(&mut self, alloc: Global, inc: u32, act: u32) -> Result<(), Stop>
-        ensures taken { OnOk result (step (seen (λ s. content s.boxed) self.old) no_choice (event.Scribble inc act) ≡ Ok (seen (λ s. content s.boxed) self.new)) }
-        ensures refused { IfErr result (Refuses (step (seen (λ s. content s.boxed) self.old) no_choice (event.Scribble inc act))) }
+    fn scribble_here(&mut self, alloc: Global, inc: u32, act: u32) -> Result<(), Stop>
+        ensures taken { OnOk result (limited (seen (λ s. content s.boxed) self.old) (scribble (seen (λ s. content s.boxed) self.old) inc act (nth (seen (λ s. content s.boxed) self.old).instances inc)) ≡ Ok (seen (λ s. content s.boxed) self.new)) }
+        ensures refused { IfErr result (Refuses (limited (seen (λ s. content s.boxed) self.old) (scribble (seen (λ s. content s.boxed) self.old) inc act (nth (seen (λ s. content s.boxed) self.old).instances inc)))) }
         ensures kept { OnErr result (seen (λ s. content s.boxed) self.new ≡ seen (λ s. content s.boxed) self.old) }
     {
         let Some((i, life)) = self.life(inc) else {
@@ -56,6 +57,24 @@ impl State {
             Life::Ended | Life::Reaped => return Err(Stop::NotEnabled),
         }
         self.scribble_at(alloc, i, inc, act)
+    }
+
+    // An activation of a server writes.
+    pub(crate) fn scribble(
+        &mut self,
+        alloc: Global,
+        session: u32,
+        inc: u32,
+        act: u32,
+    ) -> Result<(), Stop>
+        ensures taken { OnOk result (step (seen (λ s. content s.boxed) self.old) no_choice (event.Scribble session inc act) ≡ Ok (seen (λ s. content s.boxed) self.new)) }
+        ensures refused { IfErr result (Refuses (step (seen (λ s. content s.boxed) self.old) no_choice (event.Scribble session inc act))) }
+        ensures kept { OnErr result (seen (λ s. content s.boxed) self.new ≡ seen (λ s. content s.boxed) self.old) }
+    {
+        if !self.is_in(session) {
+            return Err(Stop::NotEnabled);
+        }
+        self.scribble_here(alloc, inc, act)
     }
 
     // The activation of a server that stands at i asks to be relieved of its frame.
@@ -83,9 +102,9 @@ impl State {
     }
 
     // An activation of a server that runs asks to be relieved of its frame.
-    pub(crate) fn ask(&mut self, alloc: Global, inc: u32, act: u32) -> Result<(), Stop>
-        ensures taken { OnOk result (step (seen (λ s. content s.boxed) self.old) no_choice (event.Ask inc act) ≡ Ok (seen (λ s. content s.boxed) self.new)) }
-        ensures refused { IfErr result (Refuses (step (seen (λ s. content s.boxed) self.old) no_choice (event.Ask inc act))) }
+    fn ask_here(&mut self, alloc: Global, inc: u32, act: u32) -> Result<(), Stop>
+        ensures taken { OnOk result (limited (seen (λ s. content s.boxed) self.old) (ask (seen (λ s. content s.boxed) self.old) inc act (nth (seen (λ s. content s.boxed) self.old).instances inc)) ≡ Ok (seen (λ s. content s.boxed) self.new)) }
+        ensures refused { IfErr result (Refuses (limited (seen (λ s. content s.boxed) self.old) (ask (seen (λ s. content s.boxed) self.old) inc act (nth (seen (λ s. content s.boxed) self.old).instances inc)))) }
         ensures kept { OnErr result (seen (λ s. content s.boxed) self.new ≡ seen (λ s. content s.boxed) self.old) }
     {
         let Some((i, life)) = self.life(inc) else {
@@ -96,5 +115,23 @@ impl State {
             Life::Ended | Life::Reaped => return Err(Stop::NotEnabled),
         }
         self.ask_at(alloc, i, inc, act)
+    }
+
+    // An activation of a server asks to be relieved of its frame.
+    pub(crate) fn ask(
+        &mut self,
+        alloc: Global,
+        session: u32,
+        inc: u32,
+        act: u32,
+    ) -> Result<(), Stop>
+        ensures taken { OnOk result (step (seen (λ s. content s.boxed) self.old) no_choice (event.Ask session inc act) ≡ Ok (seen (λ s. content s.boxed) self.new)) }
+        ensures refused { IfErr result (Refuses (step (seen (λ s. content s.boxed) self.old) no_choice (event.Ask session inc act))) }
+        ensures kept { OnErr result (seen (λ s. content s.boxed) self.new ≡ seen (λ s. content s.boxed) self.old) }
+    {
+        if !self.is_in(session) {
+            return Err(Stop::NotEnabled);
+        }
+        self.ask_here(alloc, inc, act)
     }
 }

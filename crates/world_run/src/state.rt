@@ -8,7 +8,7 @@ ghost use Rattle.world_host.specs.Servers.{ends_by};
 ghost use Rattle.world_run.specs.Lives.{Lives};
 ghost use Rattle.world_run.specs.Plans.{forging, tell};
 ghost use Rattle.world_run.specs.View.{seen, seen_instance, seen_stocked};
-ghost use Rattle.world_model.specs.World.{IsImage, Refuses, Run, StopsAt, empty_world, ended_at, fresh, step, view_in, no_choice, Choice};
+ghost use Rattle.world_model.specs.World.{IsImage, Refuses, crash, limited, Run, StopsAt, empty_world, ended_at, fresh, step, view_in, no_choice, Choice};
 ghost use Rattle.world_model.specs.declared.event.Event.TheVariants as event;
 
 use crate::instance::{Instance, end_of};
@@ -208,10 +208,17 @@ impl State {
         }
     }
 
-    // A server crashes.
-    fn crash(&mut self, alloc: Global, inc: u32) -> Result<(), Stop>
-        ensures taken { OnOk result (step (seen (λ s. content s.boxed) self.old) no_choice (event.Crash inc) ≡ Ok (seen (λ s. content s.boxed) self.new)) }
-        ensures refused { IfErr result (Refuses (step (seen (λ s. content s.boxed) self.old) no_choice (event.Crash inc))) }
+    // Whether this is the session of the container.
+    pub(crate) fn is_in(&self, session: u32) -> bool
+        ensures { result ≡ (session == (seen (λ s. content s.boxed) self.now).rec.session) }
+    {
+        session == self.host.core.session()
+    }
+
+    // A server of the present run crashes.
+    fn crash_here(&mut self, alloc: Global, inc: u32) -> Result<(), Stop>
+        ensures taken { OnOk result (limited (seen (λ s. content s.boxed) self.old) (crash (seen (λ s. content s.boxed) self.old) inc (nth (seen (λ s. content s.boxed) self.old).instances inc)) ≡ Ok (seen (λ s. content s.boxed) self.new)) }
+        ensures refused { IfErr result (Refuses (limited (seen (λ s. content s.boxed) self.old) (crash (seen (λ s. content s.boxed) self.old) inc (nth (seen (λ s. content s.boxed) self.old).instances inc)))) }
         ensures kept { OnErr result (seen (λ s. content s.boxed) self.new ≡ seen (λ s. content s.boxed) self.old) }
     {
         let Some((i, life)) = self.life(inc) else {
@@ -225,6 +232,18 @@ impl State {
         self.set_life(i, inc, Life::Ended);
         self.host.quiet(alloc);
         Ok(())
+    }
+
+    // A server crashes.
+    fn crash(&mut self, alloc: Global, session: u32, inc: u32) -> Result<(), Stop>
+        ensures taken { OnOk result (step (seen (λ s. content s.boxed) self.old) no_choice (event.Crash session inc) ≡ Ok (seen (λ s. content s.boxed) self.new)) }
+        ensures refused { IfErr result (Refuses (step (seen (λ s. content s.boxed) self.old) no_choice (event.Crash session inc))) }
+        ensures kept { OnErr result (seen (λ s. content s.boxed) self.new ≡ seen (λ s. content s.boxed) self.old) }
+    {
+        if !self.is_in(session) {
+            return Err(Stop::NotEnabled);
+        }
+        self.crash_here(alloc, inc)
     }
 
     // The end of a server is told.
@@ -368,7 +387,7 @@ impl State {
             Event::Command(command) => self.command(alloc, command),
             Event::Deliver(p) => self.deliver(alloc, *p),
             Event::Forge(inc, message) => self.forge(alloc, *inc, message),
-            Event::Crash(inc) => self.crash(alloc, *inc),
+            Event::Crash(session, inc) => self.crash(alloc, *session, *inc),
             Event::Reap(inc) => self.reap(alloc, *inc),
             Event::Done(f) => self.done(alloc, *f),
             Event::Fail(f) => self.fail(alloc, *f),
@@ -377,8 +396,8 @@ impl State {
                 false => self.lose(alloc, *f),
             },
             Event::Open(name, width, height) => self.open_file(alloc, name, *width, *height),
-            Event::Scribble(inc, act) => self.scribble(alloc, *inc, *act),
-            Event::Ask(inc, act) => self.ask(alloc, *inc, *act),
+            Event::Scribble(session, inc, act) => self.scribble(alloc, *session, *inc, *act),
+            Event::Ask(session, inc, act) => self.ask(alloc, *session, *inc, *act),
         }
     }
 

@@ -64,6 +64,7 @@ use Rattle.world_safety.proofs.Scribbling.{agrees_scribble, agrees_ask}
 use Rattle.wire_msgs.specs.declared.message.Said.{Said}
 use Rattle.container_model.specs.declared.server_link.ServerLink.{ServerLink}
 use Rattle.container_model.proofs.SaidOn.{is_said_on, said_on}
+use Rattle.world_model.proofs.InRun.{in_run_ok}
 
 ok_is : (x y : World) → ◌≡◌ {A = Result World Stop} (Ok x) (Ok y) → x ≡ y
 ok_is x y e = cc
@@ -313,10 +314,10 @@ pub agrees_happened : (w : World) (choice : Choice) (e : Event) (v : World) → 
 agrees_happened w choice (event.Command c) v k h e = subst AgreesIn (ok_is _ v e) (agrees_commanded w c (on_command w.rec c) h refl)
 agrees_happened w choice (event.Deliver p) v k h e = agrees_deliver w p (nth w.sent p) v h refl e
 agrees_happened w choice (event.Forge inc m) v k h e = agrees_forge w inc m (nth w.instances inc) v h e
-agrees_happened w choice (event.Crash inc) v k h e = agrees_crash w inc (nth w.instances inc) v h refl e
+agrees_happened w choice (event.Crash s inc) v k h e = agrees_crash w inc (nth w.instances inc) v h refl (in_run_ok w s (crash w inc (nth w.instances inc)) v e)
 agrees_happened w choice (event.Reap inc) v k h e = agrees_reap w inc (nth w.instances inc) v h refl e
-agrees_happened w choice (event.Scribble inc act) v k h e = agrees_scribble w inc act (nth w.instances inc) v h refl e
-agrees_happened w choice (event.Ask inc act) v k h e = agrees_ask w inc act (nth w.instances inc) v h refl e
+agrees_happened w choice (event.Scribble s inc act) v k h e = agrees_scribble w inc act (nth w.instances inc) v h refl (in_run_ok w s (scribble w inc act (nth w.instances inc)) v e)
+agrees_happened w choice (event.Ask s inc act) v k h e = agrees_ask w inc act (nth w.instances inc) v h refl (in_run_ok w s (ask w inc act (nth w.instances inc)) v e)
 agrees_happened w choice (event.Done f) v k h e = agrees_done_in w f choice.file (commit_done w.rec f) (nth w.rec.frames f) v k h refl (λ x at. done_commits w.rec f x at) (λ t q. on_input_keeps w.rec (Input.Committed f) t h.steady q) e
 agrees_happened w choice (event.Fail f) v k h e = agrees_only w (commit_failed w.rec f) v (λ t q. agrees_failed w f t h q) e
 agrees_happened w choice (event.Resolve f is_kept) v k h e = agrees_resolved w f is_kept choice.file v k h e

@@ -50,6 +50,7 @@ use Rattle.world_steps.proofs.Taking.{normal_of, write_is, held_open}
 use Rattle.world_safety.specs.Holding.{AgreesIn}
 use Rattle.wire_msgs.specs.declared.message.Said.{Said}
 use Rattle.container_model.proofs.SaidOn.{is_said_on, said_on}
+use Rattle.world_model.proofs.InRun.{in_run_ok}
 
 -- a world whose log of messages grew, and that took nothing
 pub record Grew (w v : World) : Type 0 where
@@ -403,10 +404,10 @@ pub granted_happened : (w : World) (choice : Choice) (e : Event) (v : World) →
 granted_happened w choice (event.Command c) v k all h e = granted_grew w v (subst (Grew w) (ok_is _ v e) (grew_commanded w c (on_command w.rec c))) h
 granted_happened w choice (event.Deliver p) v k all h e = granted_deliver w p (nth w.sent p) v k all refl h e
 granted_happened w choice (event.Forge inc m) v k all h e = granted_forge w inc m (nth w.instances inc) v h e
-granted_happened w choice (event.Crash inc) v k all h e = granted_grew w v (grew_crash w inc (nth w.instances inc) v e) h
+granted_happened w choice (event.Crash s inc) v k all h e = granted_grew w v (grew_crash w inc (nth w.instances inc) v (in_run_ok w s (crash w inc (nth w.instances inc)) v e)) h
 granted_happened w choice (event.Reap inc) v k all h e = granted_grew w v (grew_reap w inc (nth w.instances inc) v e) h
-granted_happened w choice (event.Scribble inc act) v k all h e = granted_grew w v (grew_scribble w inc act (nth w.instances inc) v e) h
-granted_happened w choice (event.Ask inc act) v k all h e = granted_grew w v (grew_ask w inc act (nth w.instances inc) v e) h
+granted_happened w choice (event.Scribble s inc act) v k all h e = granted_grew w v (grew_scribble w inc act (nth w.instances inc) v (in_run_ok w s (scribble w inc act (nth w.instances inc)) v e)) h
+granted_happened w choice (event.Ask s inc act) v k all h e = granted_grew w v (grew_ask w inc act (nth w.instances inc) v (in_run_ok w s (ask w inc act (nth w.instances inc)) v e)) h
 granted_happened w choice (event.Done f) v k all h e = granted_grew w v (grew_done w f choice.file (commit_done w.rec f) (nth w.rec.frames f) v e) h
 granted_happened w choice (event.Fail f) v k all h e = granted_grew w v (grew_only w (commit_failed w.rec f) v e) h
 granted_happened w choice (event.Resolve f is_kept) v k all h e = granted_grew w v (grew_resolved w f is_kept choice.file v e) h

@@ -63,6 +63,7 @@ use Rattle.world_safety.proofs.Joining.{asks_turned, command_shapes}
 use Rattle.wire_msgs.specs.declared.message.Said.{Said}
 use Rattle.container_model.specs.declared.server_link.ServerLink.{ServerLink}
 use Rattle.container_model.proofs.SaidOn.{is_said_on, said_on}
+use Rattle.world_model.proofs.InRun.{in_run_ok}
 
 ok_is : (x y : World) → ◌≡◌ {A = Result World Stop} (Ok x) (Ok y) → x ≡ y
 ok_is x y e = cc
@@ -286,10 +287,10 @@ module _ (limit : ℕ) (w : World) (h : AgreesIn w) (k : Numbers limit w) where
   follows choice (event.Command c) v files e = subst (Follow limit) (ok_is _ v e) (commanded_follows c (on_command w.rec c) refl)
   follows choice (event.Deliver p) v files e = deliver_follows p (nth w.sent p) v refl e
   follows choice (event.Forge inc m) v files e = forge_follows inc m (nth w.instances inc) v e
-  follows choice (event.Crash inc) v files e = crash_follows inc (nth w.instances inc) v refl e
+  follows choice (event.Crash s inc) v files e = crash_follows inc (nth w.instances inc) v refl (in_run_ok w s (crash w inc (nth w.instances inc)) v e)
   follows choice (event.Reap inc) v files e = reap_follows inc (nth w.instances inc) v refl e
-  follows choice (event.Scribble inc act) v files e = scribble_follows inc act (nth w.instances inc) v refl e
-  follows choice (event.Ask inc act) v files e = ask_follows inc act (nth w.instances inc) v refl e
+  follows choice (event.Scribble s inc act) v files e = scribble_follows inc act (nth w.instances inc) v refl (in_run_ok w s (scribble w inc act (nth w.instances inc)) v e)
+  follows choice (event.Ask s inc act) v files e = ask_follows inc act (nth w.instances inc) v refl (in_run_ok w s (ask w inc act (nth w.instances inc)) v e)
   follows choice (event.Done f) v files e = done_follows files f choice.file (commit_done w.rec f) (nth w.rec.frames f) v refl (λ x at. done_commits w.rec f x at) (λ t q. numbers_after limit w.rec (Input.Committed f) t h.steady k.recorded q) e
   follows choice (event.Fail f) v files e = only_follows (commit_failed w.rec f) v (λ t q. failed_taken limit w h k f t q) e
   follows choice (event.Resolve f is_kept) v files e = resolved_follows files f is_kept choice.file v e

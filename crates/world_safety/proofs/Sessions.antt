@@ -42,6 +42,7 @@ use Rattle.world_steps.proofs.Instances.{nth_same, nth_other}
 use Rattle.world_safety.specs.Holding.{InOneSession}
 use Rattle.world_safety.proofs.Events.{sent_place}
 use Rattle.world_safety.proofs.Speaking.{IsTelling, asking_is, writing_is}
+use Rattle.world_model.proofs.InRun.{in_run_ok}
 
 ok_is : (x y : World) → ◌≡◌ {A = Result World Stop} (Ok x) (Ok y) → x ≡ y
 ok_is x y e = cc
@@ -318,10 +319,10 @@ pub session_happened : (w : World) (choice : Choice) (e : Event) (v : World) →
 session_happened w choice (event.Command c) v h e = subst InOneSession (ok_is _ v e) (commanded_in w c (on_command w.rec c) h refl)
 session_happened w choice (event.Deliver p) v h e = deliver_in w p (nth w.sent p) v h refl e
 session_happened w choice (event.Forge inc m) v h e = forge_in w inc m (nth w.instances inc) v h e
-session_happened w choice (event.Crash inc) v h e = crash_in w inc (nth w.instances inc) v h refl e
+session_happened w choice (event.Crash s inc) v h e = crash_in w inc (nth w.instances inc) v h refl (in_run_ok w s (crash w inc (nth w.instances inc)) v e)
 session_happened w choice (event.Reap inc) v h e = reap_in w inc (nth w.instances inc) v h refl e
-session_happened w choice (event.Scribble inc act) v h e = scribble_in w inc act (nth w.instances inc) v h refl e
-session_happened w choice (event.Ask inc act) v h e = ask_in w inc act (nth w.instances inc) v h refl e
+session_happened w choice (event.Scribble s inc act) v h e = scribble_in w inc act (nth w.instances inc) v h refl (in_run_ok w s (scribble w inc act (nth w.instances inc)) v e)
+session_happened w choice (event.Ask s inc act) v h e = ask_in w inc act (nth w.instances inc) v h refl (in_run_ok w s (ask w inc act (nth w.instances inc)) v e)
 session_happened w choice (event.Done f) v h e = done_at w f choice.file h (Input.Committed f) (commit_done w.rec f) (nth w.rec.frames f) v refl e
 session_happened w choice (event.Fail f) v h e = only_in w (Input.Failed f) (commit_failed w.rec f) v h refl e
 session_happened w choice (event.Resolve f is_kept) v h e = resolved_in w f is_kept choice.file v h e
