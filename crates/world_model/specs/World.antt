@@ -1,5 +1,5 @@
 -- A world: a container, its servers, the messages between them, the files; and what happens in it.
-use Rattle.std.specs.Prelude.{◌≡◌, ◌+◌, ◌++◌, ℕ, Bool, true, false, List, [], ◌∷◌, length, map, Option, Some, None, option_map, is_some, Result, Ok, Err, IsOk, if◌then◌else◌, nat_le, ⊤}
+use Rattle.std.specs.Prelude.{◌≡◌, ◌+◌, ◌++◌, ℕ, Bool, true, false, List, [], ◌∷◌, length, map, Option, Some, None, option_map, is_some, Result, Ok, Err, IsOk, if◌then◌else◌, nat_le, ⊤, ◌==◌}
 use Rattle.std.specs.Str.{bytes_eq}
 use Rattle.std.specs.List.{range_with_len}
 use Rattle.wire_msgs.specs.Found.{find, nth, set_nth}
