@@ -4,7 +4,7 @@
 use crate::answers::is_answered;
 use crate::events::{event, happens};
 use crate::files::{is_document, is_file};
-use crate::messages::{astray_in, messaged};
+use crate::messages::{messaged, messaged_in};
 use crate::shown::{are_numbers, are_pending, are_sizes, are_states, is_screen};
 use crate::words::{halves, number, word};
 use container_core::container::{ContainerCore, Limits};
@@ -14,7 +14,9 @@ use std::str::SplitWhitespace;
 
 /// `anew N` is a new container that gives numbers up to N, or 100 where no smaller number is told. Messages come on the link of
 /// server 1 and are of its activation 1; on the link of server 2 come those behind `astray`, which say the same, those behind
-/// `forged`, which say that activation 1 is of server 2, and those behind `second`, which are of activation 2 of server 2.
+/// `forged`, which say that activation 1 is of server 2, and those behind `second`, which are of activation 2 of server 2. The
+/// container's session is 1; those behind `later` are of session 2 and come on the link of its server 1, and those behind
+/// `mixed` say that they are of session 2, on the link of server 1 of session 1.
 const ROWS: &str = "document => NoSuch
 file => NoSuch
 done 1 => NoSuch
@@ -295,7 +297,7 @@ fn hears_second(
     )
 }
 
-/// Whether a container answers this to a message of session 2 on the link of server 1 in this session.
+/// Whether a container answers this to a message of session 2 on the link of server 1 of the session that is given.
 fn hears_in(
     rt: &impl Abort,
     alloc: Global,
@@ -305,7 +307,7 @@ fn hears_in(
     words: &mut SplitWhitespace<'_>,
 ) -> bool {
     is_answered(
-        astray_in(rt, alloc, core, session, halves(row, " ").1),
+        messaged_in(rt, alloc, core, session, halves(row, " ").1),
         words,
     )
 }

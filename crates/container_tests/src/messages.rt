@@ -111,9 +111,9 @@ pub(crate) fn messaged(
     core.on_message(alloc, link, Message { session, said })
 }
 
-/// What it answers to a message of activation 1 of server 1 that says that it is in session 2, on the link of that server in this
-/// session: session 2 is past the container's.
-pub(crate) fn astray_in(
+/// What a container answers to a message that says that it is of session 2, of activation 1 of server 1 there. It comes on the
+/// link of server 1 of the session that is given.
+pub(crate) fn messaged_in(
     rt: &impl Abort,
     alloc: Global,
     core: &mut ContainerCore,

@@ -11,3 +11,4 @@ pub mod Delivering
 pub mod OwnAccord
 pub mod Runs
 pub use Rattle.world_safety.proofs.Held as Reached
+pub mod Sessions
