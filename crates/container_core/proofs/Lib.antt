@@ -1,2 +1,3 @@
 pub mod OpensMade
 pub mod FewCalls
+pub mod SaidIn

@@ -46,7 +46,7 @@ impl Model for ContainerCore {
 }
 
 impl ContainerCore {
-    ghost use Rattle.std.specs.Prelude.{◌≡◌, ◌≤◌, ◌+◌, IfErr, IfOk, List, Ok, OnErr, length, map, option_copied, if◌then◌else◌, []};
+    ghost use Rattle.std.specs.Prelude.{◌≡◌, ◌≤◌, ◌+◌, IfErr, IfOk, List, Ok, OnErr, OnOk, length, map, option_copied, if◌then◌else◌, []};
     ghost use Rattle.container_core.specs.Opening.{MayRefuse, looked_at};
     ghost use Rattle.container_laws.specs.Apart.{StaysApart};
     ghost use Rattle.container_model.specs.Opens.{Given, IsReadAs, opened};
@@ -192,9 +192,9 @@ impl ContainerCore {
     ///
     /// - `WrongLink` where it is a call, or says that it is from another server than the link's: of another session, or of
     ///   another incarnation.
-    /// - `Stale` where the link is of another session than the container's; where that server isn't alive, or no object has the activation; where it answers no pending call; where it is a
-    ///   write that the object's storage isn't open to; where it asks to be relieved of a frame that the object doesn't hold
-    ///   under this grant, or was told to give up.
+    /// - `Stale` where the link is of another session than the container's; where that server isn't alive, or no object has the
+    ///   activation; where it answers no pending call; where it is a write that the object's storage isn't open to; where it asks
+    ///   to be relieved of a frame that the object doesn't hold under this grant, or was told to give up.
     /// - `BadAnswer` where its content is past what may be stored, or it doesn't fit the call.
     ///
     /// Last of all `NoMemory`. A refusal changes nothing.

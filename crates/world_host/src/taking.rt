@@ -47,9 +47,8 @@ pub(crate) fn entry(place: Option<u32>, message: &Message, objects: &[Object]) -
 {
     match &message.said {
         Said::Call { .. } => None,
-        Said::Reply { inc, act, .. }
-        | Said::Write { inc, act, .. }
-        | Said::Ask { inc, act, .. } => held_of(place, *inc, *act, objects),
+        Said::Reply { inc, act, .. } | Said::Write { inc, act, .. } | Said::Ask { inc, act, .. } =>
+            held_of(place, *inc, *act, objects),
     }
 }
 

@@ -1,4 +1,5 @@
-use Rattle.std.proofs.Common.{[], subst}
+use Rattle.std.proofs.Common.{◌≡◌, [], subst}
+use Rattle.std.specs.Prelude.{OnOk}
 use Rattle.container_steady.specs.Steady.{Steady}
 use Rattle.container_model.specs.Inputs.{Input}
 use Rattle.container_model.specs.Messages.{on_message}
@@ -8,13 +9,19 @@ use Rattle.container_numbers.specs.FewFrames.{FewFrames}
 use Rattle.container_steps.proofs.StepsKeep.{step_keeps}
 use Rattle.container_laws.specs.Apart.{StaysApart}
 use Rattle.container_laws.proofs.ApartLaws.{stays_as_it_was}
+use Rattle.container_core.proofs.SaidIn.{taken_in_session}
 use Rattle.container_core.proofs.container.ContainerCore.on_message.Goals as goal
 
 pub returns-clause-others : goal.returns-clause-others
 returns-clause-others c =
-    subst (λ (z : Record). StaysApart c.args.link z c.on_message.new.self) c.self.view_is
-    (step_keeps (StaysApart c.args.link c.self.inside.state) c.self.inside.state c.on_message.new.self (on_message c.self.inside.state c.args.link c.args.message) [] (stays_as_it_was c.args.link c.self.inside.state)
+    subst (λ (z : Record). StaysApart c.args.link.inc z c.on_message.new.self) c.self.view_is
+    (step_keeps (StaysApart c.args.link.inc c.self.inside.state) c.self.inside.state c.on_message.new.self (on_message c.self.inside.state c.args.link c.args.message) [] (stays_as_it_was c.args.link.inc c.self.inside.state)
     (λ t e. c.messages_stay_apart.ensures c.self.inside.state c.args.link c.args.message t c.self.invariant.0 e) c.on_message.result c.on_message.ensures.taken c.on_message.ensures.kept)
+
+pub returns-clause-session : goal.returns-clause-session
+returns-clause-session c =
+    subst (λ (z : Record). OnOk c.on_message.result ((c.args.link.session ≡ z.session) × (c.args.message.session ≡ z.session))) c.self.view_is
+    (taken_in_session c.self.inside.state c.on_message.new.self c.args.link c.args.message c.on_message.result c.on_message.ensures.taken)
 
 pub returns-clause-steady : goal.returns-clause-steady
 returns-clause-steady c =
