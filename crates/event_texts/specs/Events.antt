@@ -3,7 +3,7 @@ use Rattle.std.specs.Prelude.{◌≡◌, ◌-◌, ◌&&◌, ◌||◌, ℕ, ℤ, 
 use Rattle.std.specs.List.{ends_with, join_with_byte, list_all}
 use Rattle.std.specs.Option.{option_and_then}
 use Rattle.std.specs.Str.{bytes_eq}
-use Rattle.text_words.specs.Words.{lines, words, number_read}
+use Rattle.text_words.specs.Words.{lines, pieces, words, number_read}
 use Rattle.object_parts.specs.declared.area.Area.{Area}
 use Rattle.object_state.specs.declared.operations.CloseOption.{CloseOption}
 use Rattle.object_state.specs.declared.operations.CloseOption.TheVariants.{SaveIfDirty, NoSave}
@@ -72,6 +72,25 @@ pair_read _ = None
 abbrev pub two_numbers : (ℕ → ℕ → Event) → List (List ℕ) → Option Event
 two_numbers f words = option_map (λ (p : ℕ × ℕ). f p.0 p.1) (pair_read words)
 
+-- a server by its session and its incarnation, `S.I`: two numbers with a point between them
+abbrev pub server_read : List ℕ → Option (ℕ × ℕ)
+server_read word = pair_read (pieces 46 word)
+
+-- one server alone
+abbrev pub sole_server : List (List ℕ) → Option (ℕ × ℕ)
+sole_server (server ∷ []) = server_read server
+sole_server _ = None
+
+-- a server and a number behind it, alone: as an activation of it is named
+abbrev pub activation_of : Option (ℕ × ℕ) → Option ℕ → Option ((ℕ × ℕ) × ℕ)
+activation_of (Some server) (Some act) = Some (server, act)
+activation_of (Some server) None = None
+activation_of None act = None
+
+abbrev pub activation_read : List (List ℕ) → Option ((ℕ × ℕ) × ℕ)
+activation_read (server ∷ act ∷ []) = activation_of (server_read server) (number_read act)
+activation_read _ = None
+
 -- a number and a word behind it, alone
 abbrev pub numbered_word : List (List ℕ) → Option (ℕ × List ℕ)
 numbered_word (n ∷ word ∷ []) = option_map (λ k. (k, word)) (number_read n)
@@ -115,8 +134,8 @@ insert_of _ _ _ = None
 abbrev pub run_of : ℕ → ℕ → Event
 run_of o inc = event.Command (command.Run o inc)
 
-abbrev pub scribble_of : ℕ → ℕ → Event
-scribble_of inc act = event.Scribble inc act
+abbrev pub scribble_of : (ℕ × ℕ) × ℕ → Event
+scribble_of a = event.Scribble a.0.0 a.0.1 a.1
 
 abbrev pub delete_of : ℕ → Event
 delete_of o = event.Command (command.Delete o)
@@ -133,8 +152,11 @@ verb_of o number = event.Command (command.Verb o number)
 abbrev pub resolve_of : ℕ → Bool → Event
 resolve_of f is_kept = event.Resolve f is_kept
 
-abbrev pub ask_of : ℕ → ℕ → Event
-ask_of inc act = event.Ask inc act
+abbrev pub ask_of : (ℕ × ℕ) × ℕ → Event
+ask_of a = event.Ask a.0.0 a.0.1 a.1
+
+abbrev pub crash_of : ℕ × ℕ → Event
+crash_of server = event.Crash server.0 server.1
 
 abbrev pub edit_of : List ℕ → ℕ → Event
 edit_of bytes o = event.Command (command.Edit o bytes)
@@ -189,7 +211,7 @@ commit_named name others =
 
 abbrev pub end_named : List ℕ → List (List ℕ) → Option Event
 end_named name others =
-    cond (bytes_eq name (codes "crash")) (one_number event.Crash others) (
+    cond (bytes_eq name (codes "crash")) (option_map crash_of (sole_server others)) (
     cond (bytes_eq name (codes "reap")) (one_number event.Reap others) (
     cond (bytes_eq name (codes "kill")) (one_number kill_of others) (commit_named name others)))
 
@@ -198,8 +220,8 @@ object_named name others =
     cond (bytes_eq name (codes "delete")) (one_number delete_of others) (
     cond (bytes_eq name (codes "close")) (close_read others) (
     cond (bytes_eq name (codes "verb")) (verb_read others) (
-    cond (bytes_eq name (codes "scribble")) (two_numbers scribble_of others) (
-    cond (bytes_eq name (codes "ask")) (two_numbers ask_of others) (end_named name others)))))
+    cond (bytes_eq name (codes "scribble")) (option_map scribble_of (activation_read others)) (
+    cond (bytes_eq name (codes "ask")) (option_map ask_of (activation_read others)) (end_named name others)))))
 
 abbrev pub numbers_named : List ℕ → List (List ℕ) → Option Event
 numbers_named name others =
@@ -318,14 +340,14 @@ abbrev pub event_takes_memory : Event → Bool
 event_takes_memory (event.Command c) = command_takes_memory c
 event_takes_memory (event.Deliver p) = false
 event_takes_memory (event.Forge inc m) = false
-event_takes_memory (event.Crash inc) = false
+event_takes_memory (event.Crash s inc) = false
 event_takes_memory (event.Reap inc) = false
 event_takes_memory (event.Done f) = false
 event_takes_memory (event.Fail f) = false
 event_takes_memory (event.Resolve f is_kept) = false
 event_takes_memory (event.Open name w h) = false
-event_takes_memory (event.Scribble inc act) = false
-event_takes_memory (event.Ask inc act) = false
+event_takes_memory (event.Scribble s inc act) = false
+event_takes_memory (event.Ask s inc act) = false
 
 abbrev pub takes_memory : Option Event → Bool
 takes_memory None = false

@@ -1,7 +1,7 @@
 //! Lines of events.
 
-ghost use Rattle.event_texts.specs.Events.{area_of, close_read, commit_named, edit_read, end_named, event_named, event_read, insert_read, is_file_name, kind_read, new_read, numbered_word, numbers_named, object_named, open_in, open_named, open_read, option_read, outcome_read, pair_read, resolve_read, save_as_read, short_read, signed_read, sized_read, sole_number, takes_memory, verb_read};
-ghost use Rattle.text_words.specs.Words.{words};
+ghost use Rattle.event_texts.specs.Events.{activation_read, area_of, close_read, commit_named, edit_read, end_named, event_named, event_read, insert_read, is_file_name, kind_read, new_read, numbered_word, numbers_named, object_named, open_in, open_named, open_read, option_read, outcome_read, pair_read, resolve_read, save_as_read, short_read, signed_read, sized_read, sole_number, sole_server, takes_memory, verb_read};
+ghost use Rattle.text_words.specs.Words.{pieces, words};
 ghost use Rattle.std.specs.List.{list_all};
 ghost use Rattle.std.specs.Option.{option_map};
 ghost use Rattle.std.specs.Str.{bytes_eq};
@@ -101,7 +101,7 @@ fn parse_numbers(name: &[u8], rest: &[u8]) -> Option<Event>
     if is_word(name, b"insert") {
         insert(rest)
     } else if is_word(name, b"run") {
-        let (object, inc) = two_numbers(rest)?;
+        let (object, inc) = two_numbers(rest, b' ')?;
         Some(Event::Command(Command::Run(object, inc)))
     } else if is_word(name, b"save") {
         Some(Event::Command(Command::Save(sole_number(rest)?)))
@@ -123,11 +123,11 @@ fn parse_object(name: &[u8], rest: &[u8]) -> Option<Event>
     } else if is_word(name, b"verb") {
         verb(rest)
     } else if is_word(name, b"scribble") {
-        let (inc, act) = two_numbers(rest)?;
-        Some(Event::Scribble(inc, act))
+        let ((session, inc), act) = activation(rest)?;
+        Some(Event::Scribble(session, inc, act))
     } else if is_word(name, b"ask") {
-        let (inc, act) = two_numbers(rest)?;
-        Some(Event::Ask(inc, act))
+        let ((session, inc), act) = activation(rest)?;
+        Some(Event::Ask(session, inc, act))
     } else {
         parse_end(name, rest)
     }
@@ -138,7 +138,8 @@ fn parse_end(name: &[u8], rest: &[u8]) -> Option<Event>
     ensures { result ≡ end_named name.now (words rest.now) }
 {
     if is_word(name, b"crash") {
-        Some(Event::Crash(sole_number(rest)?))
+        let (session, inc) = sole_server(rest)?;
+        Some(Event::Crash(session, inc))
     } else if is_word(name, b"reap") {
         Some(Event::Reap(sole_number(rest)?))
     } else if is_word(name, b"kill") {
@@ -174,11 +175,11 @@ fn sole_number(rest: &[u8]) -> Option<u32>
     number(word)
 }
 
-/// Two numbers that stand alone.
-fn two_numbers(rest: &[u8]) -> Option<(u32, u32)>
-    ensures { result ≡ pair_read (words rest.now) }
+/// Two numbers that stand alone, with this byte between them.
+fn two_numbers(rest: &[u8], between: u8) -> Option<(u32, u32)>
+    ensures { result ≡ pair_read (pieces between rest.now) }
 {
-    let mut words = Pieces::new(rest, b' ');
+    let mut words = Pieces::new(rest, between);
     let (Some(first), Some(second), None) = (
         words.next_piece(),
         words.next_piece(),
@@ -187,6 +188,32 @@ fn two_numbers(rest: &[u8]) -> Option<(u32, u32)>
         return None;
     };
     Some((number(first)?, number(second)?))
+}
+
+/// A server that stands alone, by its session and its incarnation.
+fn sole_server(rest: &[u8]) -> Option<(u32, u32)>
+    ensures { result ≡ sole_server (words rest.now) }
+{
+    let mut words = Pieces::new(rest, b' ');
+    let (Some(server), None) = (words.next_piece(), words.next_piece()) else {
+        return None;
+    };
+    two_numbers(server, b'.')
+}
+
+/// A server and the number of an activation behind it, which stand alone.
+fn activation(rest: &[u8]) -> Option<((u32, u32), u32)>
+    ensures { result ≡ activation_read (words rest.now) }
+{
+    let mut words = Pieces::new(rest, b' ');
+    let (Some(server), Some(act), None) = (
+        words.next_piece(),
+        words.next_piece(),
+        words.next_piece(),
+    ) else {
+        return None;
+    };
+    Some((two_numbers(server, b'.')?, number(act)?))
 }
 
 /// A number and the word behind it, which stand alone.

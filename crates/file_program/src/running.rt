@@ -16,7 +16,7 @@ use file_places::source::Sought;
 use listing_forms::form::Form;
 use listing_forms::json_form::Json;
 use listing_forms::long_form::Long;
-use program_ends::ends::{keep, refuse, refuse_path};
+use program_ends::ends::{give_up, keep, refuse, refuse_path};
 use program_ends::journals::{refuse_unfinished, tell_unfinished};
 use program_ends::making::count_made;
 use program_ends::new_file::NewFile;
@@ -219,10 +219,10 @@ fn clean_into<R: Runtime<File = File> + AllocGlobal>(
     let mut new = NewFile::new(rt, out);
     match clean_open(rt, source, &mut new) {
         Ok(count) => keep(rt, new, out, count),
-        Err(fault) => {
-            new.discard();
-            refuse(rt, &fault.report(path, out))
-        }
+        Err(fault) => match give_up(rt, new, out) {
+            Some(code) => code,
+            None => refuse(rt, &fault.report(path, out)),
+        },
     }
 }
 

@@ -5,7 +5,7 @@ use crate::finding::{Refusal, Whole, find_all};
 use cfb_names::name::Name;
 use file_folders::path::FolderPath;
 use folder_packing::packing::{PackFault, pack_found};
-use program_ends::ends::{keep, refuse};
+use program_ends::ends::{give_up, keep, refuse};
 use program_ends::journals::refuse_unfinished;
 use program_ends::new_file::NewFile;
 use std::alloc::{AllocError, Global};
@@ -40,10 +40,10 @@ fn pack_whole<R: Runtime<File = File> + AllocGlobal>(
     let mut new = NewFile::new(rt, path);
     match pack_found(rt.alloc(), class, state, found, &mut new) {
         Ok(count) => keep(rt, new, path, count),
-        Err(fault) => {
-            new.discard();
-            refuse_pack(rt, folder, path, &fault)
-        }
+        Err(fault) => match give_up(rt, new, path) {
+            Some(code) => code,
+            None => refuse_pack(rt, folder, path, &fault),
+        },
     }
 }
 

@@ -22,7 +22,7 @@ pub struct Decoder {
 impl Decoder {
     ghost use Rattle.message_bytes.specs.Fronts.{Feeds, HandsOut, Stands};
     ghost use Rattle.message_model.specs.declared.frame.Frame.{Frame};
-    ghost use Rattle.std.specs.Prelude.{[], ℕ, List};
+    ghost use Rattle.std.specs.Prelude.{◌≡◌, [], ℕ, Err, IfSome, List};
 
     /// A decoder that was fed nothing.
     pub fn new(alloc: Global) -> Decoder
@@ -56,7 +56,8 @@ impl Decoder {
     /// Refused: the fault that all bytes so far show, at the call that shows it and ever after; `NoMemory`, before that.
     /// After `NoMemory` the decoder is as before, and the same piece can be fed again.
     pub fn feed(&mut self, piece: &[u8]) -> Result<(), WireFault>
-        ensures { (fed : List ℕ) (taken : List Frame) → Stands self.old fed taken → Feeds result fed piece.now taken self.new }
+        ensures fed { (fed : List ℕ) (taken : List Frame) → Stands self.old fed taken → Feeds result fed piece.now taken self.new }
+        ensures stuck { IfSome self.old.fault (λ fault. (result ≡ Err fault) × (self.new ≡ self.old)) }
     {
         match self.fault {
             Some(fault) => return Err(fault),

@@ -35,6 +35,22 @@ fn refuse_write<R: Runtime>(rt: &R, path: &str, error: &io::Error) -> ExitCode {
     refuse(rt, &Report::File(path, write_fault(error)))
 }
 
+/// Drops a new file that wasn't written whole. Where memory was refused as it was to be opened, tells so and gives the status to end
+/// with: its writer was told of a write that failed, and of nothing else.
+pub fn give_up<R: Runtime<File = File> + AllocGlobal>(
+    rt: &R,
+    new: NewFile<'_, R>,
+    path: &str,
+) -> Option<ExitCode> {
+    let lacked = new.lacked_memory();
+    new.discard();
+    if lacked {
+        Some(refuse(rt, &Report::File(path, "NoMemory")))
+    } else {
+        None
+    }
+}
+
 /// Keeps a new file of so many bytes, and tells their number. A save of the file in whose place it is to be may have been cut off
 /// since the command began; then that file stays.
 pub fn keep<R: Runtime<File = File> + AllocGlobal>(

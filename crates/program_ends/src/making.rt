@@ -1,6 +1,6 @@
 //! Files that a command makes.
 
-use crate::ends::keep;
+use crate::ends::{give_up, keep};
 use crate::journals::refuse_unfinished;
 use crate::new_file::NewFile;
 use std::fs::File;
@@ -25,10 +25,10 @@ where
     let mut new = NewFile::new(rt, path);
     match write(&mut new) {
         Ok(count) => keep(rt, new, path, count),
-        Err(fault) => {
-            new.discard();
-            tell(path, &fault)
-        }
+        Err(fault) => match give_up(rt, new, path) {
+            Some(code) => code,
+            None => tell(path, &fault),
+        },
     }
 }
 

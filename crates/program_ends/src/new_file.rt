@@ -67,6 +67,7 @@ pub struct NewFile<'a, R: Files<File = File> + Clock + AllocGlobal> {
     path: &'a str,
     at_link: AtLink,
     place: Place,
+    lacked_memory: bool,
 }
 
 impl<'a, R: Files<File = File> + Clock + AllocGlobal> NewFile<'a, R> {
@@ -77,6 +78,7 @@ impl<'a, R: Files<File = File> + Clock + AllocGlobal> NewFile<'a, R> {
             path,
             at_link: AtLink::Follow,
             place: Place::Unopened,
+            lacked_memory: false,
         }
     }
 
@@ -87,6 +89,7 @@ impl<'a, R: Files<File = File> + Clock + AllocGlobal> NewFile<'a, R> {
             path,
             at_link: AtLink::Replace,
             place: Place::Unopened,
+            lacked_memory: false,
         }
     }
 
@@ -124,18 +127,35 @@ impl<'a, R: Files<File = File> + Clock + AllocGlobal> NewFile<'a, R> {
         Ok(())
     }
 
+    /// Whether memory was refused as the file was to be opened or made. Whoever writes to it is told of a write that failed, and
+    /// of nothing else.
+    pub fn lacked_memory(&self) -> bool {
+        self.lacked_memory
+    }
+
     /// Drops what was written: the path's file stays as it was.
     pub fn discard(self) {
         discard_place(self.rt, &self.place);
     }
 
+    /// Opens what the bytes go to.
+    fn open(&self) -> io::Result<Place> {
+        match self.at_link {
+            AtLink::Follow => open_followed(self.rt, self.path),
+            AtLink::Replace => open_in_place(self.rt, self.path),
+        }
+    }
+
     /// Opens what the bytes go to, once.
     fn begin(&mut self) -> io::Result<()> {
         if let Place::Unopened = self.place {
-            self.place = match self.at_link {
-                AtLink::Follow => open_followed(self.rt, self.path)?,
-                AtLink::Replace => open_in_place(self.rt, self.path)?,
-            };
+            match self.open() {
+                Ok(place) => self.place = place,
+                Err(error) => {
+                    self.lacked_memory = error.kind() == ErrorKind::OutOfMemory;
+                    return Err(error);
+                }
+            }
         }
         Ok(())
     }

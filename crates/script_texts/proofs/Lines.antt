@@ -15,14 +15,14 @@ of_event None t = absurd (cc)
 of_event (Some (event.Command c)) t = refl
 of_event (Some (event.Deliver p)) t = absurd (cc)
 of_event (Some (event.Forge inc message)) t = absurd (cc)
-of_event (Some (event.Crash inc)) t = absurd (cc)
+of_event (Some (event.Crash s inc)) t = absurd (cc)
 of_event (Some (event.Reap inc)) t = absurd (cc)
 of_event (Some (event.Done f)) t = absurd (cc)
 of_event (Some (event.Fail f)) t = absurd (cc)
 of_event (Some (event.Resolve f is_kept)) t = absurd (cc)
 of_event (Some (event.Open name w h)) t = absurd (cc)
-of_event (Some (event.Scribble inc act)) t = absurd (cc)
-of_event (Some (event.Ask inc act)) t = absurd (cc)
+of_event (Some (event.Scribble s inc act)) t = absurd (cc)
+of_event (Some (event.Ask s inc act)) t = absurd (cc)
 
 spells_any : (first : Option ScriptCommand) (e : Option Event) → IsTrue (takes_memory e) → IsSome (or_else first (command_in e))
 spells_any (Some c) e t = refl

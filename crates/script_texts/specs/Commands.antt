@@ -15,14 +15,14 @@ abbrev pub command_of : Event → Option ScriptCommand
 command_of (event.Command c) = Some (script.Container c)
 command_of (event.Deliver p) = None
 command_of (event.Forge inc message) = None
-command_of (event.Crash inc) = None
+command_of (event.Crash s inc) = None
 command_of (event.Reap inc) = None
 command_of (event.Done f) = None
 command_of (event.Fail f) = None
 command_of (event.Resolve f is_kept) = None
 command_of (event.Open name width height) = Some (script.Open name width height)
-command_of (event.Scribble inc act) = None
-command_of (event.Ask inc act) = None
+command_of (event.Scribble s inc act) = None
+command_of (event.Ask s inc act) = None
 
 abbrev pub command_in : Option Event → Option ScriptCommand
 command_in None = None

@@ -70,13 +70,13 @@ fn command_of(event: Event) -> Option<ScriptCommand>
         Event::Open(name, width, height) => Some(ScriptCommand::Open(name, width, height)),
         Event::Deliver(_)
         | Event::Forge(_, _)
-        | Event::Crash(_)
+        | Event::Crash(_, _)
         | Event::Reap(_)
         | Event::Done(_)
         | Event::Fail(_)
         | Event::Resolve(_, _)
-        | Event::Scribble(_, _)
-        | Event::Ask(_, _) => None,
+        | Event::Scribble(_, _, _)
+        | Event::Ask(_, _, _) => None,
     }
 }
 

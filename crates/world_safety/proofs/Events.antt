@@ -30,7 +30,7 @@ use Rattle.world_model.specs.declared.life.Life.TheVariants.{Running, Ended, Rea
 use Rattle.world_model.specs.declared.event.Event.{Event}
 use Rattle.world_model.specs.declared.event.Event.TheVariants as event
 use Rattle.world_model.specs.declared.event.Stop.{Stop}
-use Rattle.world_model.specs.World.{World, Instance, messages_of, of_container, started_by, ended_by, joined, took, commanded, owners_by, delivered, taken_at, with_taken, server_of, deliver, forged_on, forged, forge, crashed, crash, ended, reap, kept_commit, done_taken, done_imaged, done_in, only_taken, resolved, happened, Choice, delivered_said, link_of, link_to}
+use Rattle.world_model.specs.World.{World, Instance, messages_of, of_container, started_by, ended_by, joined, took, commanded, owners_by, delivered, taken_at, with_taken, server_of, deliver, forged_on, forged, forge, crashed, crash, ended, reap, kept_commit, done_taken, done_imaged, done_in, only_taken, resolved, happened, Choice, delivered_said, link_of, link_to, scribble, ask}
 use Rattle.world_model.specs.Safe.{Among, IsHonest, is_hostile, links_of, acts_of, sayings, messages}
 use Rattle.world_facts.specs.Words.{life_at, lives_of, sayings_of}
 use Rattle.world_facts.specs.Shapes.{IsTold}

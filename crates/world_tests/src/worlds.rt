@@ -38,7 +38,7 @@ const REPORT: &str =
 
 /// What the note writes, and its content when it is closed; a frame without objects that is saved; then a command that is
 /// refused, and a call that is dropped.
-const CLOSED: &str = "scribble 1 1
+const CLOSED: &str = "scribble 1.1 1
 deliver 9
 close 1 save
 deliver 10
@@ -52,7 +52,7 @@ deliver 1";
 /// A content that is forged is taken, and the one that the note then writes under the same number isn't.
 const FORGED: &str =
     "forge 1 4f4c434d0203230000000100000001000000010000000200000001000000010454657874010000007a00000000
-scribble 1 1
+scribble 1.1 1
 deliver 9";
 
 /// What is looked at, and what it is: how many events, messages and frames there are, and the contents that were counted or
