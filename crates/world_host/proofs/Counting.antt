@@ -1,5 +1,5 @@
 -- What the commit of a frame counts, and why it is refused for want of memory alone.
-use Rattle.std.proofs.Common.{◌≡◌, ℕ, Bool, true, false, List, map, Option, Some, None, Result, Ok, Err, refl, sym, ap, ◌∙◌, subst, if◌then◌else◌}
+use Rattle.std.proofs.Common.{◌≡◌, ℕ, Bool, true, false, map, Option, Some, None, Result, Ok, Err, refl, sym, ap, ◌∙◌, subst, if◌then◌else◌}
 use Rattle.std.specs.Prelude.{IsOk}
 use Rattle.wire_msgs.specs.Found.{nth}
 use Rattle.file_model.specs.Refusals.{writable}

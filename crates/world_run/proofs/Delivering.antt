@@ -14,7 +14,7 @@ use Rattle.container_model.specs.Messages.{on_message}
 use Rattle.container_model.specs.declared.fault.ContainerFault.{ContainerFault}
 use Rattle.world_model.specs.declared.logs.Sent.{Sent}
 use Rattle.world_model.specs.World.{World, Instance, served, delivered, deliver, forged_on, taken_at, taken_by, taken_of, took, with_taken, in_session, link_of, link_to}
-use Rattle.world_host.specs.Logging.{brought, forged, forged_as, heard_as}
+use Rattle.world_host.specs.Logging.{forged, forged_as, heard_as}
 use Rattle.world_host.specs.Logging as entry
 use Rattle.world_run.specs.declared.plan.Plan.{Plan}
 use Rattle.world_run.specs.declared.plan.Plan.TheVariants.{Quiet, Tell, Serve, Begin}
