@@ -1,5 +1,5 @@
 -- What the delivery of a message makes of a world, with what is logged of it.
-use Rattle.std.proofs.Common.{◌≡◌, ◌<◌, ℕ, length, get_or, List, [], ◌∷◌, ◌++◌, Option, Some, None, Result, Ok, Err, refl, ap, sym, ◌∙◌, slice_get}
+use Rattle.std.proofs.Common.{◌≡◌, ◌<◌, ℕ, Bool, true, false, length, get_or, List, [], ◌∷◌, ◌++◌, Option, Some, None, Result, Ok, Err, OnOk, refl, ap, sym, subst, ◌∙◌, slice_get}
 use Rattle.std.specs.List.{remove}
 use Rattle.std.proofs.lemmas.List.{append-nil}
 use Rattle.wire_msgs.specs.Found.{find, nth}
@@ -13,12 +13,14 @@ use Rattle.container_model.specs.Record.{Record, Took, is_linked}
 use Rattle.container_model.specs.Messages.{on_message}
 use Rattle.container_model.specs.declared.fault.ContainerFault.{ContainerFault}
 use Rattle.world_model.specs.declared.logs.Sent.{Sent}
+use Rattle.world_model.specs.declared.logs.Taken.{Taken}
 use Rattle.world_model.specs.World.{World, Instance, served, delivered, deliver, forged_on, taken_at, taken_by, taken_of, took, with_taken, in_session, link_of, link_to}
 use Rattle.world_host.specs.Logging.{forged, forged_as, heard_as}
 use Rattle.world_host.specs.Logging as entry
+use Rattle.world_model.specs.declared.event.Stop.{Stop}
 use Rattle.world_run.specs.declared.plan.Plan.{Plan}
 use Rattle.world_run.specs.declared.plan.Plan.TheVariants.{Quiet, Tell, Serve, Begin}
-use Rattle.world_run.specs.Plans.{carried, carried_call, logged, serving}
+use Rattle.world_run.specs.Plans.{carried, carried_call, carry, logged, serving}
 use Rattle.world_run.proofs.Serving.{stands}
 use Rattle.wire_msgs.specs.declared.message.Said.{Said}
 
@@ -65,14 +67,30 @@ forged_same_at : (w : World) (link inc act : ℕ) (told : Result Took ContainerF
     → record (took w told) { taken = w.taken ++ taken_by w.rec None inc act told; hostile = w.hostile ++ link ∷ [] } ≡ forged_as w link (taken_of None (find (is_linked inc act) w.rec.objects)) told
 forged_same_at w link inc act told = ap (λ more. record (took w told) { taken = w.taken ++ more; hostile = w.hostile ++ link ∷ [] }) (same_log w.rec None inc act told)
 
+-- of a call nothing is
+if_none : (b : Bool) → ◌≡◌ {A = List Taken} (entry.if_taken b []) []
+if_none true = refl
+if_none false = refl
+
+logged_none : (told : Result Took ContainerFault) → entry.logged [] told ≡ []
+logged_none (Err fault) = refl
+logged_none (Ok t) = if_none t.answer.taken
+
+forged_call : (w : World) (inc : ℕ) (told : Result Took ContainerFault) → record (took w told) { taken = w.taken ++ []; hostile = w.hostile ++ inc ∷ [] } ≡ forged_as w inc [] told
+forged_call w inc told = ap (λ more. record (took w told) { taken = w.taken ++ more; hostile = w.hostile ++ inc ∷ [] }) (sym (logged_none told))
+
 forged_said : (w : World) (inc s : ℕ) (x : Said) → forged_on w inc (in_session s x) ≡ forged w inc (in_session s x)
-forged_said w inc s (Call i act n op) = refl
+forged_said w inc s (Call i act n op) = forged_call w inc (on_message w.rec (link_to w inc) (in_session s (Call i act n op)))
 forged_said w inc s (Reply i act n answer) = forged_same_at w inc i act (on_message w.rec (link_to w inc) (in_session s (Reply i act n answer)))
 forged_said w inc s (Write i act g number content) = forged_same_at w inc i act (on_message w.rec (link_to w inc) (in_session s (Write i act g number content)))
 forged_said w inc s (Ask i act g) = forged_same_at w inc i act (on_message w.rec (link_to w inc) (in_session s (Ask i act g)))
 
 pub forged_same : (w : World) (inc : ℕ) (m : Message) → forged_on w inc m ≡ forged w inc m
 forged_same w inc m = forged_said w inc m.session m.said
+
+-- a message that was taken apart
+pub carried_as : {T : Type 0} (w v : World) (p : ℕ) (m : Message) (x : Said) (plan : Plan) (result : Result T Stop) → m.said ≡ x → OnOk result (carry w p (in_session m.session x) plan ≡ Ok v) → OnOk result (carry w p m plan ≡ Ok v)
+carried_as w v p m x plan result e h = subst (λ y. OnOk result (carry w p (in_session m.session y) plan ≡ Ok v)) (sym e) h
 
 -- a message that is read twice
 pub same_at : {A : Type 0} (xs ys : List A) (i : ℕ) (x y : A) → xs ≡ ys → i < length ys → x ≡ get_or ys i x → y ≡ get_or xs i y → y ≡ x

@@ -1,6 +1,6 @@
 //! What a world is made of, and the events that happen in it.
 
-ghost use Rattle.std.specs.Prelude.{◌≡◌, ◌≤◌, ◌<◌, ◌+◌, ◌++◌, [], List, ℕ, IfErr, IfSome, MatchOption, None, OnErr, OnOk, Ok, Err, Some, length, map, slice_get, take, vec_len, vec_capacity, true, false};
+ghost use Rattle.std.specs.Prelude.{◌≡◌, ◌==◌, ◌≤◌, ◌<◌, ◌+◌, ◌++◌, [], List, ℕ, IfErr, IfSome, MatchOption, None, OnErr, OnOk, Ok, Err, Some, length, map, slice_get, take, vec_len, vec_capacity, true, false};
 ghost use Rattle.container_model.specs.Numbered.{IsNth};
 ghost use Rattle.wire_msgs.specs.Found.{nth, set_nth};
 ghost use Rattle.world_model.specs.declared.event.Event.{Event};
