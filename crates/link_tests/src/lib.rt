@@ -4,6 +4,8 @@
 #[cfg(test)]
 mod cuts;
 #[cfg(test)]
+mod disks;
+#[cfg(test)]
 mod ends;
 #[cfg(test)]
 mod given;
