@@ -1,6 +1,7 @@
 //! The command lines of the commands between files and folders and of maps, and the help that they print.
 
 use clap::Command;
+use edit_program::command_lines::{EDIT_ROW, MV_ROW, PUT_ROW, RM_ROW};
 pub use program_ends::command_lines::FILE;
 use program_ends::command_lines::{self, AS_JSON, Argument, FILE_MADE, FILE_READ, Kind, Row};
 use std::alloc::{AllocError, Global};
@@ -81,7 +82,7 @@ attributes and its other hard names aren't.
 
 Example: olecon pack mail mail.msg";
 
-/// The commands of this crate, behind those of `program_ends`.
+/// The commands of this crate and those that change a file in place, behind those of `program_ends`.
 const ROWS: &[Row<'static>] = &[
     Row {
         name: CHECK,
@@ -133,10 +134,14 @@ const ROWS: &[Row<'static>] = &[
             FILE_MADE,
         ],
     },
+    EDIT_ROW,
+    PUT_ROW,
+    RM_ROW,
+    MV_ROW,
 ];
 
 /// The command line of the program `olecon` with its commands over files: `make`, `list`, `get`, `clean`, `check`,
-/// `map`, `extract` and `pack`. A program with more commands adds them. `Task::of` tells what a parsed one asks for.
+/// `map`, `extract`, `pack`, `edit`, `put`, `rm` and `mv`. A program with more commands adds them. `Task::of` tells what a parsed one asks for.
 ///
 /// Refused for want of memory alone.
 pub fn command_line<'a>(alloc: Global) -> Result<Command<'a>, AllocError> {

@@ -3,6 +3,8 @@
 use crate::command_lines::{CHECK, EXTRACT, FOLDER, FORCE, MAP, PACK};
 use crate::running::{Listing, check, clean, get, list, map};
 use clap::ArgMatches;
+use edit_program::command_lines::{EDIT, MV, NAME, PUT, RM, ZERO};
+use edit_program::editing::{edit, put, remove, rename};
 use fault_texts::telling::Form;
 use file_making::making::make_with_tree;
 use folder_program::extracting::extract;
@@ -34,6 +36,14 @@ pub enum Task<'a> {
     Extract(&'a str, &'a str, bool),
     /// A file of one path, made of the folder of another: that of the folder, and that of the file.
     Pack(&'a str, &'a str),
+    /// The file of a path, changed by standard input's lines; whether what is freed is zeroed.
+    Edit(&'a str, bool),
+    /// Standard input, put into a stream: the path of its file, its own, and whether what is freed is zeroed.
+    Put(&'a str, &'a str, bool),
+    /// What stands at a path of a file, removed: the path of the file, that in it, and whether what is freed is zeroed.
+    Remove(&'a str, &'a str, bool),
+    /// What stands at a path of a file, renamed: the path of the file, that in it, the name, and whether what is freed is zeroed.
+    Rename(&'a str, &'a str, &'a str, bool),
 }
 
 impl<'a> Task<'a> {
@@ -57,7 +67,7 @@ impl<'a> Task<'a> {
         } else if name == PACK {
             packing(given)
         } else {
-            None
+            changing(name, given)
         }
     }
 
@@ -76,6 +86,10 @@ impl<'a> Task<'a> {
                 extract(rt, path, folder, is_forced, is_watched)
             }
             Task::Pack(folder, path) => pack(rt, folder, path),
+            Task::Edit(path, is_zeroed) => edit(rt, path, is_zeroed),
+            Task::Put(path, word, is_zeroed) => put(rt, path, word, is_zeroed),
+            Task::Remove(path, word, is_zeroed) => remove(rt, path, word, is_zeroed),
+            Task::Rename(path, word, name, is_zeroed) => rename(rt, path, word, name, is_zeroed),
         }
     }
 }
@@ -140,4 +154,40 @@ fn extracting<'a>(extracted: &ArgMatches<'a>) -> Option<Task<'a>> {
 
 fn packing<'a>(packed: &ArgMatches<'a>) -> Option<Task<'a>> {
     Some(Task::Pack(packed.get_str(FOLDER)?, packed.get_str(FILE)?))
+}
+
+/// What a command of this name that changes a file asks for, if it is one.
+fn changing<'a>(name: &str, given: &ArgMatches<'a>) -> Option<Task<'a>> {
+    if name == EDIT {
+        Some(Task::Edit(given.get_str(FILE)?, given.get_flag(ZERO)))
+    } else if name == PUT {
+        putting(given)
+    } else if name == RM {
+        removing(given)
+    } else if name == MV {
+        renaming(given)
+    } else {
+        None
+    }
+}
+
+fn putting<'a>(put: &ArgMatches<'a>) -> Option<Task<'a>> {
+    Some(Task::Put(put.get_str(FILE)?, put.get_str(PATH)?, put.get_flag(ZERO)))
+}
+
+fn removing<'a>(removed: &ArgMatches<'a>) -> Option<Task<'a>> {
+    Some(Task::Remove(
+        removed.get_str(FILE)?,
+        removed.get_str(PATH)?,
+        removed.get_flag(ZERO),
+    ))
+}
+
+fn renaming<'a>(renamed: &ArgMatches<'a>) -> Option<Task<'a>> {
+    Some(Task::Rename(
+        renamed.get_str(FILE)?,
+        renamed.get_str(PATH)?,
+        renamed.get_str(NAME)?,
+        renamed.get_flag(ZERO),
+    ))
 }

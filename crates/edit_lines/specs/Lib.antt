@@ -1,0 +1,4 @@
+pub mod Lines
+pub mod Given
+pub mod Marks
+pub mod Edited
