@@ -29,15 +29,15 @@ clean 2559 => file b.ole: Unwritable
 clean 2560 => 2560
 simulate unread => file e: Unreadable
 simulate 0 => file -: Unwritable
-simulate 10 => file -: Unwritable
-simulate 11 => run";
+simulate 9 => file -: Unwritable
+simulate 10 => run";
 
 const DESCRIPTION: &str = "stream A 010203\n";
 
-const EVENTS: &str = "start\n";
+const EVENTS: &str = "new a 1 1\n";
 
 /// What these events lead to.
-const TOLD: &str = "1 server 1\n";
+const TOLD: &str = "1 frame 1\n";
 
 /// What stands before a mark, and what behind it, which is nothing where there is no such mark.
 fn halves<'a>(text: &'a str, mark: &str) -> (&'a str, &'a str) {

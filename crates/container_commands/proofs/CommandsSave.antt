@@ -70,12 +70,12 @@ set_twice xs zero x y = refl
 set_twice xs (suc i) x y = slice_twice xs i x y
 
 -- ---- the record in which a save begins; where all are passive, it goes on at once
-module _ (r : Record) (f : ℕ) (a : Frame) (asked : Option (List ℕ)) (s : Steady r) (at : nth r.frames f ≡ Some a) (idle : a.phase ≡ Idle) where
+module _ (r : Record) (f : ℕ) (a : Frame) (raised : Option ℕ) (asked : Option (List ℕ)) (s : Steady r) (at : nth r.frames f ≡ Some a) (idle : a.phase ≡ Idle) where
   abbrev u : Record
-  u = saving r f a asked
+  u = saving r f a raised asked
 
   abbrev next : Frame
-  next = saving_frame asked a
+  next = saving_frame raised asked a
 
   -- an activation of an idle frame has no content answered
   unsaved : (o : Object) → SteadyObject r o → o.frame ≡ f → IfSome o.link (λ (l : Link). l.saved ≡ None)
@@ -111,43 +111,43 @@ module _ (r : Record) (f : ℕ) (a : Frame) (asked : Option (List ℕ)) (s : Ste
       rw (e, asked_none f u.objects none, sent_none f u.objects none, set_twice r.frames f next (handing_frame next)) refl
   goes_on false e = rw e refl
 
-  pub saving_on_is : saving_on r f a asked ≡ record { rec = record u { frames = set_nth r.frames f (if hands_off f u.objects next then handing_frame next else next) }; sent = [] }
+  pub saving_on_is : saving_on r f a raised asked ≡ record { rec = record u { frames = set_nth r.frames f (if hands_off f u.objects next then handing_frame next else next) }; sent = [] }
   saving_on_is = ap (hand_off_at u f) (nth-set_same r.frames f a next at) ∙ goes_on (hands_off f u.objects next) refl
 
   -- what the code makes of the record
-  module _ (i : ℕ) (b new on : Frame) (os : List Object) (place : IsNth f r.frames i) (here : a ≡ get_or r.frames i a) (found : b ≡ get_or r.frames i b) (begun : new ≡ saving_frame asked b) (objects : os ≡ map (asked_object f (Save (a.k + 1))) r.objects)
+  module _ (i : ℕ) (b new on : Frame) (os : List Object) (place : IsNth f r.frames i) (here : a ≡ get_or r.frames i a) (found : b ≡ get_or r.frames i b) (begun : new ≡ saving_frame raised asked b) (objects : os ≡ map (asked_object f (Save (a.k + 1))) r.objects)
       (went : on ≡ (if hands_off f os new then handing_frame new else new)) where
     same : new ≡ next
-    same = begun ∙ ap (saving_frame asked) (found ∙ get_or_default r.frames i b a place.fits ∙ sym here)
+    same = begun ∙ ap (saving_frame raised asked) (found ∙ get_or_default r.frames i b a place.fits ∙ sym here)
 
     pub on_is : on ≡ (if hands_off f u.objects next then handing_frame next else next)
     on_is = went ∙ (ap (λ (zs : List Object). if hands_off f zs new then handing_frame new else new) objects ∙ ap (λ (z : Frame). if hands_off f u.objects z then handing_frame z else z) same)
 
-    pub saving_is : ◌≡◌ {A = Record} (record r { frames = set r.frames i on; objects = os }) (saving_on r f a asked).rec
+    pub saving_is : ◌≡◌ {A = Record} (record r { frames = set r.frames i on; objects = os }) (saving_on r f a raised asked).rec
     saving_is =
         let frames : set r.frames i on ≡ set_nth r.frames f (if hands_off f u.objects next then handing_frame next else next) = ap (set r.frames i) on_is ∙ sym (place.puts (if hands_off f u.objects next then handing_frame next else next)) in
         (λ t. record r { frames = frames t; objects = objects t }) ∙ ap (λ z. z.rec) (sym saving_on_is)
 
     -- what a save gives
     pub saved_is : (fs : List Frame) (actions more : List Action) (answer : Answer) → fs ≡ settled_frames 1 os (set r.frames i on) → actions ≡ sends (asked_all f (Save (a.k + 1)) r.objects) → more ≡ actions ++ settled_actions 1 os (set r.frames i on) → answer ≡ acts more
-        → ◌≡◌ {A = Took} (save_made r f a asked) (record { rec = record r { frames = fs; objects = os }; answer = answer; counted = [] })
+        → ◌≡◌ {A = Took} (save_made r f a raised asked) (record { rec = record r { frames = fs; objects = os }; answer = answer; counted = [] })
     saved_is fs actions more answer settled sent all told =
-        let done : ◌≡◌ {A = Record} (settle (saving_on r f a asked).rec) (record r { frames = fs; objects = os }) =
+        let done : ◌≡◌ {A = Record} (settle (saving_on r f a raised asked).rec) (record r { frames = fs; objects = os }) =
         ap settle (sym saving_is) ∙ ap {A = List Frame} (λ x. record r { frames = x; objects = os }) (sym settled) in
-        let nothing : (saving_on r f a asked).sent ≡ [] = ap (λ z. z.sent) saving_on_is in
-        let asks : sends (asked_all f (Save (a.k + 1)) r.objects ++ (saving_on r f a asked).sent) ≡ sends (asked_all f (Save (a.k + 1)) r.objects) = ap (λ (ms : List Message). sends (asked_all f (Save (a.k + 1)) r.objects ++ ms)) nothing ∙ ap sends (append_nil (asked_all f (Save (a.k + 1)) r.objects)) in
-        let asked_for : more ≡ sends (asked_all f (Save (a.k + 1)) r.objects ++ (saving_on r f a asked).sent) ++ settle_actions (saving_on r f a asked).rec = all ∙ (ap (λ t. t ++ settled_actions 1 os (set r.frames i on)) (sent ∙ sym asks) ∙ ap (λ t. sends (asked_all f (Save (a.k + 1)) r.objects ++ (saving_on r f a asked).sent) ++ settle_actions t) saving_is) in
-        let said : acts (sends (asked_all f (Save (a.k + 1)) r.objects ++ (saving_on r f a asked).sent) ++ settle_actions (saving_on r f a asked).rec) ≡ answer = ap acts (sym asked_for) ∙ sym told in
+        let nothing : (saving_on r f a raised asked).sent ≡ [] = ap (λ z. z.sent) saving_on_is in
+        let asks : sends (asked_all f (Save (a.k + 1)) r.objects ++ (saving_on r f a raised asked).sent) ≡ sends (asked_all f (Save (a.k + 1)) r.objects) = ap (λ (ms : List Message). sends (asked_all f (Save (a.k + 1)) r.objects ++ ms)) nothing ∙ ap sends (append_nil (asked_all f (Save (a.k + 1)) r.objects)) in
+        let asked_for : more ≡ sends (asked_all f (Save (a.k + 1)) r.objects ++ (saving_on r f a raised asked).sent) ++ settle_actions (saving_on r f a raised asked).rec = all ∙ (ap (λ t. t ++ settled_actions 1 os (set r.frames i on)) (sent ∙ sym asks) ∙ ap (λ t. sends (asked_all f (Save (a.k + 1)) r.objects ++ (saving_on r f a raised asked).sent) ++ settle_actions t) saving_is) in
+        let said : acts (sends (asked_all f (Save (a.k + 1)) r.objects ++ (saving_on r f a raised asked).sent) ++ settle_actions (saving_on r f a raised asked).rec) ≡ answer = ap acts (sym asked_for) ∙ sym told in
         λ t. record { rec = done t; answer = said t; counted = [] }
 
 -- the command's answer
-unspent : (r : Record) (f : ℕ) (a : Frame) (asked : Option (List ℕ)) (t : Took) → a.k < r.numbers → all_have_numbers f r.numbers r.objects ≡ true → save_made r f a asked ≡ t → save_numbered r f a asked ≡ Ok t
-unspent r f a asked t lt has made =
+unspent : (r : Record) (f : ℕ) (a : Frame) (raised : Option ℕ) (asked : Option (List ℕ)) (t : Took) → a.k < r.numbers → all_have_numbers f r.numbers r.objects ≡ true → save_made r f a raised asked ≡ t → save_numbered r f a raised asked ≡ Ok t
+unspent r f a raised asked t lt has made =
     let low : nat_le r.numbers a.k ≡ false = grind arith in
     rw (low, has) (ap {A = Took} Ok made)
 
-pub saved_taken : (r q : Record) (f i : ℕ) (a : Frame) (asked : Option (List ℕ)) (t : Took) → r ≡ q → i < length r.frames → a ≡ get_or r.frames i a → a.k < r.numbers → all_have_numbers f r.numbers r.objects ≡ true
-    → save_made r f a asked ≡ t → IfSome (slice_get q.frames i) (λ x. save_numbered q f x asked ≡ Ok t)
-saved_taken r q f i a asked t e lt at k has made =
+pub saved_taken : (r q : Record) (f i : ℕ) (a : Frame) (raised : Option ℕ) (asked : Option (List ℕ)) (t : Took) → r ≡ q → i < length r.frames → a ≡ get_or r.frames i a → a.k < r.numbers → all_have_numbers f r.numbers r.objects ≡ true
+    → save_made r f a raised asked ≡ t → IfSome (slice_get q.frames i) (λ x. save_numbered q f x raised asked ≡ Ok t)
+saved_taken r q f i a raised asked t e lt at k has made =
     let here : slice_get r.frames i ≡ Some a = slice_get-get_or r.frames i a lt ∙ ap (λ (x : Frame). Some x) (sym at) in
-    subst (λ (y : Record). IfSome (slice_get y.frames i) (λ x. save_numbered y f x asked ≡ Ok t)) e (subst (λ o. IfSome o (λ x. save_numbered r f x asked ≡ Ok t)) (sym here) (unspent r f a asked t k has made))
+    subst (λ (y : Record). IfSome (slice_get y.frames i) (λ x. save_numbered y f x raised asked ≡ Ok t)) e (subst (λ o. IfSome o (λ x. save_numbered r f x raised asked ≡ Ok t)) (sym here) (unspent r f a raised asked t k has made))

@@ -210,17 +210,17 @@ save_held : (servers : List Bool) (last_act : ℕ) (asked name : Option (List �
 save_held servers last_act asked name k j role phase None p q h = tt
 save_held servers last_act asked name k j role phase (Some l) p q h = save_asked servers last_act asked k role l (subst (λ (z : Phase). SteadyLink servers last_act z asked k role l) p h) (none_of l.pending q) name j
 
-module _ (r : Record) (f : ℕ) (frame : Frame) (s : Steady r) (at : nth r.frames f ≡ Some frame) (idle : frame.phase ≡ Idle) (name : Option (List ℕ)) (state : GrantState) (quiet : Commands.any_busy f state r.objects ≡ false) where
+module _ (r : Record) (f : ℕ) (frame : Frame) (s : Steady r) (at : nth r.frames f ≡ Some frame) (idle : frame.phase ≡ Idle) (raised : Option ℕ) (name : Option (List ℕ)) (state : GrantState) (quiet : Commands.any_busy f state r.objects ≡ false) where
   abbrev saving_now : Record
-  saving_now = Commands.saving r f frame name
+  saving_now = Commands.saving r f frame raised name
 
   saved_object : (o : Object) → SteadyObject r o → (o.frame ≡ f → is_busy state o ≡ false) → SteadyObject saving_now (asked_object f (Save (frame.k + 1)) o)
   saved_object o h q = if_told (SteadyObject saving_now) (o.frame == f) (record o { link = asked_link (Save (frame.k + 1)) o.link }) o
       (λ e. let here = eqb-true o.frame f e in
       let still = or_false (is_asked o.link) (is_claim o.number (waiting state)) (q here) in
-      set_object r saving_now f frame (Commands.saving_frame name frame) o (record o { link = asked_link (Save (frame.k + 1)) o.link }) at refl here refl refl refl h.within refl h
+      set_object r saving_now f frame (Commands.saving_frame raised name frame) o (record o { link = asked_link (Save (frame.k + 1)) o.link }) at refl here refl refl refl h.within refl h
       (save_held r.servers r.last_act frame.asked name frame.k (frame.k + 1) (role_in frame.ui.state o.number) frame.phase o.link idle still.0))
-      (λ e. unset_object r saving_now f (Commands.saving_frame name frame) o refl (eqb-false o.frame f e) refl refl refl h)
+      (λ e. unset_object r saving_now f (Commands.saving_frame raised name frame) o refl (eqb-false o.frame f e) refl refl refl h)
 
   grants_stay : (i : ℕ) (x : GrantState) → SteadyGrant r i x → SteadyGrant saving_now i x
   grants_stay i x h = grant_kept r saving_now i x (λ c names k. claim_kept r saving_now i c
@@ -228,12 +228,12 @@ module _ (r : Record) (f : ℕ) (frame : Frame) (s : Steady r) (at : nth r.frame
 
   pub saving_steady : Steady saving_now
   saving_steady = record {
-    frames = each_set SteadyFrame r.frames f (Commands.saving_frame name frame) s.frames (record { asked = tt });
+    frames = each_set SteadyFrame r.frames f (Commands.saving_frame raised name frame) s.frames (record { asked = tt });
     objects = each_map (λ o. SteadyObject r o × (o.frame ≡ f → is_busy state o ≡ false)) (SteadyObject saving_now) (asked_object f (Save (frame.k + 1))) r.objects (λ o k. saved_object o k.0 k.1)
         (each_both (SteadyObject r) (λ (o : Object). o.frame ≡ f → is_busy state o ≡ false) r.objects s.objects (none_busy f state r.objects quiet));
     order = pairs_map InOrder (asked_object f (Save (frame.k + 1))) r.objects (order_both (asked_object f (Save (frame.k + 1))) (asked_took f (Save (frame.k + 1)))) s.order;
     count = λ g. subst (λ (n : ℕ). n ≤ MOST_OBJECTS) (sym (count_map g (asked_object f (Save (frame.k + 1))) r.objects (λ o. (asked_took f (Save (frame.k + 1)) o).frame))) (s.count g);
-    grants = λ i x e. elim (set_back r.frames f i frame (Commands.saving_frame name frame) x at e) [
+    grants = λ i x e. elim (set_back r.frames f i frame (Commands.saving_frame raised name frame) x at e) [
       | inl same ↦ subst (λ (y : Frame). SteadyGrant saving_now i y.ui.state) same.1 (subst (λ (n : ℕ). SteadyGrant saving_now n frame.ui.state) same.0 (grants_stay f frame.ui.state (s.grants f frame at)))
       | inr other ↦ grants_stay i x.ui.state (s.grants i x other)
     ];
@@ -263,8 +263,8 @@ made_keeps r _ t s (makes_end inc alive made) = subst (λ (z : Took). Steady z.r
 made_keeps r _ t s (makes_activation n inc at run made) = subst (λ (z : Took). Steady z.rec) made
     (run_steady r at.object inc (Commands.first_operation at.object at.object.work.streams) at.frame s at.own run.alive (first_begins at.object at.object.work.streams) at.inside at.idle run.passive)
 made_keeps r _ t s (makes_edit n bytes go small has made) = subst (λ (z : Took). Steady z.rec) made (edit_keeps r go.at.object go.at.frame go.link s go.at.own go.at.inside go.at.idle go.at.quiet go.linked bytes)
-made_keeps r _ t s (makes_save f name at other made) = subst (λ (z : Took). Steady z.rec) made
-    (settle_steady (Commands.saving_on r f at.frame name).rec (hand_off_in_steady (Commands.saving r f at.frame name) f (saving_steady r f at.frame s at.there at.idle name at.frame.ui.state at.quiet)))
+made_keeps r _ t s (makes_save f raised name at raising other made) = subst (λ (z : Took). Steady z.rec) made
+    (settle_steady (Commands.saving_on r f at.frame raised name).rec (hand_off_in_steady (Commands.saving r f at.frame raised name) f (saving_steady r f at.frame s at.there at.idle raised name at.frame.ui.state at.quiet)))
 made_keeps r _ t s (makes_steps n go ts has row made) = subst (λ (z : Took). Steady z.rec) made
     (row_keeps r go.at.object go.at.frame go.link s go.at.own go.at.inside go.at.idle go.at.quiet go.linked go.at.unclaimed ts row)
 made_keeps r _ t s (makes_taking n go ts taking made) = subst (λ (z : Took). Steady z.rec) made

@@ -1,3 +1,4 @@
 pub mod OpensMade
 pub mod FewCalls
 pub mod SaidIn
+pub mod SessionKept

@@ -16,6 +16,7 @@ use container_model::answer::Answer;
 use container_model::fault::ContainerFault;
 use container_objects::commits::{
     commit_frame, complete_objects, completion, doubt_frame, drop_frame, drop_objects, dropping,
+    session_after,
 };
 use container_state::state::State;
 use std::alloc::Global;
@@ -74,7 +75,8 @@ fn place_lost(state: &State, f: u32) -> Result<usize, ContainerFault>
     Ok(place)
 }
 
-/// The document of the frame that stands here is counted, and its objects are told so.
+/// The document of the frame that stands here is counted, and its objects are told so. The session that its save raised it to
+/// is the container's from now on.
 ///
 /// Refused for want of memory alone.
 fn count_commit(
@@ -90,10 +92,13 @@ fn count_commit(
     ensures lacking { IfErr result (λ fault. fault ≡ NoMemory) }
     ensures kept { OnErr result (state.new ≡ state.old) }
 {
-    let operation = completion(&state.frames[place]);
+    let frame = &state.frames[place];
+    let operation = completion(frame);
+    let session = session_after(state.session, frame.raised);
     let Ok(asking) = prepare(alloc, f, &operation, state.objects.list.as_slice()) else {
         return Err(ContainerFault::NoMemory);
     };
+    state.session = session;
     commit_frame(&mut state.frames[place]);
     complete_objects(f, &mut state.objects.list, asking.takes);
     Ok(Answer::acts(alloc, Items::from_vec(asking.actions)))

@@ -9,7 +9,9 @@ use container_model::command::Command;
 use container_model::fault::ContainerFault;
 use container_model::record::{Frame, Object};
 use container_model::server_link::ServerLink;
-use container_numbers::sound_laws::{few_frames_after, sound_after};
+use container_numbers::sound_laws::{
+    commands_want_sessions, few_frames_after, in_session_from_the_start, sessions_stay, sound_after,
+};
 use container_screen::screen::screen;
 use container_state::state::State;
 use container_steps::steady_laws::steady_after;
@@ -26,7 +28,7 @@ pub struct Limits {
 }
 
 /// A container: its frames and objects, and the servers that it started. Its record is steady, within its numbers and has at
-/// most 8 frames, whatever it was told.
+/// most 8 frames, whatever it was told. All of it is in its one session, and before it has one no server is started.
 #[derive(Drop)]
 pub struct ContainerCore {
     state: State,
@@ -37,16 +39,17 @@ impl Model for ContainerCore {
     ghost use Rattle.container_model.specs.Record.{Record};
     ghost use Rattle.container_model.specs.Room.{IsSound};
     ghost use Rattle.container_numbers.specs.FewFrames.{FewFrames};
+    ghost use Rattle.container_numbers.specs.Sessions.{InSession};
 
     ghost Value = { Record };
 
     ghost view = { λ c. c.state };
 
-    ghost invariant = { λ c. Steady c.state × IsSound c.state × FewFrames c.state };
+    ghost invariant = { λ c. Steady c.state × IsSound c.state × FewFrames c.state × InSession c.state };
 }
 
 impl ContainerCore {
-    ghost use Rattle.std.specs.Prelude.{◌≡◌, ◌≤◌, ◌+◌, IfErr, IfOk, List, Ok, OnErr, OnOk, length, map, option_copied, if◌then◌else◌, []};
+    ghost use Rattle.std.specs.Prelude.{◌≡◌, ◌≢◌, ◌≤◌, ◌+◌, IfErr, IfOk, List, Ok, OnErr, OnOk, length, map, option_copied, if◌then◌else◌, []};
     ghost use Rattle.container_core.specs.Opening.{MayRefuse, looked_at};
     ghost use Rattle.container_laws.specs.Apart.{StaysApart};
     ghost use Rattle.container_model.specs.Opens.{Given, IsReadAs, opened};
@@ -58,8 +61,9 @@ impl ContainerCore {
     ghost use Rattle.container_model.specs.Replies.{pending_calls};
     ghost use Rattle.container_model.specs.Room.{IsSound};
     ghost use Rattle.container_model.specs.Saves as saves;
-    ghost use Rattle.container_model.specs.Saves.{commit_done, commit_failed, counted_of, document_tree, image, resolve};
+    ghost use Rattle.container_model.specs.Saves.{commit_done, commit_failed, counted_of, document_tree, image, resolve, session_counted};
     ghost use Rattle.container_model.specs.declared.answer.FrameDocument.{FrameDocument};
+    ghost use Rattle.container_numbers.specs.Sessions.{InSession, WantsSession};
     ghost use Rattle.container_screen.specs.Screen.{shown};
     ghost use Rattle.document_model.specs.DocOf.{DocOf};
     ghost use Rattle.file_model.specs.Denotes.{Denotes};
@@ -74,15 +78,17 @@ impl ContainerCore {
         ensures steady { Steady result }
         ensures sound { IsSound result }
     {
+        in_session_from_the_start();
         ContainerCore {
             state: State::new(alloc, limits.numbers),
         }
     }
 
-    /// A container's record is steady, and stays within its numbers. It does nothing.
+    /// A container's record is steady, stays within its numbers and is in its one session. It does nothing.
     pub fn steady(&self)
         ensures steady { Steady self.now }
         ensures sound { IsSound self.now }
+        ensures in_session { InSession self.now }
     {
         let _ = &self.state;
     }
@@ -105,7 +111,7 @@ impl ContainerCore {
         object_numbers(alloc, self.state.objects())
     }
 
-    /// The session: it is in the name of each server, and in each message.
+    /// The session: it is in the name of each server, and in each message. It is 0 until one is counted.
     pub fn session(&self) -> u32
         ensures { result ≡ self.now.session }
     {
@@ -153,15 +159,18 @@ impl ContainerCore {
     ///   wide and 1 to 100 lines high; `Full` where there are 8 frames already; `NumbersSpent`.
     /// - Insert: `NoSuch` where there is no such frame; `InDoubt` and `Busy` where its commit is in doubt, or it is
     ///   saving; `WrongState` where the area has no cell; `Full` where it has 64 objects already; `NumbersSpent`.
-    /// - Start: `Full` where there are 8 servers that aren't reaped; `NumbersSpent`.
+    /// - Session: `NoSuch` where there is no frame 1; `InDoubt` and `Busy` as for a save; `WrongState` where the container has a
+    ///   session; `NumbersSpent` where the next session of the frame's document, or the number of the save, is past the limit.
+    /// - Start: `Full` where there are 8 servers that aren't reaped; `NumbersSpent`; `WrongState` where the container has no
+    ///   session.
     /// - Run: `NoSuch` where there is no such object or no such server; `InDoubt`; `Busy` where its frame is saving or the
     ///   object has a pending call or waits for the frame; `WrongState` where it runs; `UnknownClass`; `NumbersSpent`.
     /// - Edit: `NoSuch`, `InDoubt` and `Busy` as for a run; `NotRunning`; `WrongState` where the edit has more than 65,536
     ///   bytes; `NumbersSpent`.
     /// - Save: `NoSuch`; `InDoubt`; `Busy` where the frame is saving, its menus and border are being given or taken back,
-    ///   or an object of it is busy; `NumbersSpent`.
-    /// - SaveAs: as a save, `Busy` also where another frame bears the name or is to be saved under it; `WrongState` where it is
-    ///   the frame's own; then `NumbersSpent`.
+    ///   or an object of it is busy; `WrongState` where the container has no session; `NumbersSpent`.
+    /// - SaveAs: as a save, `Busy` also where another frame bears the name or is to be saved under it; `WrongState` also where it
+    ///   is the frame's own; then `NumbersSpent`.
     /// - Delete: `NoSuch`, `InDoubt` and `Busy` as for an edit; `WrongState` where the object isn't passive.
     /// - Kill: `NoSuch` where there is no such server that isn't reaped.
     /// - Close: `NoSuch`, `InDoubt` and `Busy` as for an edit; `NotRunning` where the object is passive; `NumbersSpent`;
@@ -177,12 +186,16 @@ impl ContainerCore {
         ensures few { IfOk result (λ a. length a.actions ≤ length self.old.objects + length self.old.frames + 1) }
         ensures refused { IfErr result (Refuses (on_command self.old command)) }
         ensures kept { OnErr result (self.new ≡ self.old) }
+        ensures session { self.new.session ≡ self.old.session }
+        ensures raised { OnOk result (WantsSession command → self.old.session ≢ 0) }
         ensures steady { Steady self.new }
         ensures sound { IsSound self.new }
     {
         steady_after();
         sound_after();
         few_frames_after();
+        sessions_stay();
+        commands_want_sessions();
         self.state.command(alloc, command)
     }
 
@@ -221,6 +234,7 @@ impl ContainerCore {
         steady_after();
         sound_after();
         few_frames_after();
+        sessions_stay();
         messages_stay_apart();
         self.state.on_message(alloc, link, message)
     }
@@ -241,11 +255,13 @@ impl ContainerCore {
         steady_after();
         sound_after();
         few_frames_after();
+        sessions_stay();
         reaps::on_reap(alloc, &mut self.state, inc)
     }
 
     /// The file of a frame was committed. The contents of its document are counted, each once, and are the objects' work
-    /// contents; the asked name is the frame's, and each object that isn't passive is told that the save is counted.
+    /// contents; the asked name is the frame's, and each object that isn't passive is told that the save is counted. A session
+    /// that the save raised the document to is the frame's and the container's. A session that the container has stays.
     ///
     /// Refused: `NoSuch` where there is no such frame; `WrongState` where its commit isn't asked for; `Full` where no
     /// file holds its document; then `NoMemory`. A refusal changes nothing.
@@ -254,12 +270,15 @@ impl ContainerCore {
         ensures few { IfOk result (λ a. length a.actions ≤ length self.old.objects + length self.old.frames + 1) }
         ensures refused { IfErr result (Refuses (commit_done self.old f)) }
         ensures kept { OnErr result (self.new ≡ self.old) }
+        ensures session { OnOk result (self.new.session ≡ session_counted self.old f) }
+        ensures stays { self.old.session ≢ 0 → self.new.session ≡ self.old.session }
         ensures steady { Steady self.new }
         ensures sound { IsSound self.new }
     {
         steady_after();
         sound_after();
         few_frames_after();
+        sessions_stay();
         commits::commit_done(alloc, &mut self.state, f)
     }
 
@@ -279,12 +298,13 @@ impl ContainerCore {
         steady_after();
         sound_after();
         few_frames_after();
+        sessions_stay();
         commits::commit_failed(alloc, &mut self.state, f)
     }
 
     /// A commit in doubt is resolved. Where it was kept, it is done, as `commit_done` says. Where it was lost, its save is
-    /// dropped: nothing is counted, the objects keep their work contents and the frame its name, and each object that isn't
-    /// passive is told that the save is dropped.
+    /// dropped: nothing is counted, the objects keep their work contents, the frame its name and its session, and each object
+    /// that isn't passive is told that the save is dropped.
     ///
     /// Refused: `NoSuch` where there is no such frame; `WrongState` where its commit isn't in doubt; `Full` where it was kept
     /// and no file holds its document; then `NoMemory`. A refusal changes nothing.
@@ -298,12 +318,15 @@ impl ContainerCore {
         ensures few { IfOk result (λ a. length a.actions ≤ length self.old.objects + length self.old.frames + 1) }
         ensures refused { IfErr result (Refuses (resolve self.old f is_kept)) }
         ensures kept { OnErr result (self.new ≡ self.old) }
+        ensures session { OnOk result (self.new.session ≡ if is_kept then session_counted self.old f else self.old.session) }
+        ensures stays { self.old.session ≢ 0 → self.new.session ≡ self.old.session }
         ensures steady { Steady self.new }
         ensures sound { IsSound self.new }
     {
         steady_after();
         sound_after();
         few_frames_after();
+        sessions_stay();
         commits::resolve(alloc, &mut self.state, f, is_kept)
     }
 
@@ -344,6 +367,7 @@ impl ContainerCore {
         steady_after();
         sound_after();
         few_frames_after();
+        sessions_stay();
         opens::open_file(alloc, &mut self.state, name, w, h, file)
     }
 

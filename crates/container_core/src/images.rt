@@ -13,6 +13,7 @@ use container_checks::checks::has_image;
 use container_documents::documents::{file_of, fits, parts_in};
 use container_model::answer::FrameDocument;
 use container_model::fault::ContainerFault;
+use container_objects::commits::session_after;
 use container_state::state::State;
 use std::alloc::Global;
 use wire_msgs::items::Items;
@@ -30,7 +31,8 @@ pub(crate) fn check_image(state: &State, f: u32) -> Result<u32, ContainerFault>
     if !has_image(state.frames[place].phase) {
         return Err(ContainerFault::WrongState);
     }
-    let session = state.frames[place].session;
+    let frame = &state.frames[place];
+    let session = session_after(frame.session, frame.raised);
     if !fits(session, f, state.objects.list.as_slice()) {
         return Err(ContainerFault::Full);
     }

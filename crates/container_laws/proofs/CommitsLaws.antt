@@ -20,7 +20,7 @@ use Rattle.container_model.specs.declared.answer.Part.{Part}
 use Rattle.container_model.specs.declared.fault.ContainerFault.{ContainerFault}
 use Rattle.container_model.specs.declared.fault.ContainerFault.TheVariants.{Full, WrongState}
 use Rattle.container_model.specs.Record.{Record, Took, ask_at, asked_all, asked_sent, is_doubtful, sends}
-use Rattle.container_model.specs.Saves.{awaits, commit_at, commit_done, commit_fitting, commit_made, completed, completion, document_tree, fitting, fitting_in, frame_document, held_parts, is_document, has_image, image, image_at, is_awaited_link, is_away, is_committing, is_keeping_link, is_ready, keeps, kept_by, kept_in, part_of, parts_in, resolved_at}
+use Rattle.container_model.specs.Saves.{awaits, commit_at, commit_fitting, commit_made, completed, completion, document_tree, fitting, fitting_in, frame_document, held_parts, is_document, has_image, image, image_at, is_awaited_link, is_away, is_committing, is_keeping_link, is_ready, keeps, kept_by, kept_in, part_of, parts_in, resolved_at}
 use Rattle.container_laws.specs.CommitLaws.{AreParts, CommitCounts, CommitTells, Gives, HandOffWaits, HasAnswered, HasGivenAway, IsCommit, IsPart, SaveWaits, free_link, free_links, none, one, other, stored_part, stored_parts, telling}
 use Rattle.container_queues.proofs.SteadyLookups.{each_weaker, none_keeping}
 use Rattle.container_steady.proofs.SteadyRecords.{ready_at}

@@ -3,7 +3,6 @@ use Rattle.std.proofs.Common.{◌≡◌, inl, inr, ℕ, ◌==◌, Bool, true, fa
 use Rattle.wire_msgs.specs.Found.{find, nth, put, set_nth}
 use Rattle.wire_msgs.specs.declared.answer.Answer.{Answer}
 use Rattle.wire_msgs.specs.declared.message.Said.{Said}
-use Rattle.wire_msgs.specs.declared.message.Message.{Message}
 use Rattle.wire_msgs.specs.declared.message.Said.TheVariants.{Call, Reply, Write, Ask}
 use Rattle.wire_msgs.specs.declared.operation.Operation.TheVariants.{UiDeactivate}
 use Rattle.grant_core.specs.Frames.{after, kept}
@@ -21,7 +20,7 @@ use Rattle.container_model.specs.declared.fault.ContainerFault.TheVariants.{Stal
 use Rattle.container_model.specs.Grants.{event_of, grant_each, grant_of, is_by, moved, passed_to, regranted, regranted_by, regranted_in}
 use Rattle.container_model.specs.HandOffs.{hand_off_in, is_answered, unasked}
 use Rattle.container_model.specs.Record.{Record, Took, is_alive, is_linked, is_object}
-use Rattle.container_model.specs.Messages.{Replied, ask_found, ask_framed, is_held_by, on_ask, on_message, on_reply, relieved, replied_grant, replied_object, replied_record, reply_found, reply_link, reply_taken, written_object}
+use Rattle.container_model.specs.Messages.{Replied, ask_found, ask_framed, is_held_by, on_ask, on_reply, relieved, replied_grant, replied_object, replied_record, reply_found, reply_link, reply_taken, written_object}
 use Rattle.container_model.proofs.SaidOn.{is_said_on, said_on}
 use Rattle.container_laws.specs.Laws.{StaysOrIsAsked, StaysOrIsGranted, is_about, MessagesKeepOthers}
 use Rattle.container_steady.specs.Roles.{IsClaim}

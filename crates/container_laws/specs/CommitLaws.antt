@@ -16,7 +16,7 @@ use Rattle.container_model.specs.declared.answer.FrameDocument.{FrameDocument}
 use Rattle.container_model.specs.declared.answer.Part.{Part}
 use Rattle.container_model.specs.Record.{Record, Took, call}
 use Rattle.container_model.specs.HandOffs.{hands_off}
-use Rattle.container_model.specs.Saves.{commit_done, image, is_some_name, resolve, settled_frame}
+use Rattle.container_model.specs.Saves.{commit_done, image, is_some_name, resolve, session_after, settled_frame}
 
 -- An object gives to a save its work content while it is passive, else the content that it answered in this save.
 pub record Gives (o : Object) (content : Stored) : Type 0 where
@@ -54,11 +54,11 @@ IsCommit r f t = (commit_done r f ≡ Ok t) ⊎ (resolve r f true ≡ Ok t)
 abbrev pub counted_part : ℕ → Part → Done
 counted_part k p = record { object = p.object; k = k; content = p.content }
 
--- A commit writes a document of the frame's session. It counts the frame's objects with what each gave, under the number of
--- the frame's save, and nothing else; after it their work contents are what was counted.
+-- A commit writes a document of the frame's session, or of the one that its save raises it to. It counts the frame's objects
+-- with what each gave, under the number of the frame's save, and nothing else; after it their work contents are what was counted.
 abbrev pub CommitCounts : Type 0
 CommitCounts = (r : Record) (f : ℕ) (t : Took) → IsCommit r f t
-    → (frame : Frame) × (nth r.frames f ≡ Some frame) × (d : FrameDocument) × (image r f ≡ Ok d) × (d.session ≡ frame.session) × AreParts f r.objects d.parts × (t.counted ≡ map (counted_part frame.k) d.parts) × (stored_parts f t.rec.objects ≡ d.parts)
+    → (frame : Frame) × (nth r.frames f ≡ Some frame) × (d : FrameDocument) × (image r f ≡ Ok d) × (d.session ≡ session_after frame.session frame.raised) × AreParts f r.objects d.parts × (t.counted ≡ map (counted_part frame.k) d.parts) × (stored_parts f t.rec.objects ≡ d.parts)
 
 -- the activations of a frame that have no pending call
 abbrev pub free_link : Option Link → List Link

@@ -42,7 +42,7 @@ abbrev pub is_size : ℕ → ℕ → Bool
 is_size w h = nat_le 1 w && nat_le w 200 && nat_le 1 h && nat_le h 100
 
 abbrev pub new_frame : List ℕ → ℕ → ℕ → Frame
-new_frame name w h = record { name = name; asked = None; k = 0; ui = fresh w h; stored = false; session = 0; phase = Idle }
+new_frame name w h = record { name = name; asked = None; k = 0; ui = fresh w h; stored = false; session = 0; raised = None; phase = Idle }
 
 abbrev pub new_made : Record → List ℕ → ℕ → ℕ → Took
 new_made r name w h = record {
@@ -103,7 +103,7 @@ insert_at r f kind area (Some frame) =
 abbrev pub insert : Record → ℕ → Kind → Area → Result Took ContainerFault
 insert r f kind area = insert_at r f kind area (nth r.frames f)
 
--- Start: a new server.
+-- Start: a new server. There is none before the container has a session.
 abbrev pub start_made : Record → Took
 start_made r = record {
   rec = record r { servers = r.servers ++ false ∷ [] };
@@ -115,7 +115,8 @@ abbrev pub start : Record → Result Took ContainerFault
 start r =
     unless (nat_le MOST_SERVERS (count_alive r.servers)) Full
     (unless (nat_le r.numbers (length r.servers)) NumbersSpent
-    (Ok (start_made r)))
+    (unless (r.session == 0) WrongState
+    (Ok (start_made r))))
 
 -- Run: a new activation of a passive object begins with an empty storage, or with its work content if it has streams.
 abbrev pub first_operation : Object → List NamedStream → Operation
@@ -177,7 +178,8 @@ edit_linked r o bytes link = edit_unless r o bytes (edit_fault r.numbers (length
 abbrev pub edit : Record → ℕ → List ℕ → Result Took ContainerFault
 edit r n bytes = located r n (ready (λ o frame. edit_linked r o bytes o.link))
 
--- Save: each object of the frame that isn't passive is asked for its content, under the frame's name or under another one.
+-- Save: each object of the frame that isn't passive is asked for its content. It is for the frame's name or for another one,
+-- and may raise the session of the document.
 abbrev pub any_busy : ℕ → GrantState → List Object → Bool
 any_busy f state [] = false
 any_busy f state (o ∷ os) = if o.frame == f then (if is_busy state o then true else any_busy f state os) else any_busy f state os
@@ -186,34 +188,38 @@ abbrev pub all_have_numbers : ℕ → ℕ → List Object → Bool
 all_have_numbers f numbers [] = true
 all_have_numbers f numbers (o ∷ os) = if o.frame == f then (if link_has_numbers numbers o.link then all_have_numbers f numbers os else false) else all_have_numbers f numbers os
 
-abbrev pub saving_frame : Option (List ℕ) → Frame → Frame
-saving_frame asked frame = record frame { asked = asked; k = frame.k + 1; phase = Saving }
+abbrev pub saving_frame : Option ℕ → Option (List ℕ) → Frame → Frame
+saving_frame raised asked frame = record frame { asked = asked; k = frame.k + 1; raised = raised; phase = Saving }
 
-abbrev pub saving : Record → ℕ → Frame → Option (List ℕ) → Record
-saving r f frame asked = record r { frames = set_nth r.frames f (saving_frame asked frame); objects = map (asked_object f (Save (frame.k + 1))) r.objects }
+abbrev pub saving : Record → ℕ → Frame → Option ℕ → Option (List ℕ) → Record
+saving r f frame raised asked = record r {
+  frames = set_nth r.frames f (saving_frame raised asked frame);
+  objects = map (asked_object f (Save (frame.k + 1))) r.objects;
+}
 
 -- where all are passive, it goes on at once
-abbrev pub saving_on : Record → ℕ → Frame → Option (List ℕ) → Requested
-saving_on r f frame asked = hand_off_in (saving r f frame asked) f
+abbrev pub saving_on : Record → ℕ → Frame → Option ℕ → Option (List ℕ) → Requested
+saving_on r f frame raised asked = hand_off_in (saving r f frame raised asked) f
 
-abbrev pub save_made : Record → ℕ → Frame → Option (List ℕ) → Took
-save_made r f frame asked = record {
-  rec = settle (saving_on r f frame asked).rec;
-  answer = acts (sends (asked_all f (Save (frame.k + 1)) r.objects ++ (saving_on r f frame asked).sent) ++ settle_actions (saving_on r f frame asked).rec);
+abbrev pub save_made : Record → ℕ → Frame → Option ℕ → Option (List ℕ) → Took
+save_made r f frame raised asked = record {
+  rec = settle (saving_on r f frame raised asked).rec;
+  answer = acts (sends (asked_all f (Save (frame.k + 1)) r.objects ++ (saving_on r f frame raised asked).sent) ++ settle_actions (saving_on r f frame raised asked).rec);
   counted = [];
 }
 
-abbrev pub save_numbered : Record → ℕ → Frame → Option (List ℕ) → Result Took ContainerFault
-save_numbered r f frame asked =
+abbrev pub save_numbered : Record → ℕ → Frame → Option ℕ → Option (List ℕ) → Result Took ContainerFault
+save_numbered r f frame raised asked =
     unless (nat_le r.numbers frame.k || not (all_have_numbers f r.numbers r.objects)) NumbersSpent
-    (Ok (save_made r f frame asked))
+    (Ok (save_made r f frame raised asked))
 
 abbrev pub save_at : Record → ℕ → Option Frame → Result Took ContainerFault
 save_at r f None = Err NoSuch
 save_at r f (Some frame) =
     unless (is_doubtful frame.phase) InDoubt
     (unless (is_saving frame.phase || is_moving frame.ui.state || any_busy f frame.ui.state r.objects) Busy
-    (save_numbered r f frame None))
+    (unless (r.session == 0) WrongState
+    (save_numbered r f frame None None)))
 
 abbrev pub save : Record → ℕ → Result Took ContainerFault
 save r f = save_at r f (nth r.frames f)
@@ -230,11 +236,25 @@ save_as_at r f name None = Err NoSuch
 save_as_at r f name (Some frame) =
     unless (is_doubtful frame.phase) InDoubt
     (unless (is_saving frame.phase || is_moving frame.ui.state || any_busy f frame.ui.state r.objects || is_named_beside f name 1 r.frames) Busy
-    (unless (bytes_eq frame.name name) WrongState
-    (save_numbered r f frame (Some name))))
+    (unless (r.session == 0 || bytes_eq frame.name name) WrongState
+    (save_numbered r f frame None (Some name))))
 
 abbrev pub save_as : Record → ℕ → List ℕ → Result Took ContainerFault
 save_as r f name = save_as_at r f name (nth r.frames f)
+
+-- Session: the first frame is saved under its name, the session of its document raised by one. Once that is counted it is the
+-- container's, for as long as it runs. Until then nothing else is saved, and no server starts.
+abbrev pub session_at : Record → Option Frame → Result Took ContainerFault
+session_at r None = Err NoSuch
+session_at r (Some frame) =
+    unless (is_doubtful frame.phase) InDoubt
+    (unless (is_saving frame.phase || is_moving frame.ui.state || any_busy 1 frame.ui.state r.objects) Busy
+    (unless (not (r.session == 0)) WrongState
+    (unless (nat_le r.numbers frame.session) NumbersSpent
+    (save_numbered r 1 frame (Some (frame.session + 1)) None))))
+
+abbrev pub session : Record → Result Took ContainerFault
+session r = session_at r (nth r.frames 1)
 
 -- Delete: a passive object goes.
 abbrev pub delete_made : Record → Object → Took
@@ -254,6 +274,7 @@ kill r inc = if is_alive r inc then Ok (counts_none r (acts (End inc ∷ []))) e
 abbrev pub on_command : Record → Command → Result Took ContainerFault
 on_command r (command.New name w h) = new r name w h
 on_command r (command.Insert f kind area) = insert r f (kind_of kind) area
+on_command r command.Session = session r
 on_command r command.Start = start r
 on_command r (command.Run o inc) = run r o inc
 on_command r (command.Edit o bytes) = edit r o bytes

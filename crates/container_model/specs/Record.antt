@@ -21,8 +21,9 @@ use Rattle.container_model.specs.declared.answer.Done.{Done}
 use Rattle.container_model.specs.declared.fault.ContainerFault.{ContainerFault}
 use Rattle.container_model.specs.declared.fault.ContainerFault.TheVariants.{NoMemory}
 
--- The session. The frames stand by their numbers, from 1, and so do the servers, each reaped or not. Objects have numbers of
--- their own. The last numbers of objects, of activations and of grants, and the greatest number that may be drawn.
+-- The session, 0 until one is counted. The frames stand by their numbers, from 1, and so do the servers, each reaped or not.
+-- Objects have numbers of their own. The last numbers of objects, of activations and of grants, and the greatest number that
+-- may be drawn.
 pub record Record : Type 0 where
   pub session : ℕ
   pub frames : List Frame
@@ -33,9 +34,9 @@ pub record Record : Type 0 where
   pub last_g : ℕ
   pub numbers : ℕ
 
--- a container begins without frames, objects and servers
+-- a container begins without a session, frames, objects and servers
 abbrev pub empty : ℕ → Record
-empty numbers = record { session = 1; frames = []; objects = []; servers = []; last_object = 0; last_act = 0; last_g = 0; numbers = numbers }
+empty numbers = record { session = 0; frames = []; objects = []; servers = []; last_object = 0; last_act = 0; last_g = 0; numbers = numbers }
 
 -- how many frames there may be, and how many servers that aren't reaped; a frame has as many objects as a document may
 abbrev pub MOST_FRAMES : ℕ

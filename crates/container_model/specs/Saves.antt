@@ -113,9 +113,14 @@ held_part p = record { class = p.class; user_type = p.user_type; area = p.area; 
 abbrev pub held_parts : List Part → List DocObject
 held_parts parts = map held_part parts
 
--- a frame's document, of the session that the frame holds
+-- the session that the present save raises it to, or the one that was
+abbrev pub session_after : ℕ → Option ℕ → ℕ
+session_after session None = session
+session_after session (Some raised) = raised
+
+-- a frame's document, of the frame's session or of the one that its save raises it to
 abbrev pub frame_document : Frame → List Part → FrameDocument
-frame_document frame parts = record { session = frame.session; parts = parts }
+frame_document frame parts = record { session = session_after frame.session frame.raised; parts = parts }
 
 -- the document that its file holds
 abbrev pub document : FrameDocument → Doc
@@ -153,8 +158,8 @@ image_at r f (Some frame) = if has_image frame.phase then fitting (frame_documen
 abbrev pub image : Record → ℕ → Result FrameDocument ContainerFault
 image r f = image_at r f (nth r.frames f)
 
--- A commit that is done: the contents are work contents, the asked name is the name, and each object that isn't passive
--- is told that the save is counted, with a storage where it gave its own away.
+-- A commit that is done: the contents are work contents, the asked name is the name, the raised session is the frame's and the
+-- container's. Each object that isn't passive is told that the save is counted, with a storage where it gave its own away.
 abbrev pub name_after : List ℕ → Option (List ℕ) → List ℕ
 name_after name None = name
 name_after name (Some asked) = asked
@@ -164,7 +169,14 @@ is_some_name None = false
 is_some_name (Some asked) = true
 
 abbrev pub committed_frame : Frame → Frame
-committed_frame frame = record frame { name = name_after frame.name frame.asked; asked = None; stored = true; phase = Idle }
+committed_frame frame = record frame {
+  name = name_after frame.name frame.asked;
+  asked = None;
+  stored = true;
+  session = session_after frame.session frame.raised;
+  raised = None;
+  phase = Idle;
+}
 
 abbrev pub cleared : Option Link → Option Link
 cleared None = None
@@ -179,9 +191,21 @@ completion frame = SaveCompleted frame.k (is_some_name frame.asked)
 abbrev pub completed : ℕ → Frame → Object → Object
 completed f frame o = asked_object f (completion frame) (counted_object f o)
 
+-- the container's session once the commit of a frame is counted
+abbrev pub counted_session : ℕ → Option Frame → ℕ
+counted_session session None = session
+counted_session session (Some frame) = session_after session frame.raised
+
+abbrev pub session_counted : Record → ℕ → ℕ
+session_counted r f = counted_session r.session (nth r.frames f)
+
 abbrev pub commit_made : Record → ℕ → Frame → Took
 commit_made r f frame = record {
-  rec = record r { frames = set_nth r.frames f (committed_frame frame); objects = map (completed f frame) r.objects };
+  rec = record r {
+    session = session_after r.session frame.raised;
+    frames = set_nth r.frames f (committed_frame frame);
+    objects = map (completed f frame) r.objects;
+  };
   answer = acts (sends (asked_all f (completion frame) r.objects));
   counted = map (done_entry frame.k) (parts_in f r.objects);
 }
@@ -215,10 +239,10 @@ failed_at r f (Some frame) = if is_committing frame.phase then Ok (commit_doubte
 abbrev pub commit_failed : Record → ℕ → Result Took ContainerFault
 commit_failed r f = failed_at r f (nth r.frames f)
 
--- A commit in doubt is resolved. Kept, it is done. Lost, its save is dropped: the work contents and the name stay, and each
--- object that isn't passive is told so.
+-- A commit in doubt is resolved. Kept, it is done. Lost, its save is dropped: the work contents, the name and the session stay,
+-- and each object that isn't passive is told so.
 abbrev pub dropped_frame : Frame → Frame
-dropped_frame frame = record frame { asked = None; phase = Idle }
+dropped_frame frame = record frame { asked = None; raised = None; phase = Idle }
 
 abbrev pub forgotten_object : ℕ → Object → Object
 forgotten_object f o = if o.frame == f then record o { link = cleared o.link } else o

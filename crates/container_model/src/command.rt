@@ -22,6 +22,8 @@ pub enum Command {
     New(Bytes, u16, u16),
     /// A new passive object in a frame, without content.
     Insert(u32, ObjectKind, Area),
+    /// The document of frame 1 is saved with the next session, which is the container's once that is counted.
+    Session,
     /// A new server.
     Start,
     /// A passive object is activated in a server.

@@ -81,8 +81,10 @@ pub struct Frame {
     pub ui: FrameUi,
     /// Whether it was opened, or a commit of it was counted.
     pub stored: bool,
-    /// The session of the document that it was opened from, 0 for a new one. Each save writes it again.
+    /// The session of its document: of the one that it was opened from, 0 for a new one, and what a commit raised it to.
     pub session: u32,
+    /// The session that the present save raises the document to, if it does. Every other save writes the frame's own.
+    pub raised: Option<u32>,
     /// How far its save is.
     pub phase: Phase,
 }

@@ -67,8 +67,8 @@ each_handed f [] r = refl
 each_handed f (x ∷ xs) r = each_handed (f + 1) xs (hand_off_in r f).rec ∙ handed_in r f
 
 -- ---- commands
-saved : (r : Record) (f : ℕ) (frame : Frame) (asked : Option (List ℕ)) → AsMany r (save_made r f frame asked).rec
-saved r f frame asked = settled (saving_on r f frame asked).rec ∙ (handed_in (saving r f frame asked) f ∙ length-set_nth r.frames f (saving_frame asked frame))
+saved : (r : Record) (f : ℕ) (frame : Frame) (raised : Option ℕ) (asked : Option (List ℕ)) → AsMany r (save_made r f frame raised asked).rec
+saved r f frame raised asked = settled (saving_on r f frame raised asked).rec ∙ (handed_in (saving r f frame raised asked) f ∙ length-set_nth r.frames f (saving_frame raised asked frame))
 
 leaves : (r : Record) (frame : Frame) (o : Object) (l : Link) (ts : List Step) → AsMany r (left r frame o l ts)
 leaves r frame o l ts =
@@ -91,7 +91,7 @@ made_few r _ t h (makes_server started made) = subst (λ (z : Took). FewFrames z
 made_few r _ t h (makes_end inc alive made) = subst (λ (z : Took). FewFrames z.rec) made h
 made_few r _ t h (makes_activation n inc at run made) = subst (λ (z : Took). FewFrames z.rec) made h
 made_few r _ t h (makes_edit n bytes go small has made) = subst (λ (z : Took). FewFrames z.rec) made h
-made_few r _ t h (makes_save f name at other made) = as_few r t.rec (subst (λ (z : Took). AsMany r z.rec) made (saved r f at.frame name)) h
+made_few r _ t h (makes_save f raised name at raising other made) = as_few r t.rec (subst (λ (z : Took). AsMany r z.rec) made (saved r f at.frame raised name)) h
 made_few r _ t h (makes_steps n go ts has row made) = as_few r t.rec (subst (λ (z : Took). AsMany r z.rec) made (leaves r go.at.frame go.at.object go.link ts)) h
 made_few r _ t h (makes_taking n go ts taking made) =
     as_few r t.rec (subst (λ (z : Took). AsMany r z.rec) made (revokes (claimed r go.at.frame go.at.object go.link) (holder_of go.at.frame.ui.state) ∙ claims r go.at.frame go.at.object go.link)) h

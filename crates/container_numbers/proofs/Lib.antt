@@ -13,4 +13,7 @@ pub mod SoundVerbs
 pub mod SoundInputs
 pub mod FewFrames
 pub mod SessionLinks
+pub mod SessionFrames
+pub mod SessionSteps
+pub mod SessionCommits
 pub mod Sessions

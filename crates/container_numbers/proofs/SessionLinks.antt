@@ -1,5 +1,5 @@
 -- An activation stays in its session, whatever it is asked and answers, and so do the calls that are sent to it.
-use Rattle.std.proofs.Common.{◌≡◌, ◌==◌, ◌+◌, ℕ, Bool, List, [], ◌∷◌, ◌++◌, Option, Some, None, Result, Ok, Err, ◌∙◌}
+use Rattle.std.proofs.Common.{◌==◌, ◌+◌, ℕ, Bool, List, [], ◌∷◌, ◌++◌, Option, Some, None, Result, Ok, Err, ◌∙◌}
 use Rattle.std.specs.Prelude.{IfOk, IfSome}
 use Rattle.std.specs.List.{AllByRecursion}
 use Rattle.wire_msgs.specs.Found.{find}
@@ -19,7 +19,7 @@ use Rattle.container_model.specs.Record.{Asked, Record, ask, ask_at, ask_each, a
 use Rattle.container_model.specs.Room.{IfLinked}
 use Rattle.container_model.specs.Saves.{cleared, completed, completion, counted_object, dropped_object, forgotten_object, is_ready, kept, settle_actions, settled_action, settled_actions}
 use Rattle.container_steady.proofs.SteadyTells.{if_told}
-use Rattle.container_numbers.specs.Sessions.{IsInSession, SendsIn}
+use Rattle.container_numbers.specs.Sessions.{IsInSession, IsOf, SendsIn}
 use Rattle.container_numbers.proofs.SoundReplies.{Grown, IsFine, fitting_fine}
 
 -- ---- objects, calls and actions in a session
@@ -30,7 +30,7 @@ abbrev pub AllIn : ℕ → List Object → Type 0
 AllIn s os = AllByRecursion (In s) os
 
 abbrev pub SentIn : ℕ → List Message → Type 0
-SentIn s ms = AllByRecursion (λ (m : Message). m.session ≡ s) ms
+SentIn s ms = AllByRecursion (λ (m : Message). IsOf s m.session) ms
 
 abbrev pub ActsIn : ℕ → List Action → Type 0
 ActsIn s actions = AllByRecursion (SendsIn s) actions
@@ -41,7 +41,7 @@ each_after P [] ys h k = k
 each_after P (x ∷ xs) ys h k = (h.0, each_after P xs ys h.1 k)
 
 pub sent_after : (s : ℕ) (ms ns : List Message) → SentIn s ms → SentIn s ns → SentIn s (ms ++ ns)
-sent_after s ms ns h k = each_after (λ (m : Message). m.session ≡ s) ms ns h k
+sent_after s ms ns h k = each_after (λ (m : Message). IsOf s m.session) ms ns h k
 
 -- what is found in a list
 pub if_found : {A : Type 0} (P : A → Type 0) (test : A → Bool) (xs : List A) → AllByRecursion P xs → IfSome (find test xs) P
@@ -50,16 +50,16 @@ if_found P test (x ∷ xs) h = if_told (λ z. IfSome z P) (test x) (Some x) (fin
 
 -- ---- operations that are asked
 abbrev pub AskedIn : ℕ → Asked → Type 0
-AskedIn s a = (a.link.session ≡ s) × SentIn s a.sent
+AskedIn s a = IsOf s a.link.session × SentIn s a.sent
 
-asks_at : (s : ℕ) (l : Link) (op : Operation) (pending : Option Operation) → l.session ≡ s → AskedIn s (ask_at l op pending)
+asks_at : (s : ℕ) (l : Link) (op : Operation) (pending : Option Operation) → IsOf s l.session → AskedIn s (ask_at l op pending)
 asks_at s l op None h = (h, (h, tt))
 asks_at s l op (Some before) h = (h, tt)
 
-pub asks : (s : ℕ) (l : Link) (op : Operation) → l.session ≡ s → AskedIn s (ask l op)
+pub asks : (s : ℕ) (l : Link) (op : Operation) → IsOf s l.session → AskedIn s (ask l op)
 asks s l op h = asks_at s l op l.pending h
 
-pub asks_each : (s : ℕ) (l : Link) (ops : List Operation) → l.session ≡ s → AskedIn s (ask_each l ops)
+pub asks_each : (s : ℕ) (l : Link) (ops : List Operation) → IsOf s l.session → AskedIn s (ask_each l ops)
 asks_each s l [] h = (h, tt)
 asks_each s l (op ∷ ops) h =
     let first = asks s l op h in
@@ -102,7 +102,7 @@ ends s inc o None h = h
 ends s inc o (Some l) h = if_told (In s) (l.inc == inc) (record o { work = kept o; link = None }) o (λ t. tt) (λ t. h)
 
 -- ---- an answer
-next_call : (s : ℕ) (l : Link) (ops : List Operation) → l.session ≡ s → ((next_at l ops).link.session ≡ s) × SentIn s (next_at l ops).sent
+next_call : (s : ℕ) (l : Link) (ops : List Operation) → IsOf s l.session → IsOf s (next_at l ops).link.session × SentIn s (next_at l ops).sent
 next_call s l [] h = (h, tt)
 next_call s l (op ∷ ops) h = (h, (h, tt))
 
@@ -117,15 +117,15 @@ calls_in s (Some l) h = (next_call s l l.waiting h).1
 abbrev pub RepliedIn : ℕ → Result Replied ContainerFault → Type 0
 RepliedIn s told = IfOk told (λ (re : Replied). IsInSession s re.link)
 
-grown_in : (s : ℕ) (l : Link) (link : Option Link) → l.session ≡ s → IfLinked (Grown l) link → IsInSession s link
+grown_in : (s : ℕ) (l : Link) (link : Option Link) → IsOf s l.session → IfLinked (Grown l) link → IsInSession s link
 grown_in s l None h g = tt
-grown_in s l (Some next) h g = g.session ∙ h
+grown_in s l (Some next) h g = (g.session ∙ h.0, h.1)
 
-fine_in : (s : ℕ) (l : Link) (told : Result Replied ContainerFault) → l.session ≡ s → IsFine l told → RepliedIn s told
+fine_in : (s : ℕ) (l : Link) (told : Result Replied ContainerFault) → IsOf s l.session → IsFine l told → RepliedIn s told
 fine_in s l (Err fault) h g = tt
 fine_in s l (Ok re) h g = grown_in s l re.link h g
 
-pending_in : (s n : ℕ) (answer : Answer) (l : Link) (pending : Option Operation) → l.session ≡ s → RepliedIn s (reply_pending l n answer pending)
+pending_in : (s n : ℕ) (answer : Answer) (l : Link) (pending : Option Operation) → IsOf s l.session → RepliedIn s (reply_pending l n answer pending)
 pending_in s n answer l None h = tt
 pending_in s n answer l (Some op) h =
     if_told (RepliedIn s) (n == l.last) (replied_fitting l op answer) (Err Stale) (λ t. fine_in s l (replied_fitting l op answer) h (fitting_fine l op answer)) (λ t. tt)

@@ -130,10 +130,10 @@ module _ (numbers : ℕ) (frames : List Frame) (f : ℕ) (op : Operation) (next 
     room_all os (have_rest (o.frame == f) (link_has_numbers numbers o.link) (Commands.all_have_numbers f numbers os) e) h.1,
   )
 
-saving_within : {Greatest : ℕ → Type 0} (r : Record) (f : ℕ) (frame : Frame) (asked : Option (List ℕ)) → Within Greatest (debts r.frames) r → frame.k < r.numbers → Commands.all_have_numbers f r.numbers r.objects ≡ true → Within Greatest (debts (Commands.saving r f frame asked).frames) (Commands.saving r f frame asked)
-saving_within r f frame asked h lt has =
+saving_within : {Greatest : ℕ → Type 0} (r : Record) (f : ℕ) (frame : Frame) (raised : Option ℕ) (asked : Option (List ℕ)) → Within Greatest (debts r.frames) r → frame.k < r.numbers → Commands.all_have_numbers f r.numbers r.objects ≡ true → Within Greatest (debts (Commands.saving r f frame raised asked).frames) (Commands.saving r f frame raised asked)
+saving_within r f frame raised asked h lt has =
     let op : Operation = Save (frame.k + 1) in
-    let next : Frame = Commands.saving_frame asked frame in
+    let next : Frame = Commands.saving_frame raised asked frame in
     record {
       limit = h.limit;
       room = room_all r.numbers r.frames f op next r.objects has h.room;
@@ -147,8 +147,8 @@ saving_within r f frame asked h lt has =
     }
 
 -- and where all are passive it goes on at once
-saved_sound : {Greatest : ℕ → Type 0} (r : Record) (f : ℕ) (frame : Frame) (asked : Option (List ℕ)) → Within Greatest (debts r.frames) r → frame.k < r.numbers → Commands.all_have_numbers f r.numbers r.objects ≡ true → HasNumbers Greatest (Commands.save_made r f frame asked).rec
-saved_sound r f frame asked h lt has = settled_sound (Commands.saving_on r f frame asked).rec (hand_off_in_within (Commands.saving r f frame asked) f (saving_within r f frame asked h lt has))
+saved_sound : {Greatest : ℕ → Type 0} (r : Record) (f : ℕ) (frame : Frame) (raised : Option ℕ) (asked : Option (List ℕ)) → Within Greatest (debts r.frames) r → frame.k < r.numbers → Commands.all_have_numbers f r.numbers r.objects ≡ true → HasNumbers Greatest (Commands.save_made r f frame raised asked).rec
+saved_sound r f frame raised asked h lt has = settled_sound (Commands.saving_on r f frame raised asked).rec (hand_off_in_within (Commands.saving r f frame raised asked) f (saving_within r f frame raised asked h lt has))
 
 -- ---- an object goes
 deleted_sound : {Greatest : ℕ → Type 0} (r : Record) (o : Object) → HasNumbers Greatest r → HasNumbers Greatest (record r { objects = without_first (is_object o.number) r.objects })
@@ -175,7 +175,7 @@ made_sound {Greatest} r _ t s h (makes_server started made) = subst (λ (z : Too
 made_sound {Greatest} r _ t s h (makes_end inc alive made) = subst (λ (z : Took). HasNumbers Greatest z.rec) made h
 made_sound {Greatest} r _ t s h (makes_activation n inc at run made) = subst (λ (z : Took). HasNumbers Greatest z.rec) made (run_made_sound r at.object inc s h at.own run.margin run.numbers)
 made_sound {Greatest} r _ t s h (makes_edit n bytes go small has made) = subst (λ (z : Took). HasNumbers Greatest z.rec) made (edited_sound r go.at.object go.link bytes s h go.at.own go.linked has)
-made_sound {Greatest} r _ t s h (makes_save f name at other made) = subst (λ (z : Took). HasNumbers Greatest z.rec) made (saved_sound r f at.frame name (within_of r s h) at.numbers at.calls)
+made_sound {Greatest} r _ t s h (makes_save f raised name at raising other made) = subst (λ (z : Took). HasNumbers Greatest z.rec) made (saved_sound r f at.frame raised name (within_of r s h) at.numbers at.calls)
 made_sound {Greatest} r _ t s h (makes_steps n go ts has row made) = subst (λ (z : Took). HasNumbers Greatest z.rec) made
     (row_sound r go.at.object go.at.frame go.link (within_of r s h) go.at.own go.at.inside go.linked has ts row)
 made_sound {Greatest} r _ t s h (makes_taking n go ts taking made) = subst (λ (z : Took). HasNumbers Greatest z.rec) made

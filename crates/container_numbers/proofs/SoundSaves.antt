@@ -11,7 +11,7 @@ use Rattle.container_model.specs.declared.record.Phase.{Phase}
 use Rattle.container_model.specs.declared.record.Phase.TheVariants.{Idle, Saving, HandingOff, Committing, InDoubt}
 use Rattle.container_model.specs.Record.{Record, Took, asked_link}
 use Rattle.container_model.specs.Room.{HasNumbers, IfLinked, IsRoomy, debt, debt_in, grant_debt}
-use Rattle.container_model.specs.Saves.{commit_done, commit_doubted, commit_failed, awaits, cleared, commit_at, commit_made, committed_frame, completed, completion, doubted_frame, dropped_frame, dropped_object, kept, resolve, resolved_at, save_dropped, is_ready, is_ready_at, keeps, settle, settled_frame, settled_frames}
+use Rattle.container_model.specs.Saves.{commit_done, commit_doubted, commit_failed, awaits, cleared, commit_at, commit_made, committed_frame, completed, completion, doubted_frame, dropped_frame, dropped_object, kept, resolve, resolved_at, save_dropped, is_ready, is_ready_at, keeps, session_after, settle, settled_frame, settled_frames}
 use Rattle.container_model.proofs.Completing.{completed_in, completed_out}
 use Rattle.container_queues.proofs.SteadyLookups.{each_map, each_nth, each_set, each_settled, each_weaker, nth-set_other, nth-set_same}
 use Rattle.container_steady.proofs.SteadyTells.{if_told}
@@ -73,7 +73,7 @@ linked numbers more op None h = tt
 linked numbers more op (Some l) h = asked_linked numbers more op (Some (record l { saved = None })) (record { calls = h.calls; grants = h.grants })
 
 -- a frame whose save is over, while it owed the call that tells so; each of its objects is asked just that
-module _ (r : Record) (f : ℕ) (frame new : Frame) (at : nth r.frames f ≡ Some frame) (owes : debt frame.phase frame.asked ≡ 1) (idle : new.phase ≡ Idle) (ui : new.ui ≡ frame.ui) (k : new.k ≡ frame.k)
+module _ (r : Record) (f later : ℕ) (frame new : Frame) (at : nth r.frames f ≡ Some frame) (owes : debt frame.phase frame.asked ≡ 1) (idle : new.phase ≡ Idle) (ui : new.ui ≡ frame.ui) (k : new.k ≡ frame.k)
     (op : Operation) (g : Object → Object) (inside : (o : Object) → (o.frame == f) ≡ true → (work : Stored) × (g o ≡ record o { work = work; link = asked_link op (cleared o.link) }))
     (outside : (o : Object) → (o.frame == f) ≡ false → g o ≡ o) where
   abbrev after : List Frame
@@ -96,7 +96,7 @@ module _ (r : Record) (f : ℕ) (frame new : Frame) (at : nth r.frames f ≡ Som
         (subst (λ (m : ℕ). IfLinked (IsRoomy r.numbers m) o.link) (ap (debt_in o.number) (sym (nth-set_other r.frames f o.frame new (λ q. eqb-false o.frame f t (sym q))))) h))
   ] refl
 
-  told_sound : {Greatest : ℕ → Type 0} → HasNumbers Greatest r → HasNumbers Greatest (record r { frames = after; objects = map g r.objects })
+  told_sound : {Greatest : ℕ → Type 0} → HasNumbers Greatest r → HasNumbers Greatest (record r { session = later; frames = after; objects = map g r.objects })
   told_sound h = record {
     limit = h.limit;
     room = all_of (Owing r.numbers (debts after)) (map g r.objects)
@@ -116,7 +116,7 @@ unsettled_owes phase asked (inr e) = ap (λ p. debt p asked) e
 
 module _ (r : Record) (f : ℕ) (frame : Frame) (at : nth r.frames f ≡ Some frame) where
   pub commit_sound : {Greatest : ℕ → Type 0} → IsUnsettled frame.phase → HasNumbers Greatest r → HasNumbers Greatest (commit_made r f frame).rec
-  commit_sound u h = told_sound r f frame (committed_frame frame) at (unsettled_owes frame.phase frame.asked u) refl refl refl (completion frame) (completed f frame)
+  commit_sound u h = told_sound r f (session_after r.session frame.raised) frame (committed_frame frame) at (unsettled_owes frame.phase frame.asked u) refl refl refl (completion frame) (completed f frame)
       (λ o t. (kept o, completed_in f frame o t)) (λ o t. completed_out f frame o t) h
 
   dropped_in : (o : Object) → (o.frame == f) ≡ true → dropped_object f frame o ≡ record o { link = asked_link (SaveDropped frame.k) (cleared o.link) }
@@ -126,7 +126,7 @@ module _ (r : Record) (f : ℕ) (frame : Frame) (at : nth r.frames f ≡ Some fr
   dropped_out o e = rw (e, e) refl
 
   drop_sound : {Greatest : ℕ → Type 0} → frame.phase ≡ InDoubt → HasNumbers Greatest r → HasNumbers Greatest (save_dropped r f frame).rec
-  drop_sound p h = told_sound r f frame (dropped_frame frame) at (unsettled_owes frame.phase frame.asked (inr p)) refl refl refl (SaveDropped frame.k) (dropped_object f frame)
+  drop_sound p h = told_sound r f r.session frame (dropped_frame frame) at (unsettled_owes frame.phase frame.asked (inr p)) refl refl refl (SaveDropped frame.k) (dropped_object f frame)
       (λ o t. (o.work, dropped_in o t)) (λ o t. dropped_out o t) h
 
   -- a commit that fails owes what it owed

@@ -2,7 +2,7 @@
 
 ghost use Rattle.std.specs.Prelude.{◌≡◌, length, map, vec_len};
 ghost use Rattle.container_links.specs.Asking.{prepared};
-ghost use Rattle.container_model.specs.Saves.{committed_frame, completed, completion, counted_object, doubted_frame, dropped_frame, dropped_object, forgotten_object};
+ghost use Rattle.container_model.specs.Saves.{committed_frame, completed, completion, counted_object, doubted_frame, dropped_frame, dropped_object, forgotten_object, session_after};
 ghost use Rattle.container_model.specs.declared.record.Frame as declared;
 ghost use Rattle.wire_msgs.specs.declared.operation.Operation.TheVariants.{SaveDropped};
 
@@ -20,13 +20,24 @@ pub fn completion(frame: &Frame) -> Operation
     }
 }
 
-/// The file stands under the asked name, and no save is under way.
+/// The session after a save: the one that its document is raised to, or the one that was.
+pub fn session_after(session: u32, raised: Option<u32>) -> u32
+    ensures { result ≡ session_after session raised }
+{
+    match raised {
+        Some(raised) => raised,
+        None => session,
+    }
+}
+
+/// The file stands under the asked name, with the session that it was raised to, and no save is under way.
 pub fn commit_frame(frame: &mut Frame)
     ensures { frame.new ≡ committed_frame frame.old }
 {
     if let Some(name) = frame.asked.take() {
         frame.name = name;
     }
+    frame.session = session_after(frame.session, frame.raised.take());
     frame.stored = true;
     frame.phase = Phase::Idle;
 }
@@ -84,11 +95,12 @@ pub fn doubt_frame(frame: &mut Frame)
     frame.phase = Phase::InDoubt;
 }
 
-/// The file stands as it was, under the name that it had, and no save is under way.
+/// The file stands as it was, under the name that it had and with its session, and no save is under way.
 pub fn drop_frame(frame: &mut Frame)
     ensures { frame.new ≡ dropped_frame frame.old }
 {
     frame.asked = None;
+    frame.raised = None;
     frame.phase = Phase::Idle;
 }
 

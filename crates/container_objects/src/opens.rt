@@ -20,6 +20,7 @@ pub fn opened_frame(name: Bytes, w: u16, h: u16, session: u32) -> Frame
         ui: FrameUi::new(w, h),
         stored: true,
         session,
+        raised: None,
         phase: Phase::Idle,
     }
 }

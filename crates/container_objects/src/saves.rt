@@ -37,12 +37,14 @@ pub fn go_on(number: u32, frame: &mut Frame, objects: &[Object])
     }
 }
 
-/// A frame is saved once more, under its name or under another one: its save has the next number, and waits for contents.
-pub fn begin_save(frame: &mut Frame, asked: Option<Bytes>)
+/// A frame is saved once more, under its name or under another one, with its session or one that it is raised to: its save has
+/// the next number, and waits for contents.
+pub fn begin_save(frame: &mut Frame, raised: Option<u32>, asked: Option<Bytes>)
     requires { frame.old.k ≤ 1000000 }
-    ensures { frame.new ≡ saving_frame asked frame.old }
+    ensures { frame.new ≡ saving_frame raised asked frame.old }
 {
     frame.asked = asked;
+    frame.raised = raised;
     frame.k += 1;
     frame.phase = Phase::Saving;
 }

@@ -27,6 +27,7 @@ impl State {
         match command {
             Command::New(name, w, h) => self.new_frame(alloc, name, w, h),
             Command::Insert(frame, kind, area) => self.insert(alloc, frame, kind, area),
+            Command::Session => self.begin_session(alloc),
             Command::Start => self.start(alloc),
             Command::Run(object, inc) => self.run(alloc, object, inc),
             Command::Edit(object, bytes) => self.edit(alloc, object, bytes),

@@ -50,6 +50,7 @@ impl State {
             ui: FrameUi::new(w, h),
             stored: false,
             session: 0,
+            raised: None,
             phase: Phase::Idle,
         };
         if self.frames.push(frame).is_err() {

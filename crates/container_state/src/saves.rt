@@ -1,14 +1,15 @@
 //! Frames that are saved.
 
-ghost use Rattle.std.specs.Prelude.{◌+◌, ◌≡◌, ◌≤◌, IfErr, IfOk, IfSome, None, Ok, OnErr, OnOk, Result, Some, length, slice_get};
-ghost use Rattle.container_model.specs.Commands.{save, save_as, save_numbered};
+ghost use Rattle.std.specs.Prelude.{◌+◌, ◌≡◌, ◌≤◌, ℕ, IfErr, IfOk, IfSome, None, Ok, OnErr, OnOk, Result, Some, length, slice_get};
+ghost use Rattle.container_model.specs.Commands.{save, save_as, save_numbered, session};
 ghost use Rattle.container_model.specs.Record.{Record, Refuses, Took, counts_none};
 ghost use Rattle.container_model.specs.Numbered.{IsNth};
 ghost use Rattle.container_model.specs.Room.{IsSound};
 ghost use Rattle.container_model.specs.declared.fault.ContainerFault.{ContainerFault};
+ghost use Rattle.container_model.specs.declared.record.Frame as declared;
 ghost use Rattle.container_model.specs.declared.record.Phase.TheVariants.{Idle};
 ghost use Rattle.container_steady.specs.Steady.{Steady};
-ghost use Rattle.container_commands.specs.Saving.{named, unready};
+ghost use Rattle.container_commands.specs.Saving.{named, plain, raising, unready};
 
 use crate::state::State;
 use container_checks::checks;
@@ -22,6 +23,9 @@ use container_objects::saves::{begin_save, go_on, prepare_save};
 use std::alloc::Global;
 use stored_values::bytes::Bytes;
 use wire_msgs::items::Items;
+
+// The frame whose document bears the session.
+const FIRST: u32 = 1;
 
 // Whether the objects of a frame may be asked for their contents.
 //
@@ -47,21 +51,57 @@ fn may_save(number: u32, frame: &Frame, objects: &Objects) -> Result<(), Contain
     Ok(())
 }
 
-// Whether a frame may be saved under a name: one that no other frame bears or asked for, and not its own.
+// Whether frames may be saved with the sessions that they have: not before the container has one.
+//
+// Refused: `WrongState`.
+fn may_follow(session: u32) -> Result<(), ContainerFault>
+    ensures may { OnOk result ((r : Record) (f : ℕ) (frame : declared.Frame) → r.session ≡ session → plain r f frame ≡ save_numbered r f frame None None) }
+    ensures refused { IfErr result (λ e. (r : Record) (f : ℕ) (frame : declared.Frame) → r.session ≡ session → Refuses (plain r f frame) e) }
+{
+    if session == 0 {
+        return Err(ContainerFault::WrongState);
+    }
+    Ok(())
+}
+
+// Whether a frame may be saved under a name: one that no other frame bears or asked for, and not its own. The container has a
+// session.
 //
 // Refused: `Busy`, `WrongState`.
-fn may_bear(number: u32, name: &[u8], frame: &Frame, frames: &[Frame]) -> Result<(), ContainerFault>
+fn may_bear(
+    session: u32,
+    number: u32,
+    name: &[u8],
+    frame: &Frame,
+    frames: &[Frame],
+) -> Result<(), ContainerFault>
     requires { length frames.now ≤ 1000000 }
-    ensures may { OnOk result ((r : Record) → r.frames ≡ frames.now → named r number name.now frame.now ≡ save_numbered r number frame.now (Some name.now)) }
-    ensures refused { IfErr result (λ e. (r : Record) → r.frames ≡ frames.now → Refuses (named r number name.now frame.now) e) }
+    ensures may { OnOk result ((r : Record) → r.session ≡ session → r.frames ≡ frames.now → named r number name.now frame.now ≡ save_numbered r number frame.now None (Some name.now)) }
+    ensures refused { IfErr result (λ e. (r : Record) → r.session ≡ session → r.frames ≡ frames.now → Refuses (named r number name.now frame.now) e) }
 {
     if checks::is_named_beside(number, name, frames) {
         return Err(ContainerFault::Busy);
     }
-    if frame.name.as_slice() == name {
+    if session == 0 || frame.name.as_slice() == name {
         return Err(ContainerFault::WrongState);
     }
     Ok(())
+}
+
+// The session that the first frame's document may be raised to.
+//
+// Refused: `WrongState` where the container has a session, `NumbersSpent`.
+fn may_raise(session: u32, numbers: u32, frame: &Frame) -> Result<u32, ContainerFault>
+    ensures may { IfOk result (λ n. (r : Record) → r.session ≡ session → r.numbers ≡ numbers → raising r frame.now ≡ save_numbered r 1 frame.now (Some n) None) }
+    ensures refused { IfErr result (λ e. (r : Record) → r.session ≡ session → r.numbers ≡ numbers → Refuses (raising r frame.now) e) }
+{
+    if session != 0 {
+        return Err(ContainerFault::WrongState);
+    }
+    if frame.session >= numbers {
+        return Err(ContainerFault::NumbersSpent);
+    }
+    Ok(frame.session + 1)
 }
 
 impl State {
@@ -78,7 +118,11 @@ impl State {
             return Err(ContainerFault::NoSuch);
         };
         match may_save(frame, &self.frames[at], &self.objects) {
-            Ok(()) => self.save_numbered(alloc, frame, at, None),
+            Ok(()) => {}
+            Err(fault) => return Err(fault),
+        }
+        match may_follow(self.session) {
+            Ok(()) => self.save_numbered(alloc, frame, at, None, None),
             Err(fault) => Err(fault),
         }
     }
@@ -105,12 +149,35 @@ impl State {
             Err(fault) => return Err(fault),
         }
         match may_bear(
+            self.session,
             frame,
             name.as_slice(),
             &self.frames[at],
             self.frames.as_slice(),
         ) {
-            Ok(()) => self.save_numbered(alloc, frame, at, Some(name)),
+            Ok(()) => self.save_numbered(alloc, frame, at, None, Some(name)),
+            Err(fault) => Err(fault),
+        }
+    }
+
+    // The first frame is saved with the next session of its document, which is the container's once that is counted.
+    pub(crate) fn begin_session(&mut self, alloc: Global) -> Result<Answer, ContainerFault>
+        requires steady { Steady self.old }
+        requires sound { IsSound self.old }
+        ensures taken { IfOk result (λ a. session self.old ≡ Ok (counts_none self.new a)) }
+        ensures few { IfOk result (λ a. length a.actions ≤ length self.old.objects + length self.old.frames) }
+        ensures refused { IfErr result (Refuses (session self.old)) }
+        ensures kept { OnErr result (self.new ≡ self.old) }
+    {
+        let Some(at) = self.frames.place(FIRST) else {
+            return Err(ContainerFault::NoSuch);
+        };
+        match may_save(FIRST, &self.frames[at], &self.objects) {
+            Ok(()) => {}
+            Err(fault) => return Err(fault),
+        }
+        match may_raise(self.session, self.numbers, &self.frames[at]) {
+            Ok(raised) => self.save_numbered(alloc, FIRST, at, Some(raised), None),
             Err(fault) => Err(fault),
         }
     }
@@ -121,15 +188,16 @@ impl State {
         alloc: Global,
         frame: u32,
         at: usize,
+        raised: Option<u32>,
         asked: Option<Bytes>,
     ) -> Result<Answer, ContainerFault>
         requires steady { Steady self.old }
         requires sound { IsSound self.old }
         requires place { IsNth frame self.old.frames at }
         requires idle { IfSome (slice_get self.old.frames at) (λ x. x.phase ≡ Idle) }
-        ensures taken { IfOk result (λ a. IfSome (slice_get self.old.frames at) (λ x. save_numbered self.old frame x asked ≡ Ok (counts_none self.new a))) }
+        ensures taken { IfOk result (λ a. IfSome (slice_get self.old.frames at) (λ x. save_numbered self.old frame x raised asked ≡ Ok (counts_none self.new a))) }
         ensures few { IfOk result (λ a. length a.actions ≤ length self.old.objects + length self.old.frames) }
-        ensures refused { IfErr result (λ e. IfSome (slice_get self.old.frames at) (λ x. Refuses (save_numbered self.old frame x asked) e)) }
+        ensures refused { IfErr result (λ e. IfSome (slice_get self.old.frames at) (λ x. Refuses (save_numbered self.old frame x raised asked) e)) }
         ensures kept { OnErr result (self.new ≡ self.old) }
     {
         let k = self.frames[at].k;
@@ -146,7 +214,7 @@ impl State {
             return Err(ContainerFault::NoMemory);
         }
         let target = &mut self.frames[at];
-        begin_save(target, asked);
+        begin_save(target, raised, asked);
         take_up(&mut self.objects.list, asking.takes);
         go_on(frame, target, self.objects.list.as_slice());
         settle_into(&mut actions, &mut self.frames, &self.objects.list);

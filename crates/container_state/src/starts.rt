@@ -24,7 +24,7 @@ fn started(alloc: Global, inc: u32) -> Result<Answer, AllocError>
 }
 
 impl State {
-    // A new server.
+    // A new server, where the container has a session.
     pub(crate) fn start(&mut self, alloc: Global) -> Result<Answer, ContainerFault>
         ensures taken { IfOk result (λ a. start self.old ≡ Ok (counts_none self.new a)) }
         ensures few { IfOk result (λ a. length a.actions ≤ 1) }
@@ -37,6 +37,9 @@ impl State {
         let count = self.servers.len();
         if count >= self.numbers as usize {
             return Err(ContainerFault::NumbersSpent);
+        }
+        if self.session == 0 {
+            return Err(ContainerFault::WrongState);
         }
         let inc = count as u32 + 1;
         let Ok(answer) = started(alloc, inc) else {

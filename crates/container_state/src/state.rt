@@ -40,7 +40,7 @@ impl State {
         ensures { result ≡ empty numbers }
     {
         State {
-            session: 1,
+            session: 0,
             frames: Frames::new(alloc),
             objects: Objects::new(alloc),
             servers: Servers::new(alloc),
@@ -51,7 +51,7 @@ impl State {
         }
     }
 
-    /// The session.
+    /// The session, 0 until one is counted.
     pub fn session(&self) -> u32
         ensures { result ≡ self.now.session }
     {

@@ -1,5 +1,5 @@
 -- Commits that are done, that fail and that are resolved, as they are taken: their frame, and what is made of it.
-use Rattle.std.proofs.Common.{◌≡◌, ◌≢◌, ℕ, Bool, true, false, List, Option, Some, None, Result, Ok, Err, refl, sym, ap, ◌∙◌, inl, inr, if◌then◌else◌}
+use Rattle.std.proofs.Common.{◌≡◌, ◌≢◌, ℕ, Bool, true, false, Option, Some, None, Result, Ok, Err, refl, sym, ap, ◌∙◌, inl, inr, if◌then◌else◌}
 use Rattle.wire_msgs.specs.Found.{nth}
 use Rattle.container_model.specs.Record.{Record, Took, is_doubtful}
 use Rattle.container_model.specs.Saves.{image, commit_done, commit_at, commit_doubted, commit_failed, commit_fitting, commit_made, failed_at, is_committing, resolve, resolved_at, save_dropped}

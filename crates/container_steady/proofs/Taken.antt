@@ -1,6 +1,6 @@
 -- What holds where a command is taken.
-use Rattle.std.proofs.Common.{◌≡◌, ◌||◌, ◌&&◌, ℕ, ℤ, Bool, true, false, not, List, [], ◌∷◌, length, nat_le, nat_lt, Option, Some, None, is_some, Result, Ok, Err, refl, ◌∙◌, if◌then◌else◌}
-use Rattle.std.proofs.lemmas.Bool.{leb-false}
+use Rattle.std.proofs.Common.{◌≡◌, ◌||◌, ◌&&◌, ◌+◌, ◌==◌, ℕ, ℤ, Bool, true, false, not, List, [], ◌∷◌, length, nat_le, nat_lt, Option, Some, None, is_some, Result, Ok, Err, refl, ◌∙◌, if◌then◌else◌}
+use Rattle.std.proofs.lemmas.Bool.{eqb-false, eqb-true, leb-false}
 use Rattle.std.specs.Str.{bytes_eq}
 use Rattle.wire_msgs.specs.Found.{find, nth}
 use Rattle.object_parts.specs.declared.area.Area.{Area}
@@ -23,7 +23,7 @@ use Rattle.container_model.specs.Commands
 use Rattle.container_model.specs.Located.{located_at, located_in, located, ready}
 use Rattle.container_model.specs.Verbs as verbs
 use Rattle.container_steady.specs.Made.{IsMade, TakenIsMade, makes_activation, makes_edit, makes_end, makes_fewer, makes_frame, makes_nothing, makes_object, makes_save, makes_server, makes_steps, makes_taking, row_of_close, row_of_verb, run_by}
-use Rattle.container_steady.specs.Taken.{CommandsAreTakenSo, IsReadyAt, IsRunningAt, IsStepped, IsTakenAs, IsVerb, as_close, as_delete, as_edit, as_insert, as_kill, as_new, as_run, as_save, as_save_as, as_start, as_verb, edited, steps_leave, steps_nothing, steps_take}
+use Rattle.container_steady.specs.Taken.{CommandsAreTakenSo, IsReadyAt, IsRunningAt, IsStepped, IsTakenAs, IsVerb, as_close, as_delete, as_edit, as_insert, as_kill, as_new, as_run, as_save, as_save_as, as_session, as_start, as_verb, edited, steps_leave, steps_nothing, steps_take}
 use Rattle.container_steady.proofs.SteadyTells.{or_false, unless_ok}
 use Rattle.container_steady.proofs.SteadyTests.{found_numbered, idle_of, none_of, not_false}
 
@@ -85,9 +85,10 @@ start_taken : (r : Record) (t : Took) → Commands.start r ≡ Ok t → IsTakenA
 start_taken r t e =
     let a = unless_ok (nat_le MOST_SERVERS (count_alive r.servers)) Full _ t e in
     let b = unless_ok (nat_le r.numbers (length r.servers)) NumbersSpent _ t a.1 in
-    let made = b.1 in
+    let c = unless_ok (r.session == 0) WrongState _ t b.1 in
+    let made = c.1 in
     let is : Commands.start_made r ≡ t = cc in
-    as_start (record { few = leb-false MOST_SERVERS (count_alive r.servers) a.0; numbers = leb-false r.numbers (length r.servers) b.0 }) is
+    as_start (record { few = leb-false MOST_SERVERS (count_alive r.servers) a.0; numbers = leb-false r.numbers (length r.servers) b.0; session = eqb-false r.session 0 c.0 }) is
 
 -- Run
 run_taken : (r : Record) (n inc : ℕ) (t : Took) → Commands.run r n inc ≡ Ok t → IsTakenAs r t (command.Run n inc)
@@ -133,13 +134,31 @@ save_taken r f None t there e = cc
 save_taken r f (Some frame) t there e =
     let a = unless_ok (is_doubtful frame.phase) Doubtful _ t e in
     let b = unless_ok (is_saving frame.phase || is_moving frame.ui.state || Commands.any_busy f frame.ui.state r.objects) Busy _ t a.1 in
-    let c = unless_ok (nat_le r.numbers frame.k || not (Commands.all_have_numbers f r.numbers r.objects)) NumbersSpent _ t b.1 in
+    let none = unless_ok (r.session == 0) WrongState _ t b.1 in
+    let c = unless_ok (nat_le r.numbers frame.k || not (Commands.all_have_numbers f r.numbers r.objects)) NumbersSpent _ t none.1 in
     let quiet = or_false (is_saving frame.phase || is_moving frame.ui.state) (Commands.any_busy f frame.ui.state r.objects) b.0 in
     let still = or_false (is_saving frame.phase) (is_moving frame.ui.state) quiet.0 in
     let left = or_false (nat_le r.numbers frame.k) (not (Commands.all_have_numbers f r.numbers r.objects)) c.0 in
     let made = c.1 in
-    let is : Commands.save_made r f frame None ≡ t = cc in
-    as_save f (record { frame = frame; there = there; idle = idle_of frame.phase a.0 still.0; still = still.1; quiet = quiet.1; numbers = leb-false r.numbers frame.k left.0; calls = not_false (Commands.all_have_numbers f r.numbers r.objects) left.1 }) is
+    let is : Commands.save_made r f frame None None ≡ t = cc in
+    as_save f (record { frame = frame; there = there; idle = idle_of frame.phase a.0 still.0; still = still.1; quiet = quiet.1; numbers = leb-false r.numbers frame.k left.0; calls = not_false (Commands.all_have_numbers f r.numbers r.objects) left.1 }) (eqb-false r.session 0 none.0) is
+
+-- Session
+session_taken : (r : Record) (frame : Option Frame) (t : Took) → nth r.frames 1 ≡ frame → Commands.session_at r frame ≡ Ok t → IsTakenAs r t command.Session
+session_taken r None t there e = cc
+session_taken r (Some frame) t there e =
+    let a = unless_ok (is_doubtful frame.phase) Doubtful _ t e in
+    let b = unless_ok (is_saving frame.phase || is_moving frame.ui.state || Commands.any_busy 1 frame.ui.state r.objects) Busy _ t a.1 in
+    let none = unless_ok (not (r.session == 0)) WrongState _ t b.1 in
+    let more = unless_ok (nat_le r.numbers frame.session) NumbersSpent _ t none.1 in
+    let c = unless_ok (nat_le r.numbers frame.k || not (Commands.all_have_numbers 1 r.numbers r.objects)) NumbersSpent _ t more.1 in
+    let quiet = or_false (is_saving frame.phase || is_moving frame.ui.state) (Commands.any_busy 1 frame.ui.state r.objects) b.0 in
+    let still = or_false (is_saving frame.phase) (is_moving frame.ui.state) quiet.0 in
+    let left = or_false (nat_le r.numbers frame.k) (not (Commands.all_have_numbers 1 r.numbers r.objects)) c.0 in
+    let made = c.1 in
+    let is : Commands.save_made r 1 frame (Some (frame.session + 1)) None ≡ t = cc in
+    as_session (record { frame = frame; there = there; idle = idle_of frame.phase a.0 still.0; still = still.1; quiet = quiet.1; numbers = leb-false r.numbers frame.k left.0; calls = not_false (Commands.all_have_numbers 1 r.numbers r.objects) left.1 })
+    (record { none = eqb-true r.session 0 (not_false (r.session == 0) none.0); numbers = leb-false r.numbers frame.session more.0 }) is
 
 -- SaveAs
 save_as_taken : (r : Record) (f : ℕ) (name : List ℕ) (frame : Option Frame) (t : Took) → nth r.frames f ≡ frame → Commands.save_as_at r f name frame ≡ Ok t → IsTakenAs r t (command.SaveAs f name)
@@ -147,15 +166,16 @@ save_as_taken r f name None t there e = cc
 save_as_taken r f name (Some frame) t there e =
     let a = unless_ok (is_doubtful frame.phase) Doubtful _ t e in
     let b = unless_ok (is_saving frame.phase || is_moving frame.ui.state || Commands.any_busy f frame.ui.state r.objects || Commands.is_named_beside f name 1 r.frames) Busy _ t a.1 in
-    let own = unless_ok (bytes_eq frame.name name) WrongState _ t b.1 in
+    let own = unless_ok (r.session == 0 || bytes_eq frame.name name) WrongState _ t b.1 in
+    let other = or_false (r.session == 0) (bytes_eq frame.name name) own.0 in
     let c = unless_ok (nat_le r.numbers frame.k || not (Commands.all_have_numbers f r.numbers r.objects)) NumbersSpent _ t own.1 in
     let apart = or_false (is_saving frame.phase || is_moving frame.ui.state || Commands.any_busy f frame.ui.state r.objects) (Commands.is_named_beside f name 1 r.frames) b.0 in
     let quiet = or_false (is_saving frame.phase || is_moving frame.ui.state) (Commands.any_busy f frame.ui.state r.objects) apart.0 in
     let still = or_false (is_saving frame.phase) (is_moving frame.ui.state) quiet.0 in
     let left = or_false (nat_le r.numbers frame.k) (not (Commands.all_have_numbers f r.numbers r.objects)) c.0 in
     let made = c.1 in
-    let is : Commands.save_made r f frame (Some name) ≡ t = cc in
-    as_save_as f name (record { frame = frame; there = there; idle = idle_of frame.phase a.0 still.0; still = still.1; quiet = quiet.1; numbers = leb-false r.numbers frame.k left.0; calls = not_false (Commands.all_have_numbers f r.numbers r.objects) left.1 }) apart.1 own.0 is
+    let is : Commands.save_made r f frame None (Some name) ≡ t = cc in
+    as_save_as f name (record { frame = frame; there = there; idle = idle_of frame.phase a.0 still.0; still = still.1; quiet = quiet.1; numbers = leb-false r.numbers frame.k left.0; calls = not_false (Commands.all_have_numbers f r.numbers r.objects) left.1 }) (eqb-false r.session 0 other.0) apart.1 other.1 is
 
 -- Delete
 delete_taken : (r : Record) (n : ℕ) (t : Took) → Commands.delete r n ≡ Ok t → IsTakenAs r t (command.Delete n)
@@ -224,6 +244,7 @@ verb_taken r n number t e =
 pub command_taken : CommandsAreTakenSo
 command_taken r (command.New name w h) t e = new_taken r name w h t e
 command_taken r (command.Insert f kind area) t e = insert_taken r f kind area (nth r.frames f) t refl e
+command_taken r command.Session t e = session_taken r (nth r.frames 1) t refl e
 command_taken r command.Start t e = start_taken r t e
 command_taken r (command.Run n inc) t e = run_taken r n inc t e
 command_taken r (command.Edit n bytes) t e = edit_taken r n bytes t e
@@ -246,8 +267,9 @@ taken_made r _ t (as_insert f kind area at made) = makes_object f kind area at m
 taken_made r _ t (as_start started made) = makes_server started made
 taken_made r _ t (as_run n inc at run made) = makes_activation n inc at run made
 taken_made r _ t (as_edit n bytes go small has made) = makes_edit n bytes go small has made
-taken_made r _ t (as_save f at made) = makes_save f None at tt made
-taken_made r _ t (as_save_as f name at apart own made) = makes_save f (Some name) at (apart, own) made
+taken_made r _ t (as_session at raised made) = makes_save 1 (Some (at.frame.session + 1)) None at (refl, refl, raised, refl) tt made
+taken_made r _ t (as_save f at there made) = makes_save f None None at there tt made
+taken_made r _ t (as_save_as f name at there apart own made) = makes_save f None (Some name) at there (apart, own) made
 taken_made r _ t (as_delete n at passive made) = makes_fewer n at passive made
 taken_made r _ t (as_kill inc alive made) = makes_end inc alive made
 taken_made r _ t (as_close n option go ts has row made) = makes_steps n go ts has (row_of_close option row) made

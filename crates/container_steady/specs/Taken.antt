@@ -1,5 +1,5 @@
 -- What holds where a command is taken, and what it made: a case a command.
-use Rattle.std.specs.Prelude.{◌≡◌, ◌<◌, ◌&&◌, ℕ, ℤ, true, false, List, [], ◌∷◌, length, nat_lt, Some, None, Ok}
+use Rattle.std.specs.Prelude.{◌≡◌, ◌≢◌, ◌<◌, ◌+◌, ◌&&◌, ℕ, ℤ, true, false, List, [], ◌∷◌, length, nat_lt, Some, None, Ok}
 use Rattle.std.specs.Str.{bytes_eq}
 use Rattle.wire_msgs.specs.Found.{find, nth}
 use Rattle.wire_msgs.specs.declared.operation.Operation.TheVariants.{Edit}
@@ -64,6 +64,7 @@ pub record IsInserted (r : Record) (f : ℕ) (area : Area) : Type 0 where
 pub record IsStarted (r : Record) : Type 0 where
   pub few : count_alive r.servers < MOST_SERVERS
   pub numbers : length r.servers < r.numbers
+  pub session : r.session ≢ 0
 
 pub record IsRun (r : Record) (o : Object) (inc : ℕ) : Type 0 where
   pub alive : is_alive r inc ≡ true
@@ -80,6 +81,11 @@ pub record IsSaved (r : Record) (f : ℕ) : Type 0 where
   pub quiet : any_busy f frame.ui.state r.objects ≡ false
   pub numbers : frame.k < r.numbers
   pub calls : all_have_numbers f r.numbers r.objects ≡ true
+
+-- a frame's session may be raised for the container: it has none yet, and a number is left
+pub record IsRaised (r : Record) (frame : Frame) : Type 0 where
+  pub none : r.session ≡ 0
+  pub numbers : frame.session < r.numbers
 
 -- what a verb comes to: nothing, steps that leave the frame to whoever has it, or steps that take it
 pub data IsStepped (r : Record) (frame : Frame) (o : Object) (l : Link) (ts : List Step) (t : Took) : Type 0 where
@@ -102,8 +108,9 @@ pub data IsTakenAs (r : Record) (t : Took) : Command → Type 0 where
   as_start : IsStarted r → start_made r ≡ t → IsTakenAs r t command.Start
   as_run : (n inc : ℕ) (at : IsReadyAt r n) → IsRun r at.object inc → run_made r at.object inc ≡ t → IsTakenAs r t (command.Run n inc)
   as_edit : (n : ℕ) (bytes : List ℕ) (go : IsRunningAt r n) → nat_lt MOST_EDIT (length bytes) ≡ false → has_numbers r.numbers go.link ≡ true → edited r go.at.object go.link bytes ≡ t → IsTakenAs r t (command.Edit n bytes)
-  as_save : (f : ℕ) (at : IsSaved r f) → save_made r f at.frame None ≡ t → IsTakenAs r t (command.Save f)
-  as_save_as : (f : ℕ) (name : List ℕ) (at : IsSaved r f) → is_named_beside f name 1 r.frames ≡ false → bytes_eq at.frame.name name ≡ false → save_made r f at.frame (Some name) ≡ t → IsTakenAs r t (command.SaveAs f name)
+  as_session : (at : IsSaved r 1) → IsRaised r at.frame → save_made r 1 at.frame (Some (at.frame.session + 1)) None ≡ t → IsTakenAs r t command.Session
+  as_save : (f : ℕ) (at : IsSaved r f) → r.session ≢ 0 → save_made r f at.frame None None ≡ t → IsTakenAs r t (command.Save f)
+  as_save_as : (f : ℕ) (name : List ℕ) (at : IsSaved r f) → r.session ≢ 0 → is_named_beside f name 1 r.frames ≡ false → bytes_eq at.frame.name name ≡ false → save_made r f at.frame None (Some name) ≡ t → IsTakenAs r t (command.SaveAs f name)
   as_delete : (n : ℕ) (at : IsReadyAt r n) → at.object.link ≡ None → delete_made r at.object ≡ t → IsTakenAs r t (command.Delete n)
   as_kill : (inc : ℕ) → is_alive r inc ≡ true → counts_none r (acts (End inc ∷ [])) ≡ t → IsTakenAs r t (command.Kill inc)
   as_close : (n : ℕ) (option : CloseOption) (go : IsRunningAt r n) (ts : List Step) → has_numbers r.numbers go.link ≡ true → close_steps option go.link.states.object ≡ Some ts → leaving_made r go.at.frame go.at.object go.link ts ≡ t → IsTakenAs r t (command.Close n option)

@@ -10,7 +10,7 @@ use Rattle.container_model.specs.declared.record.Frame.{Frame}
 use Rattle.container_model.specs.declared.record.Object.{Object}
 use Rattle.container_model.specs.Numbered.{IsNth}
 use Rattle.container_model.specs.Record.{Record}
-use Rattle.container_model.specs.Saves.{document_tree, fitting, fitting_in, frame_document, has_image, held_parts, image, image_at, is_document, parts_in}
+use Rattle.container_model.specs.Saves.{document_tree, fitting, fitting_in, frame_document, has_image, held_parts, image, image_at, is_document, parts_in, session_after}
 use Rattle.container_commands.proofs.VerbsPlaced.{frame_here}
 
 -- whether a document fits, as a test
@@ -50,19 +50,19 @@ wrong_image s r f i fs y e same p at h = image_here s r f i fs y e same p at ∙
 abbrev read_document : ℕ → ℕ → List Object → FrameDocument
 read_document session f os = record { session = session; parts = parts_in f os }
 
-held : (s r : Record) (f i session : ℕ) (fs : List Frame) (os : List Object) (y : Frame) → s ≡ r → fs ≡ s.frames → os ≡ s.objects → session ≡ y.session → IsNth f fs i → y ≡ get_or s.frames i y → has_image y.phase ≡ true
+held : (s r : Record) (f i session : ℕ) (fs : List Frame) (os : List Object) (y : Frame) → s ≡ r → fs ≡ s.frames → os ≡ s.objects → session ≡ session_after y.session y.raised → IsNth f fs i → y ≡ get_or s.frames i y → has_image y.phase ≡ true
     → image r f ≡ fitting (read_document session f os)
 held s r f i session fs os y e same objects read p at h =
     image_here s r f i fs y e same p at ∙ (ap (λ b. if b then fitting (frame_document y (parts_in f r.objects)) else Err WrongState) h
-    ∙ (ap (λ (xs : List Object). fitting (read_document y.session f xs)) (sym (objects ∙ ap (λ (t : Record). t.objects) e)) ∙ ap (λ n. fitting (read_document n f os)) (sym read)))
+    ∙ (ap (λ (xs : List Object). fitting (read_document (session_after y.session y.raised) f xs)) (sym (objects ∙ ap (λ (t : Record). t.objects) e)) ∙ ap (λ n. fitting (read_document n f os)) (sym read)))
 
-pub full_image : (s r : Record) (f i session : ℕ) (fs : List Frame) (os : List Object) (y : Frame) → s ≡ r → fs ≡ s.frames → os ≡ s.objects → session ≡ y.session → IsNth f fs i → y ≡ get_or s.frames i y → has_image y.phase ≡ true
+pub full_image : (s r : Record) (f i session : ℕ) (fs : List Frame) (os : List Object) (y : Frame) → s ≡ r → fs ≡ s.frames → os ≡ s.objects → session ≡ session_after y.session y.raised → IsNth f fs i → y ≡ get_or s.frames i y → has_image y.phase ≡ true
     → is_ok (fitting (read_document session f os)) ≡ false → image r f ≡ Err Full
 full_image s r f i session fs os y e same objects read p at h full =
     let d : FrameDocument = read_document session f os in
     held s r f i session fs os y e same objects read p at h ∙ if_full d (is_document (held_parts d.parts)) (writable (document_tree d)) full
 
-pub fine_image : (s r : Record) (f i session : ℕ) (fs : List Frame) (os : List Object) (y : Frame) → s ≡ r → fs ≡ s.frames → os ≡ s.objects → session ≡ y.session → IsNth f fs i → y ≡ get_or s.frames i y → has_image y.phase ≡ true
+pub fine_image : (s r : Record) (f i session : ℕ) (fs : List Frame) (os : List Object) (y : Frame) → s ≡ r → fs ≡ s.frames → os ≡ s.objects → session ≡ session_after y.session y.raised → IsNth f fs i → y ≡ get_or s.frames i y → has_image y.phase ≡ true
     → is_ok (fitting (read_document session f os)) ≡ true → image r f ≡ Ok (read_document session f r.objects)
 fine_image s r f i session fs os y e same objects read p at h fits =
     let d : FrameDocument = read_document session f os in

@@ -13,7 +13,7 @@ use Rattle.container_model.specs.declared.record.Frame.{Frame}
 use Rattle.container_model.specs.declared.record.Phase.{Phase}
 use Rattle.container_model.specs.declared.record.Phase.TheVariants.{Idle, Committing, InDoubt}
 use Rattle.container_model.specs.Record.{Record, Took, MOST_OBJECTS, ask, asked_link}
-use Rattle.container_model.specs.Saves.{commit_at, commit_done, commit_doubted, commit_failed, commit_made, kept, cleared, completion, completed, doubted_frame, dropped_object, name_after, resolve, resolved_at, save_dropped}
+use Rattle.container_model.specs.Saves.{commit_at, commit_done, commit_doubted, commit_failed, commit_made, kept, cleared, completion, completed, doubted_frame, dropped_object, name_after, resolve, resolved_at, save_dropped, session_after}
 use Rattle.grant_core.specs.declared.grant_states.GrantState.{GrantState}
 use Rattle.container_steady.specs.Roles.{Role, SteadyGrant, role_in}
 use Rattle.container_steady.specs.Steady.{IsUnsettled, SteadyLink, SteadyObject, SteadyFrame, InOrder, Steady}
@@ -42,18 +42,19 @@ cleared_stays : (op : Operation) (link : Option Link) → LinkStays link (asked_
 cleared_stays op None l e = cc
 cleared_stays op (Some m) l e = (let same : m ≡ l = cc in let f = link_asked op (Some (record m { saved = None })) (record m { saved = None }) refl in (f.0, f.1, f.2 ∙ ap (λ (z : Link). z.act) same))
 
--- A save ends: its frame is idle under this name, and each object of it, with this work content, is asked for an operation.
-abbrev ended_frame : Frame → List ℕ → Bool → Frame
-ended_frame frame name stored = record frame { name = name; asked = None; stored = stored; phase = Idle }
+-- A save ends: its frame is idle under this name and in this session, and each object of it, with this work content, is asked
+-- for an operation. The container is in a session, that which it was in or another one.
+abbrev ended_frame : Frame → List ℕ → Bool → ℕ → Frame
+ended_frame frame name stored session = record frame { name = name; asked = None; stored = stored; session = session; raised = None; phase = Idle }
 
 abbrev IsTold : ℕ → Operation → (Object → Stored) → (Object → Object) → Type 1
 IsTold f op work told = (P : Object → Type 0) (o : Object) → (o.frame ≡ f → P (record o { work = work o; link = asked_link op (cleared o.link) })) → ((o.frame ≡ f → ⊥) → P o) → P (told o)
 
-module _ (r : Record) (f : ℕ) (frame : Frame) (name : List ℕ) (stored : Bool) (op : Operation) (work : Object → Stored) (told : Object → Object) (s : Steady r) (at : nth r.frames f ≡ Some frame) (told_if : IsTold f op work told)
+module _ (r : Record) (f later : ℕ) (frame : Frame) (name : List ℕ) (stored : Bool) (session : ℕ) (op : Operation) (work : Object → Stored) (told : Object → Object) (s : Steady r) (at : nth r.frames f ≡ Some frame) (told_if : IsTold f op work told)
     (within : (o : Object) → SteadyObject r o → o.frame ≡ f → is_within (work o) ≡ true)
     (asks : (role : Role) (l : Link) → SteadyLink r.servers r.last_act frame.phase frame.asked frame.k role l → SteadyLink r.servers r.last_act Idle None frame.k role (ask (record l { saved = None }) op).link) where
   abbrev after : Record
-  after = record r { frames = set_nth r.frames f (ended_frame frame name stored); objects = map told r.objects }
+  after = record r { session = later; frames = set_nth r.frames f (ended_frame frame name stored session); objects = map told r.objects }
 
   told_took : (o : Object) → TookPlace (told o) o
   told_took o = told_if (λ (z : Object). TookPlace z o) o
@@ -62,9 +63,9 @@ module _ (r : Record) (f : ℕ) (frame : Frame) (name : List ℕ) (stored : Bool
 
   told_steady : (o : Object) → SteadyObject r o → SteadyObject after (told o)
   told_steady o h = told_if (SteadyObject after) o
-      (λ here. set_object r after f frame (ended_frame frame name stored) o (record o { work = work o; link = asked_link op (cleared o.link) }) at refl here refl refl refl (within o h here) refl h
+      (λ here. set_object r after f frame (ended_frame frame name stored session) o (record o { work = work o; link = asked_link op (cleared o.link) }) at refl here refl refl refl (within o h here) refl h
       (cleared_held r.servers r.last_act frame.asked frame.k (role_in frame.ui.state o.number) op frame.phase o.link (asks (role_in frame.ui.state o.number))))
-      (λ other. unset_object r after f (ended_frame frame name stored) o refl other refl refl refl h)
+      (λ other. unset_object r after f (ended_frame frame name stored session) o refl other refl refl refl h)
 
   told_stays : (o : Object) → LinkStays o.link (told o).link
   told_stays o = told_if (λ (z : Object). LinkStays o.link z.link) o (λ e. cleared_stays op o.link) (λ e l g. (l, g, refl))
@@ -75,11 +76,11 @@ module _ (r : Record) (f : ℕ) (frame : Frame) (name : List ℕ) (stored : Bool
 
   ended_steady : Steady after
   ended_steady = record {
-    frames = each_set SteadyFrame r.frames f (ended_frame frame name stored) s.frames (record { asked = refl });
+    frames = each_set SteadyFrame r.frames f (ended_frame frame name stored session) s.frames (record { asked = refl });
     objects = each_map (SteadyObject r) (SteadyObject after) told r.objects told_steady s.objects;
     order = pairs_map InOrder told r.objects (order_both told told_took) s.order;
     count = λ g. subst (λ (n : ℕ). n ≤ MOST_OBJECTS) (sym (count_map g told r.objects (λ o. (told_took o).frame))) (s.count g);
-    grants = λ i x e. elim (set_back r.frames f i frame (ended_frame frame name stored) x at e) [
+    grants = λ i x e. elim (set_back r.frames f i frame (ended_frame frame name stored session) x at e) [
       | inl same ↦ subst (λ (y : Frame). SteadyGrant after i y.ui.state) same.1 (subst (λ (n : ℕ). SteadyGrant after n frame.ui.state) same.0 (grants_stay f frame.ui.state (s.grants f frame at)))
       | inr other ↦ grants_stay i x.ui.state (s.grants i x other)
     ];
@@ -93,14 +94,14 @@ unsettled servers last_act asked k role phase l (inr e) h = undoubted servers la
 module _ (r : Record) (f : ℕ) (frame : Frame) (s : Steady r) (at : nth r.frames f ≡ Some frame) where
   -- it is counted
   pub commit_steady : IsUnsettled frame.phase → Steady (commit_made r f frame).rec
-  commit_steady e = ended_steady r f frame (name_after frame.name frame.asked) true (completion frame) kept (completed f frame) s at
+  commit_steady e = ended_steady r f (session_after r.session frame.raised) frame (name_after frame.name frame.asked) true (session_after frame.session frame.raised) (completion frame) kept (completed f frame) s at
       (λ P o. completed_if P f frame o)
       (λ o h here. kept_object_within r o frame h.within (at_some (Held r o.number o.link) (nth r.frames o.frame) frame (ap (nth r.frames) here ∙ at) h.linked))
       (λ role l h. completion_asked r.servers r.last_act frame.asked frame.k role l (unsettled r.servers r.last_act frame.asked frame.k role frame.phase l e h))
 
   -- it is dropped
   pub drop_steady : frame.phase ≡ InDoubt → Steady (save_dropped r f frame).rec
-  drop_steady e = ended_steady r f frame frame.name frame.stored (SaveDropped frame.k) (λ o. o.work) (dropped_object f frame) s at
+  drop_steady e = ended_steady r f r.session frame frame.name frame.stored frame.session (SaveDropped frame.k) (λ o. o.work) (dropped_object f frame) s at
       (λ P o. dropped_if P f frame o)
       (λ o h here. h.within)
       (λ role l h. drop_asked r.servers r.last_act frame.asked frame.k role l (subst (λ (z : Phase). SteadyLink r.servers r.last_act z frame.asked frame.k role l) e h))

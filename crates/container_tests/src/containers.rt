@@ -3,7 +3,7 @@
 
 use crate::answers::is_answered;
 use crate::events::{event, happens};
-use crate::files::{is_document, is_file};
+use crate::files::{are_sessions, is_document, is_file};
 use crate::messages::{messaged, messaged_in};
 use crate::shown::{are_numbers, are_pending, are_sizes, are_states, is_screen};
 use crate::words::{halves, number, word};
@@ -23,9 +23,11 @@ done 1 => NoSuch
 states => none none none
 screen => NoSuch
 new a.ole 12 4 => frame 1
-save 1 => commit 1
+session => commit 1
 document => 0
 file => 0
+done 1 =>
+save 1 => commit 1
 done 1 =>
 insert 1 note 1 1 5 2 => object 1
 screen => note
@@ -67,6 +69,8 @@ numbers => 1 of 1
 sizes => 1 1 100
 anew =>
 new a.ole 12 4 => frame 1
+session => commit 1
+done 1 =>
 insert 1 note 1 1 5 2 => object 1
 start => server 1 start 1
 run 1 1 => call 1 InitNew
@@ -78,6 +82,8 @@ reply 2 small => taken
 states => Idle Free passive
 anew =>
 new a.ole 12 4 => frame 1
+session => commit 1
+done 1 =>
 insert 1 note 1 1 5 2 => object 1
 start => server 1 start 1
 run 1 1 => call 1 InitNew
@@ -90,6 +96,8 @@ anew =>
 fail 1 => NoSuch
 resolve 1 kept => NoSuch
 new a.ole 12 4 => frame 1
+session => commit 1
+done 1 =>
 fail 1 => WrongState
 resolve 1 lost => WrongState
 insert 1 note 1 1 5 2 => object 1
@@ -116,6 +124,8 @@ resolve 1 kept => call 5 SaveCompleted
 states => Idle Free active
 anew =>
 new a.ole 12 4 => frame 1
+session => commit 1
+done 1 =>
 insert 1 note 1 1 5 2 => object 1
 start => server 1 start 1
 run 1 1 => call 1 InitNew
@@ -130,6 +140,8 @@ resolve 1 lost =>
 states => Idle Free passive
 anew =>
 new a.ole 12 4 => frame 1
+session => commit 1
+done 1 =>
 insert 1 note 1 1 5 2 => object 1
 saveas 1 a.ole => WrongState
 new b.ole 12 4 => frame 2
@@ -171,6 +183,8 @@ new e.ole 12 4 => frame 5";
 
 /// A server that sends what is another's, and what it didn't do.
 const FORGED: &str = "new a.ole 12 4 => frame 1
+session => commit 1
+done 1 =>
 insert 1 note 1 1 5 2 => object 1
 insert 1 note 6 1 5 2 => object 2
 start => server 1 start 1
@@ -218,6 +232,8 @@ states => Idle Granting active";
 /// away, meanwhile to give the frame up, and that the save is counted.
 const SPENT: &str = "anew 12 =>
 new a.ole 12 4 => frame 1
+session => commit 1
+done 1 =>
 insert 1 note 1 1 5 2 => object 1
 start => server 1 start 1
 run 1 1 => call 1 InitNew
@@ -237,6 +253,8 @@ reply 8 done =>
 saveas 1 c.ole => NumbersSpent
 anew 12 =>
 new a.ole 12 4 => frame 1
+session => commit 1
+done 1 =>
 insert 1 note 1 1 5 2 => object 1
 start => server 1 start 1
 run 1 1 => call 1 InitNew
@@ -251,6 +269,59 @@ reply 5 done =>
 saveas 1 b.ole => NumbersSpent
 save 1 => NumbersSpent
 states => Idle Held active-empty";
+
+/// The first frame's document is raised to the next session, and that is the container's once it is counted. `sessions N` tells the
+/// container's session, that of frame N, the one that the document says which is to be committed for it, or `none`, and the number
+/// of its last save.
+const RAISED: &str = "session => NoSuch
+start => WrongState
+save 1 => NoSuch
+new a.ole 12 4 => frame 1
+new b.ole 12 4 => frame 2
+insert 1 note 1 1 5 2 => object 1
+start => WrongState
+save 1 => WrongState
+save 2 => WrongState
+saveas 2 c.ole => WrongState
+sessions 1 => 0 0 none 0
+session => commit 1
+sessions 1 => 0 0 1 1
+session => Busy
+start => WrongState
+save 1 => Busy
+save 2 => WrongState
+fail 1 =>
+session => InDoubt
+start => WrongState
+sessions 1 => 0 0 1 1
+resolve 1 lost =>
+sessions 1 => 0 0 none 1
+start => WrongState
+save 1 => WrongState
+session => commit 1
+sessions 1 => 0 0 1 2
+fail 1 =>
+resolve 1 kept =>
+sessions 1 => 1 1 none 2
+session => WrongState
+start => server 1 start 1
+run 1 1 => call 1 InitNew
+save 2 => commit 2
+sessions 2 => 1 0 0 1
+done 2 =>
+sessions 2 => 1 0 none 1
+reply 1 done =>
+save 1 => call 2 Save
+reply 2 small => commit 1
+sessions 1 => 1 1 1 3
+done 1 => call 3 SaveCompleted
+sessions 1 => 1 1 none 3
+anew 1 =>
+new a.ole 12 4 => frame 1
+session => commit 1
+fail 1 =>
+resolve 1 lost =>
+session => NumbersSpent";
 
 /// A container that gives numbers up to this one, and at most 100.
 fn container(alloc: Global, numbers: u32) -> ContainerCore {
@@ -272,6 +343,7 @@ fn shows(
         [b'n', ..] => are_numbers(rt, alloc, core, words),
         [b's', b'i', ..] => are_sizes(core, words),
         [b's', b'c', ..] => is_screen(alloc, core, 1, words),
+        [b's', b'e', ..] => are_sessions(alloc, core, number(halves(row, " ").1), words),
         [b's', ..] => are_states(core, words),
         _ => is_file(alloc, core, words),
     }
@@ -356,7 +428,7 @@ fn answers(rt: &impl Abort, alloc: Global, core: &mut ContainerCore, row: &str) 
 
 #[test]
 fn containers_answer_what_they_are_told(rt: HostRuntime) {
-    for rows in [ROWS, FORGED, SPENT] {
+    for rows in [ROWS, FORGED, SPENT, RAISED] {
         let mut core = container(rt.alloc(), 100);
         for row in rows.split('\n') {
             assert!(rt; answers(&rt, rt.alloc(), &mut core, row), "{row}");

@@ -1,15 +1,15 @@
 //! The documents of a container and their files, as rows spell them.
 
 use crate::answers::is_fault;
-use crate::words::counts;
+use crate::words::{counts, number, word};
 use container_core::container::ContainerCore;
 use container_model::answer::FrameDocument;
 use container_model::fault::ContainerFault;
 use std::alloc::Global;
 use std::str::SplitWhitespace;
 
-fn document(alloc: Global, core: &ContainerCore) -> Result<FrameDocument, ContainerFault> {
-    core.document(alloc, 1)
+fn document(alloc: Global, core: &ContainerCore, f: u32) -> Result<FrameDocument, ContainerFault> {
+    core.document(alloc, f)
 }
 
 /// Whether the document of frame 1 has so many objects.
@@ -18,10 +18,46 @@ pub(crate) fn is_document(
     core: &ContainerCore,
     words: &mut SplitWhitespace<'_>,
 ) -> bool {
-    match document(alloc, core) {
+    match document(alloc, core, 1) {
         Ok(document) => counts(words, document.parts.len()),
         Err(fault) => is_fault(fault, words),
     }
+}
+
+/// Whether the document of a frame that is to be committed says this session, or there is `none`.
+fn is_written(
+    alloc: Global,
+    core: &ContainerCore,
+    f: u32,
+    words: &mut SplitWhitespace<'_>,
+) -> bool {
+    match document(alloc, core, f) {
+        Ok(document) => number(word(words)) == document.session,
+        Err(_) => word(words) == "none",
+    }
+}
+
+/// The session of a frame's document, and the number of its last save.
+fn saved(core: &ContainerCore, f: u32) -> (u32, u32) {
+    match core.frame(f) {
+        Some(frame) => (frame.session, frame.k),
+        None => (u32::MAX, u32::MAX),
+    }
+}
+
+/// Whether the sessions are these: the container's, that of a frame and the one of its document that is to be committed. Then the
+/// number of its last save.
+pub(crate) fn are_sessions(
+    alloc: Global,
+    core: &ContainerCore,
+    f: u32,
+    words: &mut SplitWhitespace<'_>,
+) -> bool {
+    let (session, k) = saved(core, f);
+    number(word(words)) == core.session()
+        && number(word(words)) == session
+        && is_written(alloc, core, f, words)
+        && number(word(words)) == k
 }
 
 fn commit_image(

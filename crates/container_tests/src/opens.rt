@@ -1,7 +1,8 @@
 //! Files that are opened. The table is a text as that of containers; `may NAME W H` asks whether a file may be opened under a
 //! name, and `open NAME W H FILE` opens one: `image` is what is to be committed for frame 1, `none` no file, `text` no compound
-//! file, `many` one whose layout counts 65 objects, and `other` one with an object of a class that no server has. `same N` tells
-//! that frames 1 and N commit the same file, and `few` is a new container that gives numbers up to 3.
+//! file, `many` one whose layout counts 65 objects, and `other` one with an object of a class that no server has; that of `first`
+//! is of session 1, and that of `last` of the greatest one. `same N` tells that frames 1 and N commit the same file, and `few` is
+//! a new container that gives numbers up to 3.
 
 use crate::answers::{is_answered, is_fault};
 use crate::containers::tells;
@@ -25,6 +26,8 @@ use stored_values::class_id::ClassId;
 const ROWS: &str = "new a.ole 12 4 => frame 1
 insert 1 note 1 1 5 2 => object 1
 insert 1 table 1 1 5 2 => object 2
+session => commit 1
+done 1 =>
 save 1 => commit 1
 may a.ole 12 4 => Busy
 may b.ole 12 101 => WrongState
@@ -56,10 +59,32 @@ few =>
 new a.ole 12 4 => frame 1
 insert 1 note 1 1 5 2 => object 1
 insert 1 note 1 1 5 2 => object 2
-save 1 => commit 1
+session => commit 1
 open b.ole 12 4 image => NumbersSpent
 open b.ole 12 4 other => frame 2 object 3
-open c.ole 12 4 other => NumbersSpent";
+open c.ole 12 4 other => NumbersSpent
+anew =>
+open a.ole 12 4 first => frame 1 object 1
+sessions 1 => 0 1 none 0
+start => WrongState
+session => commit 1
+sessions 1 => 0 1 2 1
+open b.ole 12 4 image => frame 2 object 2
+sessions 2 => 0 2 none 0
+fail 1 =>
+resolve 1 lost =>
+sessions 1 => 0 1 none 1
+session => commit 1
+sessions 1 => 0 1 2 2
+done 1 =>
+sessions 1 => 2 2 none 2
+session => WrongState
+start => server 1 start 1
+anew =>
+open a.ole 12 4 last => frame 1 object 1
+sessions 1 => 0 4294967295 none 0
+session => NumbersSpent
+start => WrongState";
 
 fn bytes(rt: &impl Abort, alloc: Global, bytes: &[u8]) -> Bytes {
     Bytes::from_slice(alloc, bytes).expect(rt, "memory")
@@ -95,9 +120,9 @@ fn object(rt: &impl Abort, alloc: Global) -> DocObject {
     }
 }
 
-/// A file with an object of a class that no server has.
-fn other(rt: &impl Abort, alloc: Global) -> Vec<u8> {
-    let mut doc = Doc::new(alloc, 0);
+/// A file of this session with an object of a class that no server has.
+fn other(rt: &impl Abort, alloc: Global, session: u32) -> Vec<u8> {
+    let mut doc = Doc::new(alloc, session);
     doc.push(object(rt, alloc)).expect(rt, "an object");
     let tree = document_tree(alloc, doc).expect(rt, "memory");
     written(rt, alloc, &tree)
@@ -116,7 +141,9 @@ fn file(rt: &impl Abort, alloc: Global, core: &ContainerCore, word: &str) -> Opt
         [b'i', ..] => Some(image(rt, alloc, core, 1)),
         [b't', ..] => Some(text(rt, alloc)),
         [b'm', ..] => Some(many(rt, alloc)),
-        [b'o', ..] => Some(other(rt, alloc)),
+        [b'o', ..] => Some(other(rt, alloc, 0)),
+        [b'f', ..] => Some(other(rt, alloc, 1)),
+        [b'l', ..] => Some(other(rt, alloc, u32::MAX)),
         _ => None,
     }
 }

@@ -185,9 +185,10 @@ abbrev pub insert_read : List (List ℕ) → Option Event
 insert_read (f ∷ kind ∷ x ∷ y ∷ w ∷ h ∷ []) = insert_of (number_read f) (kind_read kind) (area_of (short_read x) (short_read y) (short_read w) (short_read h))
 insert_read _ = None
 
-abbrev pub start_read : List (List ℕ) → Option Event
-start_read [] = Some (event.Command command.Start)
-start_read (word ∷ others) = None
+-- a command of which nothing stands behind its name
+abbrev pub alone_read : Command → List (List ℕ) → Option Event
+alone_read c [] = Some (event.Command c)
+alone_read c (word ∷ others) = None
 
 abbrev pub close_read : List (List ℕ) → Option Event
 close_read words = number_and close_of option_read words
@@ -232,10 +233,11 @@ numbers_named name others =
 
 abbrev pub event_named : List ℕ → List (List ℕ) → Option Event
 event_named name others =
-    cond (bytes_eq name (codes "start")) (start_read others) (
+    cond (bytes_eq name (codes "session")) (alone_read command.Session others) (
+    cond (bytes_eq name (codes "start")) (alone_read command.Start others) (
     cond (bytes_eq name (codes "new")) (new_read others) (
     cond (bytes_eq name (codes "saveas")) (save_as_read others) (
-    cond (bytes_eq name (codes "edit")) (edit_read others) (numbers_named name others))))
+    cond (bytes_eq name (codes "edit")) (edit_read others) (numbers_named name others)))))
 
 abbrev pub event_in : List (List ℕ) → Option Event
 event_in [] = None
@@ -328,6 +330,7 @@ command_takes_memory (command.New name w h) = true
 command_takes_memory (command.Edit o bytes) = true
 command_takes_memory (command.SaveAs f name) = true
 command_takes_memory (command.Insert f kind area) = false
+command_takes_memory command.Session = false
 command_takes_memory command.Start = false
 command_takes_memory (command.Run o inc) = false
 command_takes_memory (command.Save f) = false

@@ -68,7 +68,9 @@ pub fn parse(alloc: Global, line: &[u8]) -> Result<Option<Event>, AllocError>
 fn parse_alone(name: &[u8]) -> Option<Event>
     ensures { result ≡ event_named name.now [] }
 {
-    if is_word(name, b"start") {
+    if is_word(name, b"session") {
+        Some(Event::Command(Command::Session))
+    } else if is_word(name, b"start") {
         Some(Event::Command(Command::Start))
     } else {
         None
@@ -81,7 +83,9 @@ fn parse_with(alloc: Global, name: &[u8], rest: &[u8]) -> Result<Option<Event>, 
     ensures read { IfOk result (λ event. event ≡ event_named name.now (words rest.now)) }
     ensures within { IfErr result (λ _. IsTrue (takes_memory (event_named name.now (words rest.now)))) }
 {
-    if is_word(name, b"start") {
+    if is_word(name, b"session") {
+        Ok(None)
+    } else if is_word(name, b"start") {
         Ok(None)
     } else if is_word(name, b"new") {
         new_frame(alloc, rest)

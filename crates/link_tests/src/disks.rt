@@ -1,7 +1,8 @@
 //! A save of what servers hold, whose disk fails at each call in turn: once, or for good. What a crash then leaves of the disk
-//! is the empty document, or the one that was saved.
+//! is the document of the container's session, or the one that was saved. And the save that raises that session, whose disk fails
+//! so.
 
-use crate::servers::Servers;
+use crate::servers::{Arrives, Servers};
 use disk_images::images::{PENDING, Pending, crashed};
 use doc_store::memory_disk::{Faults, MemoryDisk};
 use doc_store::store::Store;
@@ -16,6 +17,10 @@ use store_model::fault::StoreFault;
 /// Two notes, each in a server of its own, one of which is ended before the save.
 const SCRIPT: &str =
     "new d.ole 40 12\ninsert 1 note 0 0 20 5\ninsert 1 note 0 6 20 5\nstart\nstart\nrun 1 1\nrun 2 2\nedit 1 i 0 a\nedit 2 i 0 b\nkill 1\nsave 1\n";
+
+/// The same, up to the save that raises the session.
+const START: &str =
+    "new d.ole 40 12\ninsert 1 note 0 0 20 5\ninsert 1 note 0 6 20 5\nstart\nstart\n";
 
 /// What is written before it is saved.
 const BEFORE: &str = "frame 1\nobject 1\nobject 2\nserver 1\nserver 2\nok\nok\nok\nok\nok\n";
@@ -50,18 +55,43 @@ fn end_of(written: &[u8], told: &Result<(), ScriptFault>) -> End {
     }
 }
 
-/// How the script ends over a new file whose calls fail so, and the file's disk. Each object is dropped once.
-fn run(rt: &impl Abort, alloc: Global, faults: Faults) -> (End, MemoryDisk) {
+/// What a script is to write, how it ends, how many objects it makes, and its file's disk. Each object is dropped once.
+#[derive(Drop)]
+struct Ran {
+    written: Vec<u8>,
+    told: Result<(), ScriptFault>,
+    made: u32,
+    disk: MemoryDisk,
+}
+
+/// Runs a script over a new file, whose calls fail so once its disk was given so often.
+fn run_script_on(rt: &impl Abort, alloc: Global, script: &str, given: u32, faults: Faults) -> Ran {
     let tally = Tally::new(alloc).expect(rt, "memory");
     let shared = tally.share().expect(rt, "memory");
-    let mut disk = MemoryDisk::new(alloc, Vec::new(alloc), Vec::new(alloc)).expect(rt, "memory");
-    disk.set_faults(faults);
-    let mut host = Servers::with_disk(alloc, shared, disk);
+    let mut host = Servers::new(alloc, shared, u64::MAX, Arrives::All);
+    host.fail_disk(given, faults);
     let mut written = Vec::new(alloc);
-    let told = run_script(alloc, &mut host, &mut SCRIPT.as_bytes(), &mut written);
+    let told = run_script(alloc, &mut host, &mut script.as_bytes(), &mut written);
     let made = host.made();
     let disk = host.into_disk().expect(rt, "a disk that was given back");
-    assert!(rt; made == 2 && tally.count() == made, "{made} made");
+    assert!(rt; tally.count() == made, "{made} made");
+    Ran {
+        written,
+        told,
+        made,
+        disk,
+    }
+}
+
+/// How the script ends over a new file whose calls fail so from the second save on, and the file's disk.
+fn run(rt: &impl Abort, alloc: Global, faults: Faults) -> (End, MemoryDisk) {
+    let Ran {
+        written,
+        told,
+        made,
+        disk,
+    } = run_script_on(rt, alloc, SCRIPT, 1, faults);
+    assert!(rt; made == 2, "{made} made");
     (end_of(&written, &told), disk)
 }
 
@@ -78,23 +108,50 @@ fn document(rt: &impl Abort, alloc: Global, disk: MemoryDisk) -> Vec<u8> {
     }
 }
 
+/// The document from before a save, and the one that is saved: in the sectors of the one from before, or, where that isn't read, in
+/// its own.
+#[derive(Drop)]
+struct Documents {
+    old: Vec<u8>,
+    new: Vec<u8>,
+    plain: Vec<u8>,
+}
+
+impl Documents {
+    /// Whether a document is the one from before.
+    fn is_old(&self, found: &[u8]) -> bool {
+        found == self.old.as_slice()
+    }
+
+    /// Whether a document is the one that is saved.
+    fn is_new(&self, found: &[u8]) -> bool {
+        found == self.new.as_slice() || found == self.plain.as_slice()
+    }
+}
+
 /// Whether a document is what a run that ended so may leave.
-fn may_leave(end: End, found: &[u8], saved: &[u8]) -> bool {
+fn may_leave(end: End, found: &[u8], documents: &Documents) -> bool {
     match end {
-        End::Saved => found == saved,
-        End::Lost => found.is_empty(),
-        End::Unknown => found.is_empty() || found == saved,
+        End::Saved => documents.is_new(found),
+        End::Lost => documents.is_old(found),
+        End::Unknown => documents.is_old(found) || documents.is_new(found),
         End::Wrong => false,
     }
 }
 
 /// Whether each crash of a disk leaves what a run that ended so may leave, whatever becomes of what was pending.
-fn survives(rt: &impl Abort, alloc: Global, end: End, left: &MemoryDisk, saved: &[u8]) -> bool {
+fn survives(
+    rt: &impl Abort,
+    alloc: Global,
+    end: End,
+    left: &MemoryDisk,
+    documents: &Documents,
+) -> bool {
     let calls = left.calls().len();
     for of_document in PENDING {
         for of_journal in PENDING {
             let disk = crashed(alloc, left, calls, of_document, of_journal).expect(rt, "memory");
-            if !may_leave(end, &document(rt, alloc, disk), saved) {
+            if !may_leave(end, &document(rt, alloc, disk), documents) {
                 return false;
             }
         }
@@ -103,7 +160,7 @@ fn survives(rt: &impl Abort, alloc: Global, end: End, left: &MemoryDisk, saved: 
 }
 
 /// How often the script ended so where one call fails after another, or each from one on: saved, lost, unknown.
-fn count(rt: &impl Abort, alloc: Global, once: bool, saved: &[u8]) -> [u64; 3] {
+fn count(rt: &impl Abort, alloc: Global, once: bool, documents: &Documents) -> [u64; 3] {
     let mut ends = [0u64; 3];
     for calls in 0..MOST_CALLS {
         let faults = if once {
@@ -113,12 +170,101 @@ fn count(rt: &impl Abort, alloc: Global, once: bool, saved: &[u8]) -> [u64; 3] {
         };
         let (end, left) = run(rt, alloc, faults);
         assert!(rt;
-            once || survives(rt, alloc, end, &left, saved),
+            once || survives(rt, alloc, end, &left, documents),
             "a crash after {calls} calls"
         );
         let whole = left.failures() == 0;
         assert!(rt;
-            may_leave(end, &document(rt, alloc, left), saved),
+            may_leave(end, &document(rt, alloc, left), documents),
+            "after {calls} calls"
+        );
+        match end {
+            End::Saved => ends[0] = ends[0].saturating_add(1),
+            End::Lost => ends[1] = ends[1].saturating_add(1),
+            _ => ends[2] = ends[2].saturating_add(1),
+        }
+        if whole {
+            return ends;
+        }
+    }
+    [0; 3]
+}
+
+/// The documents of the whole script: that of the session, and those of its save.
+fn made_documents(rt: &impl Abort, alloc: Global) -> Documents {
+    let begun = run_script_on(rt, alloc, START, 0, Faults::Never);
+    let (_, disk) = run(rt, alloc, Faults::Never);
+    let (_, unread) = run(rt, alloc, Faults::Once(0));
+    let made = Documents {
+        old: document(rt, alloc, begun.disk),
+        new: document(rt, alloc, disk),
+        plain: document(rt, alloc, unread),
+    };
+    let (old, new, plain) = (made.old.len(), made.new.len(), made.plain.len());
+    assert!(rt;
+        old == 3_584 && new == 4_608 && plain == 4_608,
+        "{old} {new} {plain}"
+    );
+    made
+}
+
+#[test]
+fn a_save_of_two_servers_is_as_it_is_told_whichever_call_of_its_disk_fails(rt: HostRuntime) {
+    let alloc = rt.alloc();
+    let documents = made_documents(&rt, alloc);
+    let once = count(&rt, alloc, true, &documents);
+    assert!(rt; once[0] > 1 && once[1] > 1, "{once:?}");
+    let stopped = count(&rt, alloc, false, &documents);
+    assert!(rt;
+        stopped[0] == 1 && stopped[1] == 0 && stopped[2] > 5,
+        "{stopped:?}"
+    );
+}
+
+/// What is written before the session is raised, where it is and two servers start, and where it is lost and then raised again.
+const INSERTED: &str = "frame 1\nobject 1\nobject 2\n";
+
+const TWO: &str = "server 1\nserver 2\n";
+
+const AGAIN: &str = "Device\nserver 1\n";
+
+/// How two starts end that wrote this and told so: the first one may be lost, and the second one then tries again.
+fn start_of(written: &[u8], told: &Result<(), ScriptFault>) -> End {
+    let before = INSERTED.as_bytes();
+    match told {
+        Ok(()) if !written.starts_with(before) => End::Wrong,
+        Ok(()) if &written[before.len()..] == TWO.as_bytes() => End::Saved,
+        Ok(()) if &written[before.len()..] == AGAIN.as_bytes() => End::Lost,
+        Err(ScriptFault::File(_, StoreFault::Device)) if written == before => End::Unknown,
+        _ => End::Wrong,
+    }
+}
+
+/// Whether the session is in the document of a disk, or is none where the script ended before that is known.
+fn is_raised(rt: &impl Abort, alloc: Global, end: End, disk: MemoryDisk, raised: &[u8]) -> bool {
+    let found = document(rt, alloc, disk);
+    match end {
+        End::Saved | End::Lost => found.as_slice() == raised,
+        End::Unknown => found.is_empty() || found.as_slice() == raised,
+        End::Wrong => false,
+    }
+}
+
+/// How often two starts ended so where one call of the disk fails after another, or each from one on: raised at once, at the second
+/// start, unknown.
+fn count_starts(rt: &impl Abort, alloc: Global, once: bool, raised: &[u8]) -> [u64; 3] {
+    let mut ends = [0u64; 3];
+    for calls in 0..MOST_CALLS {
+        let faults = if once {
+            Faults::Once(calls)
+        } else {
+            Faults::From(calls)
+        };
+        let ran = run_script_on(rt, alloc, START, 0, faults);
+        let end = start_of(&ran.written, &ran.told);
+        let whole = ran.disk.failures() == 0;
+        assert!(rt;
+            is_raised(rt, alloc, end, ran.disk, raised),
             "after {calls} calls"
         );
         match end {
@@ -134,16 +280,24 @@ fn count(rt: &impl Abort, alloc: Global, once: bool, saved: &[u8]) -> [u64; 3] {
 }
 
 #[test]
-fn a_save_of_two_servers_is_as_it_is_told_whichever_call_of_its_disk_fails(rt: HostRuntime) {
+fn a_session_that_is_lost_is_raised_by_the_next_start(rt: HostRuntime) {
     let alloc = rt.alloc();
-    let (end, disk) = run(&rt, alloc, Faults::Never);
-    let saved = document(&rt, alloc, disk);
-    assert!(rt; end == End::Saved && saved.len() > 4_000);
-    let once = count(&rt, alloc, true, &saved);
-    assert!(rt; once[0] > 1 && once[1] > 1, "{once:?}");
-    let stopped = count(&rt, alloc, false, &saved);
+    let raised = made_documents(&rt, alloc).old;
+    let once = count_starts(&rt, alloc, true, &raised);
+    assert!(rt; once[0] > 1 && once[1] > 1 && once[2] == 0, "{once:?}");
+    let stopped = count_starts(&rt, alloc, false, &raised);
     assert!(rt;
         stopped[0] == 1 && stopped[1] == 0 && stopped[2] > 5,
         "{stopped:?}"
     );
+}
+
+#[test]
+fn two_starts_raise_the_session_once(rt: HostRuntime) {
+    let alloc = rt.alloc();
+    let tally = Tally::new(alloc).expect(&rt, "memory");
+    let mut host = Servers::new(alloc, tally, u64::MAX, Arrives::All);
+    let mut written = Vec::new(alloc);
+    let told = run_script(alloc, &mut host, &mut START.as_bytes(), &mut written);
+    assert!(rt; told.is_ok() && written.ends_with(TWO.as_bytes()) && host.given() == 1);
 }

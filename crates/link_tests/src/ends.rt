@@ -8,7 +8,7 @@ use std::process::Abort;
 /// How a link ends on which these bytes come, where these are written on it.
 fn ends(rt: &impl Abort, alloc: Global, sent: &[u8], want: &[u8]) -> &'static str {
     let mut serving = Serving::new(alloc);
-    serving.start(alloc, 7, 10).expect(rt, "memory");
+    serving.start(alloc, 1, 7, 10).expect(rt, "memory");
     serving.begin(alloc);
     let mut reader = sent;
     let mut writer = Vec::new(alloc);

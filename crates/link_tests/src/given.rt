@@ -71,7 +71,7 @@ fn ends(rt: &impl Abort, alloc: Global, links: u32) -> (&'static str, usize) {
         written: 0,
         told: Values::new(),
     };
-    let stop = serve_links(alloc, &tally, &mut given, 7, 10).expect(rt, "memory");
+    let stop = serve_links(alloc, &tally, &mut given, 1, 7, 10).expect(rt, "memory");
     let told = match stop {
         Stop::NoLink => "no link",
         Stop::MostLinks => "most links",

@@ -15,8 +15,8 @@ const GROW: &str =
 /// What another script finds.
 const LOOK: &str = "open d.ole 82 10\nscreen 1\n";
 
-/// A note goes.
-const DELETE: &str = "open d.ole 82 10\ndelete 10\nsave 1\nscreen 1\n";
+/// A note goes, once the next session is there.
+const DELETE: &str = "open d.ole 82 10\nsession\ndelete 10\nsave 1\nscreen 1\n";
 
 fn add(rt: &impl Abort, script: &mut Vec<u8>, text: &[u8]) {
     script.extend_from_slice(text).expect(rt, "memory");

@@ -23,10 +23,10 @@ pub(crate) struct Server {
 }
 
 impl Server {
-    /// The server of an incarnation, with a link on which nothing is on its way.
-    pub(crate) fn new(alloc: Global, inc: u32) -> Result<Server, AllocError> {
+    /// The server of a session and an incarnation, with a link on which nothing is on its way.
+    pub(crate) fn new(alloc: Global, session: u32, inc: u32) -> Result<Server, AllocError> {
         let mut serving = Serving::new(alloc);
-        serving.start(alloc, inc, MOST_NUMBERS)?;
+        serving.start(alloc, session, inc, MOST_NUMBERS)?;
         Ok(Server {
             inc,
             serving,

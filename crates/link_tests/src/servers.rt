@@ -1,10 +1,11 @@
-//! A host whose servers are in memory, and of whose links one call fails as a test says. It has one file, or none.
+//! A host whose servers are in memory, and of whose links one call fails as a test says. It has one file, whose disk's calls fail
+//! as a test says too.
 
 ghost use Rattle.script_model.specs.Histories.{told_in};
 ghost use Rattle.std.specs.Prelude.{◌≡◌, ◌<◌, ◌≤◌, [], IfSome, length};
 
 use crate::server::Server;
-use doc_store::memory_disk::MemoryDisk;
+use doc_store::memory_disk::{Faults, MemoryDisk};
 use embed_core::classes;
 use embed_core::tally::Tally;
 use embed_note::note::Note;
@@ -38,11 +39,14 @@ pub(crate) struct Servers {
     failing: u64,
     arrives: Arrives,
     disk: Option<MemoryDisk>,
+    given: u32,
+    failing_from: u32,
+    faults: Faults,
     history: History<MemoryDisk>,
 }
 
 impl Servers {
-    /// A host without servers, of whose links this call fails.
+    /// A host without servers, of whose links this call fails, and whose file is new.
     pub(crate) fn new(alloc: Global, tally: Tally, failing: u64, arrives: Arrives) -> Servers
         ensures { ⟦<Servers as Host>⟧.told result ≡ [] }
     {
@@ -54,7 +58,10 @@ impl Servers {
             calls: 0,
             failing,
             arrives,
-            disk: None,
+            disk: MemoryDisk::new(alloc, Vec::new(alloc), Vec::new(alloc)).ok(),
+            given: 0,
+            failing_from: 0,
+            faults: Faults::Never,
             history: History::new(),
         }
     }
@@ -66,6 +73,19 @@ impl Servers {
         let mut host = Servers::new(alloc, tally, u64::MAX, Arrives::All);
         host.disk = Some(disk);
         host
+    }
+
+    /// Once the disk was given so often, its calls fail so.
+    pub(crate) fn fail_disk(&mut self, given: u32, faults: Faults)
+        ensures { ⟦<Servers as Host>⟧.told self.new ≡ ⟦<Servers as Host>⟧.told self.old }
+    {
+        self.failing_from = given;
+        self.faults = faults;
+    }
+
+    /// How often the disk was given to be saved on.
+    pub(crate) fn given(&self) -> u32 {
+        self.given
     }
 
     /// The disk of its file as it was left.
@@ -105,10 +125,10 @@ impl Servers {
     }
 
     /// Starts a server.
-    fn begin(&mut self, inc: u32) -> Result<(), AllocError>
+    fn begin(&mut self, session: u32, inc: u32) -> Result<(), AllocError>
         ensures history { self.new.history ≡ self.old.history }
     {
-        let server = Server::new(self.alloc, inc)?;
+        let server = Server::new(self.alloc, session, inc)?;
         self.servers.push(server)?;
         Ok(())
     }
@@ -168,14 +188,14 @@ impl Host for Servers {
 
     ghost told = { λ h. told_in h.history };
 
-    fn start(&mut self, inc: u32) -> Result<(), HostFault> {
-        match self.begin(inc) {
+    fn start(&mut self, session: u32, inc: u32) -> Result<(), HostFault> {
+        match self.begin(session, inc) {
             Ok(()) => {
-                self.history.started(inc, true);
+                self.history.started(session, inc, true);
                 Ok(())
             }
             Err(_) => {
-                self.history.started(inc, false);
+                self.history.started(session, inc, false);
                 Err(HostFault::NoMemory)
             }
         }
@@ -235,7 +255,11 @@ impl Host for Servers {
 
     fn disk(&mut self, name: &[u8]) -> Result<MemoryDisk, StoreFault> {
         match self.disk.take() {
-            Some(disk) => {
+            Some(mut disk) => {
+                if self.given == self.failing_from {
+                    disk.set_faults(self.faults);
+                }
+                self.given = self.given.saturating_add(1);
                 self.history.opened(name, Some(&disk));
                 Ok(disk)
             }

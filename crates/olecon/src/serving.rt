@@ -21,21 +21,28 @@ const MOST_NUMBERS: u32 = 1_000_000;
 /// Listens on a port of 127.0.0.1, prints it, and serves.
 fn listen_and_serve<
     R: Runtime<File = File> + Net<Listener = TcpListener, Stream = TcpStream> + AllocGlobal,
->(rt: &R, inc: u32) -> io::Result<ExitCode> {
+>(rt: &R, session: u32, inc: u32) -> io::Result<ExitCode> {
     let (mut listening, port) = listen(rt, Duration::from_secs(WAIT))?;
     println!(rt; "{port}")?;
     let tally = Tally::new(rt.alloc())?;
-    match serve_links(rt.alloc(), &tally, &mut listening, inc, MOST_NUMBERS) {
+    match serve_links(
+        rt.alloc(),
+        &tally,
+        &mut listening,
+        session,
+        inc,
+        MOST_NUMBERS,
+    ) {
         Ok(_) => Ok(ExitCode::SUCCESS),
         Err(_) => Ok(refuse(rt, &Report::File(STANDARD, "NoMemory"))),
     }
 }
 
-/// Is the server of an incarnation.
+/// Is the server of a session and an incarnation.
 pub(crate) fn serve<
     R: Runtime<File = File> + Net<Listener = TcpListener, Stream = TcpStream> + AllocGlobal,
->(rt: &R, inc: u32) -> ExitCode {
-    match listen_and_serve(rt, inc) {
+>(rt: &R, session: u32, inc: u32) -> ExitCode {
+    match listen_and_serve(rt, session, inc) {
         Ok(code) => code,
         Err(error) => refuse_start(rt, &error),
     }

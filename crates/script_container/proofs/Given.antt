@@ -6,7 +6,7 @@ use Rattle.container_model.specs.declared.fault.ContainerFault.{ContainerFault}
 use Rattle.container_model.specs.declared.fault.ContainerFault.TheVariants as fault
 use Rattle.script_model.specs.declared.step.Step.{Step}
 use Rattle.script_model.specs.declared.step.Step.TheVariants as step
-use Rattle.script_model.specs.Containers.{Given, given, given_by, gives, moved, record_of}
+use Rattle.script_model.specs.Containers.{AreStarted, Given, given, given_by, gives, moved, record_of}
 use Rattle.script_model.specs.Events.{Ended, Event, Stepped, running}
 use Rattle.script_model.specs.Origins.{AreHeard, GivesNext, IsJustEnded}
 use Rattle.script_model.specs.Bounds.{AreBounded}
@@ -38,6 +38,7 @@ pub record IsNoted {D : Type 0} (disks : Disks D) (es : List (Event D)) (r : Rec
   pub single : (s : ℕ) → running s es ≤ 1
   pub saved : AreSaved disks es
   pub opened : disks.follows_model → AreOpened disks es
+  pub started : AreStarted es
 
 less_single : (b : Bool) (n : ℕ) → n ≤ 1 → (if b then n - 1 else n) ≤ 1
 less_single true n few = omega (arith, few)
@@ -45,11 +46,11 @@ less_single false n few = few
 
 module _ {D : Type 0} {disks : Disks D} where
   pub as_noted : (es : List (Event D)) (r : Record) → IsTold disks es r → IsNoted disks es r
-  as_noted es r t = record { recorded = t.recorded; sent = t.sent; bounded = t.bounded; heard = t.heard; single = t.single; saved = t.saved; opened = t.opened }
+  as_noted es r t = record { recorded = t.recorded; sent = t.sent; bounded = t.bounded; heard = t.heard; single = t.single; saved = t.saved; opened = t.opened; started = t.started }
 
   -- a server is ended
   ended_noted : (inc : ℕ) (es : List (Event D)) (r : Record) → IsTold disks es r → IsNoted disks (Ended inc ∷ es) r
-  ended_noted inc es r t = record { recorded = t.recorded; sent = t.sent; bounded = t.bounded; heard = t.heard; single = λ s. less_single (inc == s) (running s es) (t.single s); saved = t.saved; opened = t.opened }
+  ended_noted inc es r t = record { recorded = t.recorded; sent = t.sent; bounded = t.bounded; heard = t.heard; single = λ s. less_single (inc == s) (running s es) (t.single s); saved = t.saved; opened = t.opened; started = t.started }
 
   pub ended_so : (inc : ℕ) (es : List (Event D)) (r : Record) → IsEnded disks inc es r → IsNoted disks es r
   ended_so inc es r e = subst (λ (h : List (Event D)). IsNoted disks h r) (sym e.1) (ended_noted inc e.0 r e.2)
@@ -58,11 +59,11 @@ module _ {D : Type 0} {disks : Disks D} where
   just_ended inc es r e = (e.0, e.1)
 
   pub one_step : (st : Step) (f : Record → Result Took ContainerFault) (es : List (Event D)) (r now : Record) → IsBy st f → IsBacked disks st es → GivesNext st es → (record_of es ≡ r → moved (record_of es) (f (record_of es)) ≡ now) → IsNoted disks es r → IsTold disks (Stepped st ∷ es) now
-  one_step st f es r now by counts next is t = record { recorded = ap (λ g. g.now) (by (given_by es)) ∙ is t.recorded; sent = t.sent; bounded = t.bounded; heard = (next, t.heard); single = t.single; saved = (counts.0, t.saved); opened = λ m. (counts.1 m, t.opened m); reaped = refl }
+  one_step st f es r now by counts next is t = record { recorded = ap (λ g. g.now) (by (given_by es)) ∙ is t.recorded; sent = t.sent; bounded = t.bounded; heard = (next, t.heard); single = t.single; saved = (counts.0, t.saved); opened = λ m. (counts.1 m, t.opened m); started = t.started; reaped = refl }
 
   -- a step that was undone for want of memory
   pub lost_step : (st : Step) (f : Record → Result Took ContainerFault) (es : List (Event D)) (r : Record) → IsBy st f → IsBacked disks st es → GivesNext st es → IsNoted disks es r → IsTold disks (Stepped step.NoMemory ∷ Stepped st ∷ es) r
-  lost_step st f es r by counts next t = record { recorded = ap (λ g. g.before) (by (given_by es)) ∙ t.recorded; sent = t.sent; bounded = t.bounded; heard = (tt, (next, t.heard)); single = t.single; saved = (tt, (counts.0, t.saved)); opened = λ m. (tt, (counts.1 m, t.opened m)); reaped = refl }
+  lost_step st f es r by counts next t = record { recorded = ap (λ g. g.before) (by (given_by es)) ∙ t.recorded; sent = t.sent; bounded = t.bounded; heard = (tt, (next, t.heard)); single = t.single; saved = (tt, (counts.0, t.saved)); opened = λ m. (tt, (counts.1 m, t.opened m)); started = t.started; reaped = refl }
 
   by_fault : (st : Step) (f : Record → Result Took ContainerFault) (es : List (Event D)) (r : Record) (e : ContainerFault) → IsBy st f → IsBacked disks st es → GivesNext st es → f r ≡ Err e → IsNoted disks es r → IsTold disks (Stepped st ∷ es) r
   by_fault st f es r e by counts next refused = one_step st f es r r by counts next (λ is. refused_step f (record_of es) r e is refused)

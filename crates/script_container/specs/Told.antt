@@ -14,7 +14,7 @@ use Rattle.store_model.specs.Store.{IsBeforeOrAfter}
 use Rattle.store_model.specs.declared.disk.Disk.{Ghosts as Disks}
 use Rattle.script_model.specs.declared.step.Step.TheVariants as step
 use Rattle.script_model.specs.Bounds.{AreBounded}
-use Rattle.script_model.specs.Containers.{record_of}
+use Rattle.script_model.specs.Containers.{AreStarted, record_of}
 use Rattle.script_model.specs.Errors.{before_ends}
 use Rattle.script_model.specs.Events.{Ended, Event, Stepped, running}
 use Rattle.script_model.specs.Origins.{AreHeard}
@@ -24,8 +24,8 @@ use Rattle.script_model.specs.Turns.{AreTurns}
 -- The container's record is that of the history, all that was sent were its turns, and no more was sent, made anew and read than a
 -- command may. Each message that it was given came on a link of its server, each end of a server that it was told stands behind this
 -- end, and no file was to be committed where a command began. No server runs twice. Each commit that failed has a cause, and, where
--- the disks follow the model, each that it counts is saved, and each file that it opened was read. The last call ended no server:
--- the container was told of each end.
+-- the disks follow the model, each that it counts is saved, and each file that it opened was read. Each server is started in the
+-- container's session. The last call ended no server: the container was told of each end.
 pub record IsTold {D : Type 0} (disks : Disks D) (es : List (Event D)) (r : Record) : Type 0 where
   pub recorded : record_of es ≡ r
   pub sent : AreTurns es
@@ -34,6 +34,7 @@ pub record IsTold {D : Type 0} (disks : Disks D) (es : List (Event D)) (r : Reco
   pub single : (s : ℕ) → running s es ≤ 1
   pub saved : AreSaved disks es
   pub opened : disks.follows_model → AreOpened disks es
+  pub started : AreStarted es
   pub reaped : before_ends es ≡ es
 
 -- The last call ended this server, and the container isn't told of it.

@@ -4,8 +4,9 @@ ghost use Rattle.container_model.specs.Opens.{Given, IsReadAs};
 ghost use Rattle.container_model.specs.declared.command.Command.{Command};
 ghost use Rattle.document_model.specs.declared.object.DocObject.{DocObject};
 ghost use Rattle.script_model.specs.Bounds.{pace};
+ghost use Rattle.script_model.specs.Containers.{record_of};
 ghost use Rattle.script_model.specs.Events.{running};
-ghost use Rattle.script_model.specs.Orders.{orders};
+ghost use Rattle.script_model.specs.Orders.{IsReadied, asked};
 ghost use Rattle.script_model.specs.Origins.{AreNext, giving, passed};
 ghost use Rattle.script_model.specs.Saved.{IsLost, IsReadFrom, IsSavedThere};
 ghost use Rattle.script_model.specs.declared.step.Step.TheVariants as given;
@@ -72,7 +73,7 @@ fn noted<H: Host>(
     ensures still { (s : ℕ) → running s (H.told host.new) ≡ running s (H.told host.old) }
     ensures quiet { (s : ℕ) → passed s (H.told host.new) ≡ passed s (H.told host.old) }
     ensures paced { (s : ℕ) → pace s (H.told host.new) ≡ pace s (H.told host.old) }
-    ensures ordered { orders (H.told host.new) ≡ orders (H.told host.old) }
+    ensures ordered { asked (H.told host.new) ≡ asked (H.told host.old) }
 {
     match told {
         Ok(answer) => Ok(answer),
@@ -84,19 +85,20 @@ fn noted<H: Host>(
     }
 }
 
-/// Gives the container a user's command.
+/// Gives the container a user's command. A start comes where it has a session, or was to get one by the command before.
 pub fn command<H: Host>(
     alloc: Global,
     host: &mut H,
     core: &mut ContainerCore,
     command: Command,
 ) -> Result<Answer, ContainerFault>
-    requires { IsTold ⟦<H::Disk as Disk>⟧ (H.told host.old) core.old }
+    requires told { IsTold ⟦<H::Disk as Disk>⟧ (H.told host.old) core.old }
+    requires readied { IsReadied command (record_of (H.told host.old)) (asked (H.told host.old)) }
     ensures told { IsTold ⟦<H::Disk as Disk>⟧ (H.told host.new) core.new }
     ensures still { (s : ℕ) → running s (H.told host.new) ≡ running s (H.told host.old) }
     ensures quiet { (s : ℕ) → passed s (H.told host.new) ≡ passed s (H.told host.old) }
     ensures paced { (s : ℕ) → pace s (H.told host.new) ≡ pace s (H.told host.old) }
-    ensures ordered { orders (H.told host.new) ≡ Step.Command command ∷ orders (H.told host.old) }
+    ensures ordered { asked (H.told host.new) ≡ Step.Command command ∷ asked (H.told host.old) }
 {
     let step = Step::Command(command);
     host.note(&step);
@@ -122,7 +124,7 @@ pub fn message<H: Host>(
     ensures apart { (s : ℕ) → beside inc s (H.told host.new) ≡ beside inc s (H.told host.old) }
     ensures given { passed inc (H.told host.new) ≡ giving (message ∷ []) (passed inc (H.told host.old)) }
     ensures paced { (s : ℕ) → pace s (H.told host.new) ≡ pace s (H.told host.old) }
-    ensures ordered { orders (H.told host.new) ≡ orders (H.told host.old) }
+    ensures ordered { asked (H.told host.new) ≡ asked (H.told host.old) }
 {
     let step = Step::Message(inc, message);
     host.note(&step);
@@ -156,7 +158,7 @@ pub fn opened<H: Host>(
     ensures quiet { (s : ℕ) → passed s (H.told host.new) ≡ passed s (H.told host.old) }
     ensures paced { (s : ℕ) → pace s (H.told host.new) ≡ pace s (H.told host.old) }
     ensures few { IfOk result (λ a. length a.objects ≤ 64) }
-    ensures ordered { orders (H.told host.new) ≡ orders (H.told host.old) }
+    ensures ordered { asked (H.told host.new) ≡ asked (H.told host.old) }
 {
     files_give_one();
     let session = document.session();
@@ -182,7 +184,7 @@ pub fn reap<H: Host>(
     ensures still { (s : ℕ) → running s (H.told host.new) ≡ running s (H.told host.old) }
     ensures quiet { (s : ℕ) → passed s (H.told host.new) ≡ passed s (H.told host.old) }
     ensures paced { (s : ℕ) → pace s (H.told host.new) ≡ pace s (H.told host.old) }
-    ensures ordered { orders (H.told host.new) ≡ orders (H.told host.old) }
+    ensures ordered { asked (H.told host.new) ≡ asked (H.told host.old) }
 {
     host.note(&Step::Reap(inc));
     let told = core.on_reap(alloc, inc);
@@ -212,7 +214,7 @@ pub fn committed<H: Host>(
     ensures still { (s : ℕ) → running s (H.told host.new) ≡ running s (H.told host.old) }
     ensures quiet { (s : ℕ) → passed s (H.told host.new) ≡ passed s (H.told host.old) }
     ensures paced { (s : ℕ) → pace s (H.told host.new) ≡ pace s (H.told host.old) }
-    ensures ordered { orders (H.told host.new) ≡ orders (H.told host.old) }
+    ensures ordered { asked (H.told host.new) ≡ asked (H.told host.old) }
     ensures shown { IfErr result (λ fault. Shows ⟦<H::Disk as Disk>⟧ (H.told host.new) fault) }
 {
     host.note(&Step::Committed(frame));
@@ -234,7 +236,7 @@ pub fn failed<H: Host>(
     ensures still { (s : ℕ) → running s (H.told host.new) ≡ running s (H.told host.old) }
     ensures quiet { (s : ℕ) → passed s (H.told host.new) ≡ passed s (H.told host.old) }
     ensures paced { (s : ℕ) → pace s (H.told host.new) ≡ pace s (H.told host.old) }
-    ensures ordered { orders (H.told host.new) ≡ orders (H.told host.old) }
+    ensures ordered { asked (H.told host.new) ≡ asked (H.told host.old) }
     ensures shown { IfErr result (λ fault. Shows ⟦<H::Disk as Disk>⟧ (H.told host.new) fault) }
 {
     host.note(&Step::Failed(frame));
@@ -254,7 +256,7 @@ pub fn dropped<H: Host>(
     ensures still { (s : ℕ) → running s (H.told host.new) ≡ running s (H.told host.old) }
     ensures quiet { (s : ℕ) → passed s (H.told host.new) ≡ passed s (H.told host.old) }
     ensures paced { (s : ℕ) → pace s (H.told host.new) ≡ pace s (H.told host.old) }
-    ensures ordered { orders (H.told host.new) ≡ orders (H.told host.old) }
+    ensures ordered { asked (H.told host.new) ≡ asked (H.told host.old) }
     ensures shown { IfErr result (λ fault. Shows ⟦<H::Disk as Disk>⟧ (H.told host.new) fault) }
 {
     host.note(&Step::Resolved(frame, false));

@@ -8,7 +8,7 @@ ghost use Rattle.file_model.specs.Denotes.{Denotes};
 ghost use Rattle.script_model.specs.Bounds.{pace};
 ghost use Rattle.script_model.specs.Errors.{IsUnopened, IsUntoldFor};
 ghost use Rattle.script_model.specs.Events.{running};
-ghost use Rattle.script_model.specs.Orders.{orders};
+ghost use Rattle.script_model.specs.Orders.{asked};
 ghost use Rattle.script_model.specs.Origins.{passed};
 ghost use Rattle.script_model.specs.Saved.{IsAsGiven, IsLost, IsLostOn, IsMissing, IsRefusedOn, IsSavedOn, IsSavedThere, IsShutWith, IsShutWithout, IsSince, file_name};
 ghost use Rattle.script_container.specs.Shown.{Shows};
@@ -218,7 +218,7 @@ fn commit_again<H: Host>(
     ensures paced { (s : ℕ) → pace s (H.told host.new) ≡ pace s (H.told host.old) }
     ensures shut { H.Disk.follows_model → IfOk result (λ outcome. IfKept outcome (IsShutWith ⟦<H::Disk as Disk>⟧ (H.told host.new) name.now bytes.now)) }
     ensures left { IsMissing name.now (H.told host.old) → IfOk result (λ outcome. IfLost outcome (IsShutWithout ⟦<H::Disk as Disk>⟧ (H.told host.new) name.now bytes.now)) }
-    ensures ordered { orders (H.told host.new) ≡ orders (H.told host.old) }
+    ensures ordered { asked (H.told host.new) ≡ asked (H.told host.old) }
     ensures unopened { IsMissing name.now (H.told host.old) → IfErr result (λ fault. IsUnopened ⟦<H::Disk as Disk>⟧ name.now fault (H.told host.new)) }
 {
     match host.disk(name) {
@@ -246,7 +246,7 @@ fn commit<H: Host>(
     ensures paced { (s : ℕ) → pace s (H.told host.new) ≡ pace s (H.told host.old) }
     ensures shut { H.Disk.follows_model → IfOk result (λ outcome. IfKept outcome (IsFiledWith ⟦<H::Disk as Disk>⟧ (H.told host.new) name.now file.now)) }
     ensures left { IfOk result (λ outcome. IfLost outcome (IsFiledWithout ⟦<H::Disk as Disk>⟧ (H.told host.new) name.now file.now)) }
-    ensures ordered { orders (H.told host.new) ≡ orders (H.told host.old) }
+    ensures ordered { asked (H.told host.new) ≡ asked (H.told host.old) }
     ensures unopened { IfErr result (λ fault. IsUnopened ⟦<H::Disk as Disk>⟧ name.now fault (H.told host.new)) }
 {
     let given = host.disk(name);
@@ -283,7 +283,7 @@ fn lose<H: Host>(
     ensures still { (s : ℕ) → running s (H.told host.new) ≡ running s (H.told host.old) }
     ensures quiet { (s : ℕ) → passed s (H.told host.new) ≡ passed s (H.told host.old) }
     ensures paced { (s : ℕ) → pace s (H.told host.new) ≡ pace s (H.told host.old) }
-    ensures ordered { orders (H.told host.new) ≡ orders (H.told host.old) }
+    ensures ordered { asked (H.told host.new) ≡ asked (H.told host.old) }
     ensures shown { IfErr result (λ fault. Shows ⟦<H::Disk as Disk>⟧ (H.told host.new) fault) }
 {
     failed(alloc, host, core, frame)?;
@@ -304,7 +304,7 @@ fn save_file<H: Host>(
     ensures still { (s : ℕ) → running s (H.told host.new) ≡ running s (H.told host.old) }
     ensures quiet { (s : ℕ) → passed s (H.told host.new) ≡ passed s (H.told host.old) }
     ensures paced { (s : ℕ) → pace s (H.told host.new) ≡ pace s (H.told host.old) }
-    ensures ordered { orders (H.told host.new) ≡ orders (H.told host.old) }
+    ensures ordered { asked (H.told host.new) ≡ asked (H.told host.old) }
     ensures shown { IfErr result (λ fault. Shows ⟦<H::Disk as Disk>⟧ (H.told host.new) fault) }
 {
     let Some(found) = core.frame(frame) else {
@@ -338,7 +338,7 @@ fn save<H: Host>(
     ensures still { (s : ℕ) → running s (H.told host.new) ≡ running s (H.told host.old) }
     ensures quiet { (s : ℕ) → passed s (H.told host.new) ≡ passed s (H.told host.old) }
     ensures paced { (s : ℕ) → pace s (H.told host.new) ≡ pace s (H.told host.old) }
-    ensures ordered { orders (H.told host.new) ≡ orders (H.told host.old) }
+    ensures ordered { asked (H.told host.new) ≡ asked (H.told host.old) }
     ensures shown { IfErr result (λ fault. Shows ⟦<H::Disk as Disk>⟧ (H.told host.new) fault) }
 {
     match core.image(alloc, frame) {
@@ -365,7 +365,7 @@ pub fn save_all<H: Host>(
     ensures still { (s : ℕ) → running s (H.told host.new) ≡ running s (H.told host.old) }
     ensures quiet { (s : ℕ) → passed s (H.told host.new) ≡ passed s (H.told host.old) }
     ensures paced { (s : ℕ) → pace s (H.told host.new) ≡ pace s (H.told host.old) }
-    ensures ordered { orders (H.told host.new) ≡ orders (H.told host.old) }
+    ensures ordered { asked (H.told host.new) ≡ asked (H.told host.old) }
     ensures shown { IfErr result (λ fault. Shows ⟦<H::Disk as Disk>⟧ (H.told host.new) fault) }
 {
     for action in answer.actions.as_slice() {

@@ -16,11 +16,11 @@ one_less : (b : Bool) (n m : ℕ) → n ≡ m + (if b then 1 else 0) → (if b t
 one_less true n m is = omega (arith, is)
 one_less false n m is = omega (arith, is)
 
-pub unstarted_linked : {D : Type 0} {es after : List (Event D)} (s : ℕ) (ls : List Link) → after ≡ Started s false ∷ es → AreLinked es ls → AreLinked after ls
-unstarted_linked s ls is linked = λ n. ap (running n) is ∙ linked n
+pub unstarted_linked : {D : Type 0} {es after : List (Event D)} (session s : ℕ) (ls : List Link) → after ≡ Started session s false ∷ es → AreLinked es ls → AreLinked after ls
+unstarted_linked session s ls is linked = λ n. ap (running n) is ∙ linked n
 
-pub started_linked : {D : Type 0} {es after : List (Event D)} (s : ℕ) (l : Link) (ls new : List Link) → after ≡ Started s true ∷ es → l.inc ≡ s → new ≡ ls ++ l ∷ [] → AreLinked es ls → AreLinked after new
-started_linked {es = es} s l ls new is inc with_one linked = λ n.
+pub started_linked : {D : Type 0} {es after : List (Event D)} (session s : ℕ) (l : Link) (ls new : List Link) → after ≡ Started session s true ∷ es → l.inc ≡ s → new ≡ ls ++ l ∷ [] → AreLinked es ls → AreLinked after new
+started_linked {es = es} session s l ls new is inc with_one linked = λ n.
     ap (running n) is ∙ one_more (s == n) (running n es) ∙ ap (λ x. x + (if s == n then 1 else 0)) (linked n)
     ∙ ap (λ i. links_of n ls + (if i == n then 1 else 0)) (sym inc) ∙ sym (links_end n ls l) ∙ ap (links_of n) (sym with_one)
 

@@ -142,7 +142,7 @@ apart_on f i j k es now mid new second third first same last s =
 
 module _ {D : Type 0} {disks : Disks D} where
   pub connected_told : (es after : List (Event D)) (r : Record) (inc : ℕ) (ok : Bool) → after ≡ Connected inc ok ∷ es → MayLink (pace inc es) → IsTold disks es r → IsTold disks after r
-  connected_told es after r inc ok is may t = subst (λ (h : List (Event D)). IsTold disks h r) (sym is) (record { recorded = t.recorded; sent = t.sent; bounded = (may ok, t.bounded); heard = t.heard; single = t.single; saved = t.saved; opened = t.opened; reaped = refl })
+  connected_told es after r inc ok is may t = subst (λ (h : List (Event D)). IsTold disks h r) (sym is) (record { recorded = t.recorded; sent = t.sent; bounded = (may ok, t.bounded); heard = t.heard; single = t.single; saved = t.saved; opened = t.opened; started = t.started; reaped = refl })
 
 -- ---- one server among others
 

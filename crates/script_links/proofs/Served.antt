@@ -389,13 +389,13 @@ ended_served es ended after ls new place l within is rest single linked ends qui
     (others_served (λ s. passed s es) (λ s. passed s ended) l.inc (remove ls place) (none_left es ls place l within is single linked)
     (λ s. ap (λ h. if l.inc == s then unlinked else passed s h) ends ∙ twice (l.inc == s) unlinked (passed s es)) served))
 
-pub unstarted_served : {D : Type 0} (es after : List (Event D)) (ls new : List Link) (s : ℕ) → after ≡ Started s false ∷ es → new ≡ ls → AreServed es ls → AreServed after new
-unstarted_served es after ls new s is same served =
+pub unstarted_served : {D : Type 0} (es after : List (Event D)) (ls new : List Link) (session s : ℕ) → after ≡ Started session s false ∷ es → new ≡ ls → AreServed es ls → AreServed after new
+unstarted_served es after ls new session s is same served =
     subst (λ (all : List Link). AreServed after all) (sym same) (same_served (λ n. passed n es) (λ n. passed n after) ls (λ n. ap (passed n) is) served)
 
 -- A server that was started has a link, and had none.
-pub started_served : {D : Type 0} (es after : List (Event D)) (ls new : List Link) (s : ℕ) (l : Link) → links_of s ls ≡ 0 → l.inc ≡ s → IsServed fresh l [] → after ≡ Started s true ∷ es → new ≡ ls ++ l ∷ [] → AreServed es ls → AreServed after new
-started_served es after ls new s l none inc is started with_one served =
+pub started_served : {D : Type 0} (es after : List (Event D)) (ls new : List Link) (session s : ℕ) (l : Link) → links_of s ls ≡ 0 → l.inc ≡ s → IsServed fresh l [] → after ≡ Started session s true ∷ es → new ≡ ls ++ l ∷ [] → AreServed es ls → AreServed after new
+started_served es after ls new session s l none inc is started with_one served =
     let others = others_served (λ n. passed n es) (λ n. passed n after) s ls none (λ n. ap (λ h. if s == n then unlinked else passed n h) started ∙ twice (s == n) fresh (passed n es)) served in
     let made : passed l.inc after ≡ fresh = ap (passed l.inc) started ∙ chosen (s == l.inc) fresh (passed l.inc es) (eq-eqb s l.inc (sym inc)) in
     subst (λ (all : List Link). AreServed after all) (sym with_one) (append_served (λ n. passed n after) ls l others (subst (λ (p : Passed). IsServed p l []) (sym made) is))
@@ -404,8 +404,8 @@ one_running : (b : Bool) (n : ℕ) → n ≤ 1 → (b ≡ true → n ≡ 0) → 
 one_running true n few none = let zero = none refl in omega (arith, zero)
 one_running false n few none = few
 
-pub started_single : {D : Type 0} (es : List (Event D)) (ls : List Link) (s : ℕ) → links_of s ls ≡ 0 → AreLinked es ls → ((n : ℕ) → running n es ≤ 1) → (n : ℕ) → running n (Started s true ∷ es) ≤ 1
-started_single es ls s none linked single n = one_running (s == n) (running n es) (single n) (λ is. linked n ∙ subst (λ (m : ℕ). links_of m ls ≡ 0) (eqb-true s n is) none)
+pub started_single : {D : Type 0} (es : List (Event D)) (ls : List Link) (session s : ℕ) → links_of s ls ≡ 0 → AreLinked es ls → ((n : ℕ) → running n es ≤ 1) → (n : ℕ) → running n (Started session s true ∷ es) ≤ 1
+started_single es ls session s none linked single n = one_running (s == n) (running n es) (single n) (λ is. linked n ∙ subst (λ (m : ℕ). links_of m ls ≡ 0) (eqb-true s n is) none)
 
 fewer : (b : Bool) (n : ℕ) → n ≤ 1 → (if b then n - 1 else n) ≤ 1
 fewer true n few = omega (arith, few)

@@ -4,7 +4,7 @@ ghost use Rattle.container_model.specs.Record.{Record};
 ghost use Rattle.message_model.specs.Spelling.{spell};
 ghost use Rattle.script_model.specs.Bounds.{IsWithin, linking, pace, reading, sending};
 ghost use Rattle.script_model.specs.Events.{running};
-ghost use Rattle.script_model.specs.Orders.{orders};
+ghost use Rattle.script_model.specs.Orders.{asked};
 ghost use Rattle.script_model.specs.Origins.{AreNext, fresh, giving, passed};
 ghost use Rattle.script_model.specs.Turns.{server_of, turn_of};
 ghost use Rattle.script_container.specs.Beside.{beside};
@@ -129,7 +129,7 @@ pub fn send_turn<H: Host>(
     ensures quiet { (s : ℕ) → passed s (H.told host.new) ≡ passed s (H.told host.old) }
     ensures aside { (s : ℕ) → pace_beside inc s (H.told host.new) ≡ pace_beside inc s (H.told host.old) }
     ensures sent { OnOk result (pace inc (H.told host.new) ≡ sending (pace inc (H.told host.old))) }
-    ensures ordered { orders (H.told host.new) ≡ orders (H.told host.old) }
+    ensures ordered { asked (H.told host.new) ≡ asked (H.told host.old) }
     ensures shown { IfErr result (λ fault. Shows ⟦<H::Disk as Disk>⟧ (H.told host.new) fault) }
 {
     let bytes = turn_bytes(alloc, core, inc)?;
@@ -161,7 +161,7 @@ pub fn hand_over<H: Host>(
     ensures apart { (s : ℕ) → beside inc s (H.told host.new) ≡ beside inc s (H.told host.old) }
     ensures given { passed inc (H.told host.new) ≡ giving (taken ∷ []) (passed inc (H.told host.old)) }
     ensures paced { (s : ℕ) → pace s (H.told host.new) ≡ pace s (H.told host.old) }
-    ensures ordered { orders (H.told host.new) ≡ orders (H.told host.old) }
+    ensures ordered { asked (H.told host.new) ≡ asked (H.told host.old) }
     ensures shown { IfErr result (λ fault. Shows ⟦<H::Disk as Disk>⟧ (H.told host.new) fault) }
 {
     match message(alloc, host, core, inc, taken) {
@@ -194,7 +194,7 @@ fn meet<H: Host>(
     ensures apart { (s : ℕ) → beside link.old.inc s (H.told host.new) ≡ beside link.old.inc s (H.told host.old) }
     ensures served { OnOk result (IsServed (passed link.new.inc (H.told host.new)) link.new []) }
     ensures paced { (s : ℕ) → pace s (H.told host.new) ≡ pace s (H.told host.old) }
-    ensures ordered { orders (H.told host.new) ≡ orders (H.told host.old) }
+    ensures ordered { asked (H.told host.new) ≡ asked (H.told host.old) }
     ensures shown { IfErr result (λ fault. Shows ⟦<H::Disk as Disk>⟧ (H.told host.new) fault) }
     ensures holding { link.new.held ≡ link.old.held }
 {
@@ -221,7 +221,7 @@ fn take_frames<H: Host>(
     ensures apart { (s : ℕ) → beside link.old.inc s (H.told host.new) ≡ beside link.old.inc s (H.told host.old) }
     ensures served { OnOk result (IsServed (passed link.new.inc (H.told host.new)) link.new []) }
     ensures paced { (s : ℕ) → pace s (H.told host.new) ≡ pace s (H.told host.old) }
-    ensures ordered { orders (H.told host.new) ≡ orders (H.told host.old) }
+    ensures ordered { asked (H.told host.new) ≡ asked (H.told host.old) }
     ensures shown { IfErr result (λ fault. Shows ⟦<H::Disk as Disk>⟧ (H.told host.new) fault) }
     ensures holding { link.new.held ≡ link.old.held }
 {
@@ -254,7 +254,7 @@ fn read_some<H: Host>(host: &mut H, link: &mut Link) -> Result<bool, ScriptFault
     ensures served { OnOk result (IsServed (passed link.new.inc (H.told host.new)) link.new []) }
     ensures aside { (s : ℕ) → pace_beside link.old.inc s (H.told host.new) ≡ pace_beside link.old.inc s (H.told host.old) }
     ensures read { pace link.new.inc (H.told host.new) ≡ reading (pace link.old.inc (H.told host.old)) }
-    ensures ordered { orders (H.told host.new) ≡ orders (H.told host.old) }
+    ensures ordered { asked (H.told host.new) ≡ asked (H.told host.old) }
     ensures shown { IfErr result (λ fault. Shows ⟦<H::Disk as Disk>⟧ (H.told host.new) fault) }
     ensures holding { link.new.held ≡ link.old.held }
 {
@@ -295,7 +295,7 @@ fn hear<H: Host>(
     ensures served { OnOk result (IsServed (passed link.new.inc (H.told host.new)) link.new []) }
     ensures aside { (s : ℕ) → pace_beside link.old.inc s (H.told host.new) ≡ pace_beside link.old.inc s (H.told host.old) }
     ensures on { OnOk result (GoesOn (pace link.old.inc (H.told host.old)) (pace link.new.inc (H.told host.new)) reads.new) }
-    ensures ordered { orders (H.told host.new) ≡ orders (H.told host.old) }
+    ensures ordered { asked (H.told host.new) ≡ asked (H.told host.old) }
     ensures shown { IfErr result (λ fault. Shows ⟦<H::Disk as Disk>⟧ (H.told host.new) fault) }
     ensures holding { link.new.held ≡ link.old.held }
 {
@@ -332,7 +332,7 @@ fn exchange<H: Host>(
     ensures served { OnOk result (IsServed (passed link.new.inc (H.told host.new)) link.new []) }
     ensures aside { (s : ℕ) → pace_beside link.old.inc s (H.told host.new) ≡ pace_beside link.old.inc s (H.told host.old) }
     ensures on { OnOk result (GoesOn (sending (pace link.old.inc (H.told host.old))) (pace link.new.inc (H.told host.new)) reads.new) }
-    ensures ordered { orders (H.told host.new) ≡ orders (H.told host.old) }
+    ensures ordered { asked (H.told host.new) ≡ asked (H.told host.old) }
     ensures shown { IfErr result (λ fault. Shows ⟦<H::Disk as Disk>⟧ (H.told host.new) fault) }
     ensures holding { link.new.held ≡ link.old.held }
 {
@@ -353,7 +353,7 @@ pub fn reconnect<H: Host>(alloc: Global, host: &mut H, link: &mut Link) -> bool
     ensures served { IsServed (passed link.new.inc (H.told host.new)) link.new [] }
     ensures aside { (s : ℕ) → pace_beside link.old.inc s (H.told host.new) ≡ pace_beside link.old.inc s (H.told host.old) }
     ensures linked { pace link.new.inc (H.told host.new) ≡ linking result (pace link.old.inc (H.told host.old)) }
-    ensures ordered { orders (H.told host.new) ≡ orders (H.told host.old) }
+    ensures ordered { asked (H.told host.new) ≡ asked (H.told host.old) }
     ensures holding { link.new.held ≡ link.old.held }
 {
     link.decoder = Decoder::new(alloc);
@@ -378,7 +378,7 @@ pub fn serve<H: Host>(
     ensures served { OnOk result (IsServed (passed link.new.inc (H.told host.new)) link.new []) }
     ensures aside { (s : ℕ) → pace_beside link.old.inc s (H.told host.new) ≡ pace_beside link.old.inc s (H.told host.old) }
     ensures turned { OnOk result (HadTurn (pace link.old.inc (H.told host.old)) (pace link.new.inc (H.told host.new))) }
-    ensures ordered { orders (H.told host.new) ≡ orders (H.told host.old) }
+    ensures ordered { asked (H.told host.new) ≡ asked (H.told host.old) }
     ensures shown { IfErr result (λ fault. Shows ⟦<H::Disk as Disk>⟧ (H.told host.new) fault) }
     ensures holding { link.new.held ≡ link.old.held }
 {

@@ -1,9 +1,10 @@
 //! Turns: each link is sent what is pending for its server, and what comes back is carried out.
 
 ghost use Rattle.script_model.specs.Bounds.{AreBounded, pace};
+ghost use Rattle.script_model.specs.Containers.{AreStarted};
 ghost use Rattle.script_model.specs.Errors.{before_ends};
 ghost use Rattle.script_model.specs.Events.{running};
-ghost use Rattle.script_model.specs.Orders.{orders};
+ghost use Rattle.script_model.specs.Orders.{asked, orders};
 ghost use Rattle.script_model.specs.Origins.{AreHeard};
 ghost use Rattle.script_model.specs.Saved.{AreOpened, AreSaved};
 ghost use Rattle.script_model.specs.Turns.{AreTurns};
@@ -48,7 +49,7 @@ pub fn end_at<H: Host>(
     ensures served { AreServed (H.told host.new) links.new.items }
     ensures rest { links.new.items ≡ remove links.old.items place }
     ensures paced { (s : ℕ) → pace s (H.told host.new) ≡ pace s (H.told host.old) }
-    ensures ordered { orders (H.told host.new) ≡ orders (H.told host.old) }
+    ensures ordered { asked (H.told host.new) ≡ asked (H.told host.old) }
     ensures shown { IfErr result (λ fault. Shows ⟦<H::Disk as Disk>⟧ (H.told host.new) fault) }
     ensures holding { (f : ℕ → Bool) → HoldFor f links.old.items → HoldFor f links.new.items }
 {
@@ -68,12 +69,14 @@ pub fn end_all<H: Host>(host: &mut H, links: &mut Vec<Link>)
     requires heard { AreHeard (H.told host.old) }
     requires saved { AreSaved ⟦<H::Disk as Disk>⟧ (H.told host.old) }
     requires opened { H.Disk.follows_model → AreOpened ⟦<H::Disk as Disk>⟧ (H.told host.old) }
+    requires started { AreStarted (H.told host.old) }
     requires linked { AreLinked (H.told host.old) links.old.items }
     ensures sent { AreTurns (H.told host.new) }
     ensures bounded { AreBounded (H.told host.new) }
     ensures heard { AreHeard (H.told host.new) }
     ensures saved { AreSaved ⟦<H::Disk as Disk>⟧ (H.told host.new) }
     ensures opened { H.Disk.follows_model → AreOpened ⟦<H::Disk as Disk>⟧ (H.told host.new) }
+    ensures started { AreStarted (H.told host.new) }
     ensures ended { (s : ℕ) → running s (H.told host.new) ≡ 0 }
     ensures ordered { orders (H.told host.new) ≡ orders (H.told host.old) }
     ensures ends { before_ends (H.told host.new) ≡ before_ends (H.told host.old) }
@@ -159,7 +162,7 @@ fn serve_at<H: Host>(
     ensures served { OnOk result (AreServed (H.told host.new) links.new.items) }
     ensures many { length links.new.items ≡ length links.old.items }
     ensures ready { (n : ℕ) → IsUnderway n (H.told host.old) links.old.items place → OnOk result (IsUnderway n (H.told host.new) links.new.items (place + 1)) }
-    ensures ordered { orders (H.told host.new) ≡ orders (H.told host.old) }
+    ensures ordered { asked (H.told host.new) ≡ asked (H.told host.old) }
     ensures shown { IfErr result (λ fault. Shows ⟦<H::Disk as Disk>⟧ (H.told host.new) fault) }
     ensures holding { (f : ℕ → Bool) → HoldFor f links.old.items → HoldFor f links.new.items }
     ensures due { (n : ℕ) → HaveHad n (H.told host.old) links.old.items place → OnOk result (HaveHad n (H.told host.new) links.new.items (place + 1)) }
@@ -183,7 +186,7 @@ fn turn<H: Host>(
     ensures linked { AreLinked (H.told host.new) links.new.items }
     ensures served { OnOk result (AreServed (H.told host.new) links.new.items) }
     ensures ready { (n : ℕ) → AreReady n (H.told host.old) links.old.items → OnOk result (AreReady (n + 1) (H.told host.new) links.new.items) }
-    ensures ordered { orders (H.told host.new) ≡ orders (H.told host.old) }
+    ensures ordered { asked (H.told host.new) ≡ asked (H.told host.old) }
     ensures shown { IfErr result (λ fault. Shows ⟦<H::Disk as Disk>⟧ (H.told host.new) fault) }
     ensures holding { (f : ℕ → Bool) → HoldFor f links.old.items → HoldFor f links.new.items }
     ensures due { (n : ℕ) → AreDue n (H.told host.old) links.old.items → OnOk result (AreDue (n + 1) (H.told host.new) links.new.items) }
@@ -217,7 +220,7 @@ pub fn turns<H: Host>(
     ensures told { IsTold ⟦<H::Disk as Disk>⟧ (H.told host.new) core.new }
     ensures linked { AreLinked (H.told host.new) links.new.items }
     ensures served { OnOk result (AreServed (H.told host.new) links.new.items) }
-    ensures ordered { orders (H.told host.new) ≡ orders (H.told host.old) }
+    ensures ordered { asked (H.told host.new) ≡ asked (H.told host.old) }
     ensures shown { IfErr result (λ fault. Shows ⟦<H::Disk as Disk>⟧ (H.told host.new) fault) }
     ensures holding { (f : ℕ → Bool) → HoldFor f links.old.items → HoldFor f links.new.items }
 {

@@ -52,7 +52,7 @@ pace s (Sent inc bytes ok ∷ es) = if inc == s then sending (pace s es) else pa
 pace s (Connected inc ok ∷ es) = if inc == s then linking ok (pace s es) else pace s es
 pace s (Heard inc bytes ok ∷ es) = if inc == s then reading (pace s es) else pace s es
 pace s (Stepped step ∷ es) = behind_step step (pace s es)
-pace s (Started inc ok ∷ es) = pace s es
+pace s (Started session inc ok ∷ es) = pace s es
 pace s (Ended inc ∷ es) = pace s es
 pace s (Opened name disk ∷ es) = pace s es
 pace s (Found name disk ∷ es) = pace s es
@@ -74,7 +74,7 @@ AreBounded [] = Unit {0}
 AreBounded (Sent inc bytes ok ∷ es) = IsWithin (sending (pace inc es)) × AreBounded es
 AreBounded (Connected inc ok ∷ es) = IsWithin (linking ok (pace inc es)) × AreBounded es
 AreBounded (Heard inc bytes ok ∷ es) = IsWithin (reading (pace inc es)) × AreBounded es
-AreBounded (Started inc ok ∷ es) = AreBounded es
+AreBounded (Started session inc ok ∷ es) = AreBounded es
 AreBounded (Ended inc ∷ es) = AreBounded es
 AreBounded (Opened name disk ∷ es) = AreBounded es
 AreBounded (Found name disk ∷ es) = AreBounded es

@@ -1,5 +1,5 @@
 -- The container of a history: what it was given, in order, and nothing else, moves it.
-use Rattle.std.specs.Prelude.{ℕ, List, [], ◌∷◌, Result, Ok, Err}
+use Rattle.std.specs.Prelude.{◌≡◌, ◌≢◌, ℕ, List, [], ◌∷◌, Result, Ok, Err}
 use Rattle.container_model.specs.Record.{Record, Took, empty}
 use Rattle.container_model.specs.Commands.{on_command}
 use Rattle.container_model.specs.Messages.{on_message, on_reap}
@@ -41,7 +41,7 @@ given g step.NoMemory = record { before = g.before; now = g.before }
 abbrev pub given_by : {D : Type 0} → List (Event D) → Given
 given_by [] = record { before = empty MOST_NUMBERS; now = empty MOST_NUMBERS }
 given_by (Stepped step ∷ es) = given (given_by es) step
-given_by (Started inc ok ∷ es) = given_by es
+given_by (Started session inc ok ∷ es) = given_by es
 given_by (Connected inc ok ∷ es) = given_by es
 given_by (Sent inc bytes ok ∷ es) = given_by es
 given_by (Heard inc bytes ok ∷ es) = given_by es
@@ -54,3 +54,16 @@ given_by (Shut name disk ∷ es) = given_by es
 -- servers, to what became of commits and to the documents of files that are opened, in their order, from a container without frames, objects and servers
 abbrev pub record_of : {D : Type 0} → List (Event D) → Record
 record_of es = (given_by es).now
+
+-- Each server is started in the session of its container, which has one then.
+abbrev pub AreStarted : {D : Type 0} → List (Event D) → Type 0
+AreStarted [] = Unit {0}
+AreStarted (Started session inc ok ∷ es) = (session ≡ (record_of es).session) × (session ≢ 0) × AreStarted es
+AreStarted (Connected inc ok ∷ es) = AreStarted es
+AreStarted (Sent inc bytes ok ∷ es) = AreStarted es
+AreStarted (Heard inc bytes ok ∷ es) = AreStarted es
+AreStarted (Ended inc ∷ es) = AreStarted es
+AreStarted (Opened name disk ∷ es) = AreStarted es
+AreStarted (Found name disk ∷ es) = AreStarted es
+AreStarted (Shut name disk ∷ es) = AreStarted es
+AreStarted (Stepped step ∷ es) = AreStarted es

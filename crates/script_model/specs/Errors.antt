@@ -23,7 +23,7 @@ use Rattle.script_model.specs.Saved.{HasFailed, file_name, is_any_unsaved}
 abbrev pub before_ends : {D : Type 0} → List (Event D) → List (Event D)
 before_ends [] = []
 before_ends (Ended inc ∷ es) = before_ends es
-before_ends (Started inc ok ∷ es) = Started inc ok ∷ es
+before_ends (Started session inc ok ∷ es) = Started session inc ok ∷ es
 before_ends (Connected inc ok ∷ es) = Connected inc ok ∷ es
 before_ends (Sent inc bytes ok ∷ es) = Sent inc bytes ok ∷ es
 before_ends (Heard inc bytes ok ∷ es) = Heard inc bytes ok ∷ es
@@ -36,7 +36,7 @@ before_ends (Stepped step ∷ es) = Stepped step ∷ es
 
 -- The last call was to start a server, and it wasn't done.
 abbrev pub IsUnstarted : {D : Type 0} → ℕ → List (Event D) → Type 0
-IsUnstarted {D = D} inc es = (before : List (Event D)) × (es ≡ Started inc false ∷ before)
+IsUnstarted {D = D} inc es = (session : ℕ) × (before : List (Event D)) × (es ≡ Started session inc false ∷ before)
 
 -- whether an activation has a call of a server that isn't answered
 abbrev pub asks : ℕ → Option Link → Bool

@@ -2,12 +2,12 @@
 use Rattle.std.specs.Prelude.{◌+◌, ◌-◌, ◌==◌, ◌&&◌, ℕ, Bool, List, [], ◌∷◌, if◌then◌else◌, Option, Some, None, Result, Ok, Err}
 use Rattle.script_model.specs.declared.step.Step.{Step}
 
--- A server is started, and a link to it made; the link is made anew; bytes are sent; bytes came, none where the other side
--- has closed the link; a server is ended and awaited. Each says whose it is, and whether it was done. The disk of a file is
+-- A server is started in a session, and a link to it made; the link is made anew; bytes are sent; bytes came, none where the other
+-- side has closed the link; a server is ended and awaited. Each says whose it is, and whether it was done. The disk of a file is
 -- opened, and the file made where it is missing; the disk of a file is looked for; each says which disk was given, or none.
 -- The disk of a file is given back.
 pub data Event (D : Type 0) : Type 0 where
-  Started : ℕ → Bool → Event D
+  Started : (session inc : ℕ) → Bool → Event D
   Connected : ℕ → Bool → Event D
   Sent : ℕ → List ℕ → Bool → Event D
   Heard : ℕ → List ℕ → Bool → Event D
@@ -29,7 +29,7 @@ disk_found (Err e) = None
 -- how often a server was started and not ended since
 abbrev pub running : {D : Type 0} → ℕ → List (Event D) → ℕ
 running s [] = 0
-running s (Started inc ok ∷ es) = if ok && (inc == s) then running s es + 1 else running s es
+running s (Started session inc ok ∷ es) = if ok && (inc == s) then running s es + 1 else running s es
 running s (Ended inc ∷ es) = if inc == s then running s es - 1 else running s es
 running s (Connected inc ok ∷ es) = running s es
 running s (Sent inc bytes ok ∷ es) = running s es
@@ -43,7 +43,7 @@ running s (Stepped step ∷ es) = running s es
 abbrev pub reads : {D : Type 0} → List (Event D) → ℕ
 reads [] = 0
 reads (Heard inc bytes ok ∷ es) = reads es + 1
-reads (Started inc ok ∷ es) = reads es
+reads (Started session inc ok ∷ es) = reads es
 reads (Ended inc ∷ es) = reads es
 reads (Connected inc ok ∷ es) = reads es
 reads (Sent inc bytes ok ∷ es) = reads es
@@ -55,7 +55,7 @@ reads (Stepped step ∷ es) = reads es
 -- how many starts failed, and of which server the last one was
 abbrev pub failed_starts : {D : Type 0} → ℕ → List (Event D) → ℕ
 failed_starts s [] = 0
-failed_starts s (Started inc ok ∷ es) = if ok then failed_starts s es else if inc == s then failed_starts s es + 1 else failed_starts s es
+failed_starts s (Started session inc ok ∷ es) = if ok then failed_starts s es else if inc == s then failed_starts s es + 1 else failed_starts s es
 failed_starts s (Ended inc ∷ es) = failed_starts s es
 failed_starts s (Connected inc ok ∷ es) = failed_starts s es
 failed_starts s (Sent inc bytes ok ∷ es) = failed_starts s es

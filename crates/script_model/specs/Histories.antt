@@ -1,14 +1,15 @@
 -- What a history that takes no memory says: its calls, and the steps and the disks in their places.
-use Rattle.std.specs.Prelude.{◌&&◌, ℕ, Bool, List, [], ◌∷◌, ◌++◌, drop, cond, nat_eq, nat_le, Option, Some, None}
+use Rattle.std.specs.Prelude.{◌&&◌, Bool, List, [], ◌∷◌, ◌++◌, drop, cond, nat_eq, nat_le, Some, None}
+use Rattle.std.specs.Int.{w32, from_le_bytes}
 use Rattle.histories.specs.Noted.{Noted}
 use Rattle.script_model.specs.declared.history.History.{History}
 use Rattle.script_model.specs.declared.step.Step.{Step}
 use Rattle.script_model.specs.Events.{Event, Started, Connected, Sent, Heard, Ended, Opened, Found, Shut, Stepped}
 
--- a call without a disk
+-- a call without a disk; the bytes of a start are those of the session
 abbrev pub call_of : {D : Type 0} → Noted → Event D
 call_of n =
-    cond (nat_eq n.0 0) (Started n.1 n.2) (
+    cond (nat_eq n.0 0) (Started (from_le_bytes w32 n.3) n.1 n.2) (
     cond (nat_eq n.0 1) (Connected n.1 n.2) (
     cond (nat_eq n.0 2) (Sent n.1 n.3 n.2) (
     cond (nat_eq n.0 3) (Heard n.1 n.3 n.2) (

@@ -10,6 +10,7 @@ use Rattle.script_model.specs.declared.step.Step.{Step}
 use Rattle.script_model.specs.declared.step.Step.TheVariants as step
 use Rattle.script_model.specs.Events.{Event, Started, Connected, Sent, Heard, Ended, Opened, Found, Shut, Stepped}
 use Rattle.script_model.specs.Containers.{record_of}
+use Rattle.script_model.specs.Orders.{IsReadied, asked}
 use Rattle.script_model.specs.Saved.{OfEachStep, is_any_unsaved}
 
 -- ---- histories
@@ -62,7 +63,7 @@ after_step s step.NoMemory p = p
 -- what passed between a server and the container; a link that couldn't be made anew is one on which nothing came
 abbrev pub passed : {D : Type 0} → ℕ → List (Event D) → Passed
 passed s [] = unlinked
-passed s (Started inc ok ∷ es) = if ok && (inc == s) then fresh else passed s es
+passed s (Started session inc ok ∷ es) = if ok && (inc == s) then fresh else passed s es
 passed s (Connected inc ok ∷ es) = if inc == s then relinked (passed s es) else passed s es
 passed s (Heard inc bytes ok ∷ es) = if ok && (inc == s) then hearing bytes (passed s es) else passed s es
 passed s (Ended inc ∷ es) = if inc == s then unlinked else passed s es
@@ -107,10 +108,11 @@ abbrev pub BeginsSaved : {D : Type 0} → List (Event D) → Type 0
 BeginsSaved es = is_any_unsaved (record_of es).frames ≡ false
 
 -- a step that gives the container a message, behind these calls: it is the next one that came on the links of its server; one that
--- tells it the end of a server, directly behind this end; and the beginning of a command
+-- tells it the end of a server, directly behind this end; a start, where it has a session or was to get one; and the beginning of a
+-- command
 abbrev pub GivesNext : {D : Type 0} → Step → List (Event D) → Type 0
 GivesNext (step.Begins n) es = BeginsSaved es
-GivesNext (step.Command c) es = Unit {0}
+GivesNext (step.Command c) es = IsReadied c (record_of es) (asked es)
 GivesNext (step.Message inc m) es = AreNext (passed inc es) (m ∷ [])
 GivesNext (step.Reap inc) es = IsJustEnded inc es
 GivesNext (step.Committed f) es = Unit {0}
@@ -121,7 +123,8 @@ GivesNext step.NoMemory es = Unit {0}
 
 -- Each message that the container was given came on a link of its server, since this was started and before it was ended: it is
 -- the next one behind those that the container was given of this server. So none is made up, none comes twice, and none comes
--- before its bytes. Each end of a server that it was told stands directly behind the end of this server. And where a command begins,
--- no frame's file is to be committed, or in doubt.
+-- before its bytes. Each end of a server that it was told stands directly behind the end of this server. Each start that it was given
+-- without a session stands behind a Session, which was to raise one. And where a command begins, no frame's file is to be committed,
+-- or in doubt.
 abbrev pub AreHeard : {D : Type 0} → List (Event D) → Type 0
 AreHeard es = OfEachStep GivesNext es

@@ -199,7 +199,7 @@ OpensRead disks step.NoMemory es = Unit {0}
 abbrev pub OfEachStep : {D : Type 0} (P : Step → List (Event D) → Type 0) → List (Event D) → Type 0
 OfEachStep P [] = Unit {0}
 OfEachStep P (Stepped step ∷ es) = P step es × OfEachStep P es
-OfEachStep P (Started inc ok ∷ es) = OfEachStep P es
+OfEachStep P (Started session inc ok ∷ es) = OfEachStep P es
 OfEachStep P (Connected inc ok ∷ es) = OfEachStep P es
 OfEachStep P (Sent inc bytes ok ∷ es) = OfEachStep P es
 OfEachStep P (Heard inc bytes ok ∷ es) = OfEachStep P es

@@ -30,7 +30,7 @@ turn_of r inc = spelled_to inc (pending_calls r.objects) ++ spell frame.Turn
 abbrev pub AreTurns : {D : Type 0} → List (Event D) → Type 0
 AreTurns [] = Unit {0}
 AreTurns (Sent inc bytes ok ∷ es) = (bytes ≡ turn_of (record_of es) inc) × AreTurns es
-AreTurns (Started inc ok ∷ es) = AreTurns es
+AreTurns (Started session inc ok ∷ es) = AreTurns es
 AreTurns (Connected inc ok ∷ es) = AreTurns es
 AreTurns (Heard inc bytes ok ∷ es) = AreTurns es
 AreTurns (Ended inc ∷ es) = AreTurns es

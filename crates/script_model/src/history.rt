@@ -47,12 +47,14 @@ impl<D> History<D> {
         }
     }
 
-    /// A server was started, or it wasn't.
-    pub fn started(&mut self, inc: u32, ok: bool)
-        ensures { told_in self.new ≡ Started inc ok ∷ told_in self.old }
+    /// A server of a session was started, or it wasn't.
+    pub fn started(&mut self, session: u32, inc: u32, ok: bool)
+        ensures { told_in self.new ≡ Started session inc ok ∷ told_in self.old }
     {
-        self.calls
-            .note(&[STARTED, u64::from(inc), u64::from(ok)], &[]);
+        self.calls.note(
+            &[STARTED, u64::from(inc), u64::from(ok)],
+            &session.to_le_bytes(),
+        );
     }
 
     /// A link was made anew, or it wasn't.

@@ -20,7 +20,7 @@ pub enum HostFault {
 }
 
 /// What starts servers, carries bytes to and from them, and ends them, and gives the disks that files are saved to. A server is
-/// named by its incarnation.
+/// named by its incarnation; all of them are of one session.
 pub trait Host {
     /// The disk of a file and its journal.
     type Disk: Disk + Drop;
@@ -28,9 +28,9 @@ pub trait Host {
     /// All that was asked of it and what it answered, and what the container was given meanwhile, the newest first.
     ghost told: { Self → List (Event Self.Disk) };
 
-    /// Starts a server, and makes a link to it.
-    fn start(&mut self, inc: u32) -> Result<(), HostFault>
-        ensures { told self.new ≡ Started inc (is_ok result) ∷ told self.old };
+    /// Starts a server of a session, and makes a link to it.
+    fn start(&mut self, session: u32, inc: u32) -> Result<(), HostFault>
+        ensures { told self.new ≡ Started session inc (is_ok result) ∷ told self.old };
 
     /// Drops the link to a server without reading what came on it, and makes another.
     fn connect(&mut self, inc: u32) -> Result<(), HostFault>

@@ -22,7 +22,7 @@ use Rattle.script_run.specs.Again.{IsAsShut, IsFaithful, IsLastShut, IsNotShut, 
 earlier : {D : Type 0} (P : Step → List (Event D) → Type 0) (later es : List (Event D)) → OfEachStep P (later ++ es) → OfEachStep P es
 earlier P [] es all = all
 earlier P (Stepped step ∷ later) es all = earlier P later es all.1
-earlier P (Started inc ok ∷ later) es all = earlier P later es all
+earlier P (Started session inc ok ∷ later) es all = earlier P later es all
 earlier P (Connected inc ok ∷ later) es all = earlier P later es all
 earlier P (Sent inc bytes ok ∷ later) es all = earlier P later es all
 earlier P (Heard inc bytes ok ∷ later) es all = earlier P later es all
@@ -34,7 +34,7 @@ earlier P (Shut name disk ∷ later) es all = earlier P later es all
 faithful_earlier : {D : Type 0} (disks : Disks D) (later es : List (Event D)) → IsFaithful disks (later ++ es) → IsFaithful disks es
 faithful_earlier disks [] es all = all
 faithful_earlier disks (Stepped step ∷ later) es all = faithful_earlier disks later es all
-faithful_earlier disks (Started inc ok ∷ later) es all = faithful_earlier disks later es all
+faithful_earlier disks (Started session inc ok ∷ later) es all = faithful_earlier disks later es all
 faithful_earlier disks (Connected inc ok ∷ later) es all = faithful_earlier disks later es all
 faithful_earlier disks (Sent inc bytes ok ∷ later) es all = faithful_earlier disks later es all
 faithful_earlier disks (Heard inc bytes ok ∷ later) es all = faithful_earlier disks later es all
@@ -47,7 +47,7 @@ faithful_earlier disks (Shut name disk ∷ later) es all = faithful_earlier disk
 last_still : {D : Type 0} (name : List ℕ) (disk : D) (between es : List (Event D)) → IsNotShut name between → IsLastShut name disk es → IsLastShut name disk (between ++ es)
 last_still name disk [] es none last = last
 last_still name disk (Stepped step ∷ between) es none last = last_still name disk between es none last
-last_still name disk (Started inc ok ∷ between) es none last = last_still name disk between es none last
+last_still name disk (Started session inc ok ∷ between) es none last = last_still name disk between es none last
 last_still name disk (Connected inc ok ∷ between) es none last = last_still name disk between es none last
 last_still name disk (Sent inc bytes ok ∷ between) es none last = last_still name disk between es none last
 last_still name disk (Heard inc bytes ok ∷ between) es none last = last_still name disk between es none last

@@ -62,7 +62,7 @@ this_given false p m next still = still
 -- Whatever happened, what the container was given of a server are the first of the messages that came on its links.
 all_next : {D : Type 0} (es : List (Event D)) (s : ℕ) → AreHeard es → AreNext (passed s es) []
 all_next [] s heard = unlinked_next
-all_next (Started inc ok ∷ es) s heard = either (ok && (inc == s)) fresh (passed s es) fresh_next (all_next es s heard)
+all_next (Started session inc ok ∷ es) s heard = either (ok && (inc == s)) fresh (passed s es) fresh_next (all_next es s heard)
 all_next (Connected inc ok ∷ es) s heard = either (inc == s) (relinked (passed s es)) (passed s es) (relinked_next (passed s es) (all_next es s heard)) (all_next es s heard)
 all_next (Heard inc bytes ok ∷ es) s heard = either (ok && (inc == s)) (hearing bytes (passed s es)) (passed s es) (hearing_next (passed s es) bytes (all_next es s heard)) (all_next es s heard)
 all_next (Ended inc ∷ es) s heard = either (inc == s) unlinked (passed s es) unlinked_next (all_next es s heard)

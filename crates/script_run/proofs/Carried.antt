@@ -1,5 +1,5 @@
 -- The commands of a script that were carried out, one more at a time.
-use Rattle.std.proofs.Common.{◌≡◌, ◌≤◌, ◌+◌, ◌++◌, ◌∙◌, ℕ, Bool, true, false, List, [], ◌∷◌, length, refl, sym, ap, subst, append_assoc, append-nil, arith}
+use Rattle.std.proofs.Common.{◌≡◌, ◌≤◌, ◌+◌, ◌++◌, ◌∙◌, ⊎_elim, inl, inr, ℕ, Bool, true, false, List, [], ◌∷◌, length, refl, sym, ap, subst, append_assoc, append-nil, arith}
 use Rattle.script_links.specs.Links.{AreLinked, HoldFor, links_of}
 use Rattle.script_links.specs.declared.links.Link.{Link}
 use Rattle.script_model.specs.declared.command.ScriptCommand.{ScriptCommand}
@@ -7,7 +7,7 @@ use Rattle.script_model.specs.declared.step.Step.{Step}
 use Rattle.script_model.specs.declared.step.Step.TheVariants as step
 use Rattle.script_model.specs.Errors.{IsLeftHeld, behind_hold, is_held}
 use Rattle.script_model.specs.Events.{Event}
-use Rattle.script_model.specs.Orders.{HaveBegun, behind_command, behind_commands, orders}
+use Rattle.script_model.specs.Orders.{HaveBegun, IsBegun, behind_command, behind_commands, orders}
 use Rattle.script_run.proofs.Held.{hold_more}
 
 -- Commands begin with those that were carried out, so many of them, and the rest is still to come. Of the servers whose links hold
@@ -42,7 +42,21 @@ module _ {D : Type 0} where
       lengths (x ∷ xs) = omega (arith, lengths xs)
 
   pub so_far_begun : (es : List (Event D)) (ls : List Link) (commands rest : List ScriptCommand) (count : ℕ) → SoFar es ls commands rest count → HaveBegun es commands
-  so_far_begun es ls commands rest count s = record { front = s.front; rest = rest; are = sym s.are; ordered = s.ordered }
+  so_far_begun es ls commands rest count s = record { front = s.front; rest = rest; are = sym s.are; ordered = inl s.ordered }
+
+  -- the command that the script ended in has begun
+  pub last_begun : (es mid after : List (Event D)) (ls : List Link) (commands rest more : List ScriptCommand) (c : ScriptCommand) (count place : ℕ) → SoFar es ls commands rest count → place ≡ count → rest ≡ c ∷ more
+      → orders mid ≡ step.Begins place ∷ orders es → IsBegun c (orders mid) (orders after) → HaveBegun after commands
+  last_begun es mid after ls commands rest more c count place s at is begins begun =
+      let behind : orders mid ≡ step.Begins place ∷ behind_commands 0 s.front [] = begins ∙ ap (λ x. step.Begins place ∷ x) s.ordered in record {
+        front = s.front ++ c ∷ [];
+        rest = more;
+        are = sym (append_assoc s.front (c ∷ []) more ∙ ap (λ x. s.front ++ x) (sym is) ∙ s.are);
+        ordered = ⊎_elim
+            (λ given. inl (given ∙ ap (behind_command c) behind ∙ sym (one_more 0 place s.front c [] (omega (arith, at, s.many)))))
+            (λ kept. inr (s.front, ap (λ x. s.front ++ x ∷ []) kept.0, kept.1 ∙ behind ∙ ap (λ n. step.Begins n ∷ behind_commands 0 s.front []) (at ∙ s.many)))
+            begun;
+      }
 
   all_front : (es : List (Event D)) (ls : List Link) (commands rest : List ScriptCommand) (count : ℕ) → rest ≡ [] → (s : SoFar es ls commands rest count) → s.front ≡ commands
   all_front es ls commands rest count none s = sym (append-nil s.front) ∙ ap (λ x. s.front ++ x) (sym none) ∙ s.are

@@ -30,7 +30,7 @@ module _ {D : Type 0} where
   ran : (s : ℕ) (es : List (Event D)) → running s es ≤ running s (before_ends es)
   ran s [] = as_many 0
   ran s (Ended inc ∷ es) = let now = less (inc == s) (running s es) in let before = ran s es in omega (arith, now, before)
-  ran s (Started inc ok ∷ es) = as_many (running s (Started inc ok ∷ es))
+  ran s (Started session inc ok ∷ es) = as_many (running s (Started session inc ok ∷ es))
   ran s (Connected inc ok ∷ es) = as_many (running s es)
   ran s (Sent inc bytes ok ∷ es) = as_many (running s es)
   ran s (Heard inc bytes ok ∷ es) = as_many (running s es)
@@ -42,7 +42,7 @@ module _ {D : Type 0} where
   paced : (s : ℕ) (es : List (Event D)) → pace s (before_ends es) ≡ pace s es
   paced s [] = refl
   paced s (Ended inc ∷ es) = paced s es
-  paced s (Started inc ok ∷ es) = refl
+  paced s (Started session inc ok ∷ es) = refl
   paced s (Connected inc ok ∷ es) = refl
   paced s (Sent inc bytes ok ∷ es) = refl
   paced s (Heard inc bytes ok ∷ es) = refl
@@ -54,7 +54,7 @@ module _ {D : Type 0} where
   recorded : (es : List (Event D)) → given_by (before_ends es) ≡ given_by es
   recorded [] = refl
   recorded (Ended inc ∷ es) = recorded es
-  recorded (Started inc ok ∷ es) = refl
+  recorded (Started session inc ok ∷ es) = refl
   recorded (Connected inc ok ∷ es) = refl
   recorded (Sent inc bytes ok ∷ es) = refl
   recorded (Heard inc bytes ok ∷ es) = refl
@@ -66,7 +66,7 @@ module _ {D : Type 0} where
   ordered : (es : List (Event D)) → orders (before_ends es) ≡ orders es
   ordered [] = refl
   ordered (Ended inc ∷ es) = ordered es
-  ordered (Started inc ok ∷ es) = refl
+  ordered (Started session inc ok ∷ es) = refl
   ordered (Connected inc ok ∷ es) = refl
   ordered (Sent inc bytes ok ∷ es) = refl
   ordered (Heard inc bytes ok ∷ es) = refl
@@ -97,7 +97,7 @@ module _ {D : Type 0} where
   }
 
   unstarted_still : (inc : ℕ) (es : List (Event D)) → IsUnstarted inc es → IsUnstarted inc (before_ends es)
-  unstarted_still inc es u = (u.0, ap before_ends u.1)
+  unstarted_still inc es u = (u.0, u.1, ap before_ends u.2)
 
   -- a file's disk isn't given, or is given back, by a call that ends no server
   is_last : (disks : Disks D) (name : List ℕ) (why : StoreFault) (es : List (Event D)) → IsUnopened disks name why es → es ≡ before_ends es

@@ -3,4 +3,5 @@ pub mod Came
 pub mod Carried
 pub mod Faulted
 pub mod Held
+pub mod Ordered
 pub mod Settled

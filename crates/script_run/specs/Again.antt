@@ -16,7 +16,7 @@ use Rattle.script_model.specs.Saved.{AreOpened, AreSaved, file_name}
 abbrev pub IsLastShut : {D : Type 0} → List ℕ → D → List (Event D) → Type 0
 IsLastShut name disk [] = ⊥
 IsLastShut name disk (Shut other shut ∷ es) = ((other ≡ name) × (shut ≡ disk)) ⊎ ((other ≢ name) × IsLastShut name disk es)
-IsLastShut name disk (Started inc ok ∷ es) = IsLastShut name disk es
+IsLastShut name disk (Started session inc ok ∷ es) = IsLastShut name disk es
 IsLastShut name disk (Connected inc ok ∷ es) = IsLastShut name disk es
 IsLastShut name disk (Sent inc bytes ok ∷ es) = IsLastShut name disk es
 IsLastShut name disk (Heard inc bytes ok ∷ es) = IsLastShut name disk es
@@ -29,7 +29,7 @@ IsLastShut name disk (Stepped step ∷ es) = IsLastShut name disk es
 abbrev pub IsNotShut : {D : Type 0} → List ℕ → List (Event D) → Type 0
 IsNotShut name [] = Unit {0}
 IsNotShut name (Shut other shut ∷ es) = (other ≢ name) × IsNotShut name es
-IsNotShut name (Started inc ok ∷ es) = IsNotShut name es
+IsNotShut name (Started session inc ok ∷ es) = IsNotShut name es
 IsNotShut name (Connected inc ok ∷ es) = IsNotShut name es
 IsNotShut name (Sent inc bytes ok ∷ es) = IsNotShut name es
 IsNotShut name (Heard inc bytes ok ∷ es) = IsNotShut name es
@@ -49,7 +49,7 @@ IsFaithful disks [] = Unit {0}
 IsFaithful disks (Opened name given ∷ es) = IsAsShut disks name given es × IsFaithful disks es
 IsFaithful disks (Found name given ∷ es) = IsAsShut disks name given es × IsFaithful disks es
 IsFaithful disks (Shut name disk ∷ es) = IsFaithful disks es
-IsFaithful disks (Started inc ok ∷ es) = IsFaithful disks es
+IsFaithful disks (Started session inc ok ∷ es) = IsFaithful disks es
 IsFaithful disks (Connected inc ok ∷ es) = IsFaithful disks es
 IsFaithful disks (Sent inc bytes ok ∷ es) = IsFaithful disks es
 IsFaithful disks (Heard inc bytes ok ∷ es) = IsFaithful disks es

@@ -1,10 +1,12 @@
 //! The commands of a script, one after another.
 
 ghost use Rattle.container_model.specs.Record.{Record};
+ghost use Rattle.container_model.specs.declared.command.Command.TheVariants as asks;
 ghost use Rattle.script_model.specs.Bounds.{linking, pace, resting};
+ghost use Rattle.script_model.specs.Containers.{record_of};
 ghost use Rattle.script_model.specs.Errors.{behind_hold};
 ghost use Rattle.script_model.specs.Events.{running};
-ghost use Rattle.script_model.specs.Orders.{behind_command, orders};
+ghost use Rattle.script_model.specs.Orders.{IsBegun, IsReadied, asked, behind_command, behind_given, orders};
 ghost use Rattle.script_model.specs.Origins.{AreNext, Passed, giving, passed};
 ghost use Rattle.script_model.specs.Saved.{is_any_unsaved};
 ghost use Rattle.script_model.specs.declared.command.ScriptCommand.TheVariants as script;
@@ -15,7 +17,7 @@ ghost use Rattle.script_links.specs.Shown.{AreQuiet, Shows};
 ghost use Rattle.script_links.specs.Told.{IsTold};
 ghost use Rattle.script_container.specs.declared.fault.ScriptFault.TheVariants.{NoMemory};
 ghost use Rattle.script_links.specs.declared.links.Link.{Link};
-ghost use Rattle.std.specs.Prelude.{◌≡◌, ◌≤◌, ◌<◌, ◌++◌, ◌∷◌, Bool, [], false, true, IfErr, IfNone, IfOk, IfSome, OnOk, length, ℕ, slice_index_or, slice_set, vec_capacity, vec_len};
+ghost use Rattle.std.specs.Prelude.{◌≡◌, ◌≤◌, ◌<◌, ◌++◌, ◌∷◌, Bool, [], false, true, IfErr, IfNone, IfOk, IfSome, List, OnOk, length, ℕ, slice_index_or, slice_set, vec_capacity, vec_len};
 
 use crate::opens::open;
 use crate::unsaved::is_any_unsaved;
@@ -65,30 +67,35 @@ fn is_linked(links: &[Link], inc: u32) -> bool
     false
 }
 
-/// Starts a server that has no link yet, and makes its link. The container stays as it is.
+/// Starts a server that has no link yet, in the container's session, and makes its link. The container stays as it is. Where it has
+/// no session, none is started.
 fn start<H: Host>(
     alloc: Global,
     host: &mut H,
-    _core: &ContainerCore,
+    core: &ContainerCore,
     links: &mut Vec<Link>,
     inc: u32,
 ) -> Result<(), ScriptFault>
-    requires told { IsTold ⟦<H::Disk as Disk>⟧ (H.told host.old) _core.now }
+    requires told { IsTold ⟦<H::Disk as Disk>⟧ (H.told host.old) core.now }
     requires linked { AreLinked (H.told host.old) links.old.items }
     requires served { AreServed (H.told host.old) links.old.items }
-    ensures told { IsTold ⟦<H::Disk as Disk>⟧ (H.told host.new) _core.now }
+    ensures told { IsTold ⟦<H::Disk as Disk>⟧ (H.told host.new) core.now }
     ensures linked { AreLinked (H.told host.new) links.new.items }
     ensures served { AreServed (H.told host.new) links.new.items }
     ensures paced { (s : ℕ) → pace s (H.told host.new) ≡ pace s (H.told host.old) }
-    ensures ordered { orders (H.told host.new) ≡ orders (H.told host.old) }
+    ensures ordered { asked (H.told host.new) ≡ asked (H.told host.old) }
     ensures shown { IfErr result (λ fault. Shows ⟦<H::Disk as Disk>⟧ (H.told host.new) fault) }
     ensures holding { (f : ℕ → Bool) → HoldFor f links.old.items → HoldFor f links.new.items }
 {
+    let session = core.session();
+    if session == 0 {
+        return Ok(());
+    }
     if is_linked(links, inc) {
         return Ok(());
     }
     links.reserve(1)?;
-    match host.start(inc) {
+    match host.start(session, inc) {
         Ok(()) => {
             add(links, Link::new(alloc, inc));
             Ok(())
@@ -122,7 +129,7 @@ fn end<H: Host>(
     ensures linked { AreLinked (H.told host.new) links.new.items }
     ensures served { AreServed (H.told host.new) links.new.items }
     ensures paced { (s : ℕ) → pace s (H.told host.new) ≡ pace s (H.told host.old) }
-    ensures ordered { orders (H.told host.new) ≡ orders (H.told host.old) }
+    ensures ordered { asked (H.told host.new) ≡ asked (H.told host.old) }
     ensures shown { IfErr result (λ fault. Shows ⟦<H::Disk as Disk>⟧ (H.told host.new) fault) }
     ensures holding { (f : ℕ → Bool) → HoldFor f links.old.items → HoldFor f links.new.items }
 {
@@ -148,7 +155,7 @@ fn act_on<H: Host>(
     ensures linked { AreLinked (H.told host.new) links.new.items }
     ensures served { AreServed (H.told host.new) links.new.items }
     ensures paced { (s : ℕ) → pace s (H.told host.new) ≡ pace s (H.told host.old) }
-    ensures ordered { orders (H.told host.new) ≡ orders (H.told host.old) }
+    ensures ordered { asked (H.told host.new) ≡ asked (H.told host.old) }
     ensures shown { IfErr result (λ fault. Shows ⟦<H::Disk as Disk>⟧ (H.told host.new) fault) }
     ensures holding { (f : ℕ → Bool) → HoldFor f links.old.items → HoldFor f links.new.items }
 {
@@ -175,7 +182,7 @@ fn act<H: Host>(
     ensures linked { AreLinked (H.told host.new) links.new.items }
     ensures served { AreServed (H.told host.new) links.new.items }
     ensures paced { (s : ℕ) → pace s (H.told host.new) ≡ pace s (H.told host.old) }
-    ensures ordered { orders (H.told host.new) ≡ orders (H.told host.old) }
+    ensures ordered { asked (H.told host.new) ≡ asked (H.told host.old) }
     ensures shown { IfErr result (λ fault. Shows ⟦<H::Disk as Disk>⟧ (H.told host.new) fault) }
     ensures holding { (f : ℕ → Bool) → HoldFor f links.old.items → HoldFor f links.new.items }
 {
@@ -183,6 +190,79 @@ fn act<H: Host>(
         act_on(alloc, host, core, links, action, noticed)?;
     }
     save_all(alloc, host, core, answer, noticed)
+}
+
+/// Gives the container a user's command, and does what it asks for. A start comes where it has a session, or was to get one by the
+/// command before.
+fn give<H: Host>(
+    alloc: Global,
+    host: &mut H,
+    core: &mut ContainerCore,
+    links: &mut Vec<Link>,
+    ordered: Command,
+    noticed: &mut Option<Told>,
+) -> Result<Told, ScriptFault>
+    requires told { IsTold ⟦<H::Disk as Disk>⟧ (H.told host.old) core.old }
+    requires readied { IsReadied ordered (record_of (H.told host.old)) (asked (H.told host.old)) }
+    requires linked { AreLinked (H.told host.old) links.old.items }
+    requires served { AreServed (H.told host.old) links.old.items }
+    ensures told { IsTold ⟦<H::Disk as Disk>⟧ (H.told host.new) core.new }
+    ensures linked { AreLinked (H.told host.new) links.new.items }
+    ensures served { AreServed (H.told host.new) links.new.items }
+    ensures paced { (s : ℕ) → pace s (H.told host.new) ≡ pace s (H.told host.old) }
+    ensures ordered { asked (H.told host.new) ≡ Step.Command ordered ∷ asked (H.told host.old) }
+    ensures shown { IfErr result (λ fault. Shows ⟦<H::Disk as Disk>⟧ (H.told host.new) fault) }
+    ensures holding { (f : ℕ → Bool) → HoldFor f links.old.items → HoldFor f links.new.items }
+{
+    match command(alloc, host, core, ordered) {
+        Ok(answer) => {
+            act(alloc, host, core, links, &answer, noticed)?;
+            Ok(made_by(&answer))
+        }
+        Err(ContainerFault::NoMemory) => Err(ScriptFault::NoMemory),
+        Err(fault) => Ok(Told::Fault(fault)),
+    }
+}
+
+/// Whether a command is to start a server in a container that has no session yet.
+#[tactic(auto, using(crate::proofs::Ordered::readied_other, crate::proofs::Ordered::readied_in))]
+fn is_first_start(core: &ContainerCore, ordered: &Command) -> bool
+    ensures first { result ≡ true → ordered.now ≡ asks.Start }
+    ensures other { (steps : List Step) → result ≡ false → IsReadied ordered.now core.now steps }
+{
+    match ordered {
+        Command::Start => core.session() == 0,
+        _ => false,
+    }
+}
+
+/// Starts a server in a container that has no session: first its session is raised. Gives what is told of the start, or, where
+/// there is no session then either, of what was to raise it.
+fn start_first<H: Host>(
+    alloc: Global,
+    host: &mut H,
+    core: &mut ContainerCore,
+    links: &mut Vec<Link>,
+    noticed: &mut Option<Told>,
+) -> Result<Told, ScriptFault>
+    requires told { IsTold ⟦<H::Disk as Disk>⟧ (H.told host.old) core.old }
+    requires linked { AreLinked (H.told host.old) links.old.items }
+    requires served { AreServed (H.told host.old) links.old.items }
+    ensures told { IsTold ⟦<H::Disk as Disk>⟧ (H.told host.new) core.new }
+    ensures linked { AreLinked (H.told host.new) links.new.items }
+    ensures served { AreServed (H.told host.new) links.new.items }
+    ensures paced { (s : ℕ) → pace s (H.told host.new) ≡ pace s (H.told host.old) }
+    ensures ordered { OnOk result (orders (H.told host.new) ≡ behind_given asks.Start (orders (H.told host.old))) }
+    ensures begun { IsBegun (script.Container asks.Start) (orders (H.told host.old)) (orders (H.told host.new)) }
+    ensures shown { IfErr result (λ fault. Shows ⟦<H::Disk as Disk>⟧ (H.told host.new) fault) }
+    ensures holding { (f : ℕ → Bool) → HoldFor f links.old.items → HoldFor f links.new.items }
+{
+    let raised = give(alloc, host, core, links, Command::Session, noticed)?;
+    let started = give(alloc, host, core, links, Command::Start, noticed)?;
+    if core.session() == 0 {
+        return Ok(raised);
+    }
+    Ok(started)
 }
 
 /// A command of the container's user.
@@ -201,18 +281,15 @@ fn order<H: Host>(
     ensures linked { AreLinked (H.told host.new) links.new.items }
     ensures served { AreServed (H.told host.new) links.new.items }
     ensures paced { (s : ℕ) → pace s (H.told host.new) ≡ pace s (H.told host.old) }
-    ensures ordered { orders (H.told host.new) ≡ Step.Command ordered ∷ orders (H.told host.old) }
+    ensures ordered { OnOk result (orders (H.told host.new) ≡ behind_given ordered (orders (H.told host.old))) }
+    ensures begun { IsBegun (script.Container ordered) (orders (H.told host.old)) (orders (H.told host.new)) }
     ensures shown { IfErr result (λ fault. Shows ⟦<H::Disk as Disk>⟧ (H.told host.new) fault) }
     ensures holding { (f : ℕ → Bool) → HoldFor f links.old.items → HoldFor f links.new.items }
 {
-    match command(alloc, host, core, ordered) {
-        Ok(answer) => {
-            act(alloc, host, core, links, &answer, noticed)?;
-            Ok(made_by(&answer))
-        }
-        Err(ContainerFault::NoMemory) => Err(ScriptFault::NoMemory),
-        Err(fault) => Ok(Told::Fault(fault)),
+    if is_first_start(core, &ordered) {
+        return start_first(alloc, host, core, links, noticed);
     }
+    give(alloc, host, core, links, ordered, noticed)
 }
 
 /// Sends a link its turn, and makes it anew without reading what comes. A link that can't be made is ended.
@@ -233,7 +310,7 @@ fn cut<H: Host>(
     ensures linked { AreLinked (H.told host.new) links.new.items }
     ensures served { AreServed (H.told host.new) links.new.items }
     ensures ready { OnOk result (AreReady 1 (H.told host.new) links.new.items) }
-    ensures ordered { orders (H.told host.new) ≡ orders (H.told host.old) }
+    ensures ordered { asked (H.told host.new) ≡ asked (H.told host.old) }
     ensures shown { IfErr result (λ fault. Shows ⟦<H::Disk as Disk>⟧ (H.told host.new) fault) }
     ensures holding { (f : ℕ → Bool) → HoldFor f links.old.items → HoldFor f links.new.items }
 {
@@ -261,7 +338,7 @@ fn hand_all<H: Host>(
     ensures apart { (s : ℕ) → beside inc s (H.told host.new) ≡ beside inc s (H.told host.old) }
     ensures given { IfOk result (λ all. all ≡ true → passed inc (H.told host.new) ≡ giving waiting (passed inc (H.told host.old))) }
     ensures paced { (s : ℕ) → pace s (H.told host.new) ≡ pace s (H.told host.old) }
-    ensures ordered { orders (H.told host.new) ≡ orders (H.told host.old) }
+    ensures ordered { asked (H.told host.new) ≡ asked (H.told host.old) }
     ensures shown { IfErr result (λ fault. Shows ⟦<H::Disk as Disk>⟧ (H.told host.new) fault) }
 {
     for taken in waiting.into_vec() {
@@ -299,7 +376,7 @@ fn reconnect_at<H: Host>(alloc: Global, host: &mut H, links: &mut Vec<Link>, pla
     ensures same { (d : Link) → (slice_index_or links.new.items place d).inc ≡ (slice_index_or links.old.items place d).inc }
     ensures aside { (d : Link) (s : ℕ) → pace_beside (slice_index_or links.old.items place d).inc s (H.told host.new) ≡ pace_beside (slice_index_or links.old.items place d).inc s (H.told host.old) }
     ensures made { (d : Link) → pace (slice_index_or links.old.items place d).inc (H.told host.new) ≡ linking result (pace (slice_index_or links.old.items place d).inc (H.told host.old)) }
-    ensures ordered { orders (H.told host.new) ≡ orders (H.told host.old) }
+    ensures ordered { asked (H.told host.new) ≡ asked (H.told host.old) }
     ensures holding { (f : ℕ → Bool) → HoldFor f links.old.items → HoldFor f links.new.items }
 {
     reconnect(alloc, host, &mut links[place])
@@ -322,7 +399,7 @@ fn release<H: Host>(
     ensures linked { AreLinked (H.told host.new) links.new.items }
     ensures served { OnOk result (AreServed (H.told host.new) links.new.items) }
     ensures paced { (s : ℕ) → pace s (H.told host.new) ≡ pace s (H.told host.old) }
-    ensures ordered { orders (H.told host.new) ≡ orders (H.told host.old) }
+    ensures ordered { asked (H.told host.new) ≡ asked (H.told host.old) }
     ensures shown { IfErr result (λ fault. Shows ⟦<H::Disk as Disk>⟧ (H.told host.new) fault) }
     ensures holding { (f : ℕ → Bool) (inc : ℕ) → IsLinkAt links.old.items place inc → HoldFor f links.old.items → HoldFor (λ s. behind_hold (script.Release inc) s (f s)) links.new.items }
 {
@@ -361,7 +438,7 @@ fn cut_link<H: Host>(
     ensures linked { AreLinked (H.told host.new) links.new.items }
     ensures served { OnOk result (AreServed (H.told host.new) links.new.items) }
     ensures ready { OnOk result (AreReady 1 (H.told host.new) links.new.items) }
-    ensures ordered { orders (H.told host.new) ≡ orders (H.told host.old) }
+    ensures ordered { asked (H.told host.new) ≡ asked (H.told host.old) }
     ensures shown { IfErr result (λ fault. Shows ⟦<H::Disk as Disk>⟧ (H.told host.new) fault) }
     ensures holding { (f : ℕ → Bool) → HoldFor f links.old.items → HoldFor f links.new.items }
 {
@@ -389,7 +466,7 @@ fn release_link<H: Host>(
     ensures linked { AreLinked (H.told host.new) links.new.items }
     ensures served { OnOk result (AreServed (H.told host.new) links.new.items) }
     ensures ready { OnOk result (AreReady 1 (H.told host.new) links.new.items) }
-    ensures ordered { orders (H.told host.new) ≡ orders (H.told host.old) }
+    ensures ordered { asked (H.told host.new) ≡ asked (H.told host.old) }
     ensures shown { IfErr result (λ fault. Shows ⟦<H::Disk as Disk>⟧ (H.told host.new) fault) }
     ensures holding { (f : ℕ → Bool) → HoldFor f links.old.items → HoldFor (λ s. behind_hold (script.Release inc) s (f s)) links.new.items }
 {
@@ -450,7 +527,8 @@ fn begin<H: Host>(
     ensures linked { AreLinked (H.told host.new) links.new.items }
     ensures served { OnOk result (AreServed (H.told host.new) links.new.items) }
     ensures ready { OnOk result (AreReady 1 (H.told host.new) links.new.items) }
-    ensures ordered { orders (H.told host.new) ≡ behind_command command (orders (H.told host.old)) }
+    ensures ordered { OnOk result (orders (H.told host.new) ≡ behind_command command (orders (H.told host.old))) }
+    ensures begun { IsBegun command (orders (H.told host.old)) (orders (H.told host.new)) }
     ensures shown { IfErr result (λ fault. Shows ⟦<H::Disk as Disk>⟧ (H.told host.new) fault) }
     ensures holding { (f : ℕ → Bool) → HoldFor f links.old.items → HoldFor (λ s. behind_hold command s (f s)) links.new.items }
 {
@@ -484,7 +562,8 @@ pub(crate) fn carry_out<H: Host, W: Write>(
     ensures served { OnOk result (AreServed (H.told host.new) links.new.items) }
     ensures quiet { OnOk result (AreQuiet core.new.objects links.new.items) }
     ensures saved { OnOk result (is_any_unsaved core.new.frames ≡ false) }
-    ensures ordered { orders (H.told host.new) ≡ behind_command command (orders (H.told host.old)) }
+    ensures ordered { OnOk result (orders (H.told host.new) ≡ behind_command command (orders (H.told host.old))) }
+    ensures begun { IsBegun command (orders (H.told host.old)) (orders (H.told host.new)) }
     ensures shown { IfErr result (λ fault. Shows ⟦<H::Disk as Disk>⟧ (H.told host.new) fault) }
     ensures holding { (f : ℕ → Bool) → HoldFor f links.old.items → HoldFor (λ s. behind_hold command s (f s)) links.new.items }
 {

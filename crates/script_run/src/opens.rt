@@ -4,7 +4,7 @@ ghost use Rattle.container_model.specs.Opens.{Given, IsReadAs};
 ghost use Rattle.container_model.specs.Record.{Record};
 ghost use Rattle.script_model.specs.Bounds.{pace};
 ghost use Rattle.script_model.specs.Events.{running};
-ghost use Rattle.script_model.specs.Orders.{orders};
+ghost use Rattle.script_model.specs.Orders.{asked};
 ghost use Rattle.script_model.specs.Origins.{passed};
 ghost use Rattle.script_model.specs.Saved.{IsReadFrom, IsReadOf};
 ghost use Rattle.script_links.specs.Told.{IsTold};
@@ -49,7 +49,7 @@ fn read<H: Host>(alloc: Global, host: &mut H, name: &[u8]) -> Result<Option<Vec<
     ensures quiet { (s : ℕ) → passed s (H.told host.new) ≡ passed s (H.told host.old) }
     ensures paced { (s : ℕ) → pace s (H.told host.new) ≡ pace s (H.told host.old) }
     ensures read { H.Disk.follows_model → IfOk result (λ found. IfSome found (λ file. IsReadFrom ⟦<H::Disk as Disk>⟧ (H.told host.new) name.now file.items)) }
-    ensures ordered { orders (H.told host.new) ≡ orders (H.told host.old) }
+    ensures ordered { asked (H.told host.new) ≡ asked (H.told host.old) }
 {
     match host.find(name) {
         Ok(Some(disk)) => {
@@ -83,7 +83,7 @@ fn make_frame<H: Host>(
     ensures still { (s : ℕ) → running s (H.told host.new) ≡ running s (H.told host.old) }
     ensures quiet { (s : ℕ) → passed s (H.told host.new) ≡ passed s (H.told host.old) }
     ensures paced { (s : ℕ) → pace s (H.told host.new) ≡ pace s (H.told host.old) }
-    ensures ordered { orders (H.told host.new) ≡ orders (H.told host.old) }
+    ensures ordered { asked (H.told host.new) ≡ asked (H.told host.old) }
     ensures lacking { IfErr result (λ fault. fault ≡ NoMemory) }
 {
     match opened(alloc, host, core, name, width, height, document, file) {
@@ -109,7 +109,7 @@ fn open_found<H: Host>(
     ensures still { (s : ℕ) → running s (H.told host.new) ≡ running s (H.told host.old) }
     ensures quiet { (s : ℕ) → passed s (H.told host.new) ≡ passed s (H.told host.old) }
     ensures paced { (s : ℕ) → pace s (H.told host.new) ≡ pace s (H.told host.old) }
-    ensures ordered { orders (H.told host.new) ≡ orders (H.told host.old) }
+    ensures ordered { asked (H.told host.new) ≡ asked (H.told host.old) }
     ensures lacking { IfErr result (λ fault. fault ≡ NoMemory) }
 {
     match document_in(alloc, file) {
@@ -138,7 +138,7 @@ pub(crate) fn open<H: Host>(
     ensures still { (s : ℕ) → running s (H.told host.new) ≡ running s (H.told host.old) }
     ensures quiet { (s : ℕ) → passed s (H.told host.new) ≡ passed s (H.told host.old) }
     ensures paced { (s : ℕ) → pace s (H.told host.new) ≡ pace s (H.told host.old) }
-    ensures ordered { orders (H.told host.new) ≡ orders (H.told host.old) }
+    ensures ordered { asked (H.told host.new) ≡ asked (H.told host.old) }
     ensures lacking { IfErr result (λ fault. fault ≡ NoMemory) }
 {
     match core.may_open(name.as_slice(), width, height) {

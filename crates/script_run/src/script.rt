@@ -2,6 +2,7 @@
 
 ghost use Rattle.container_model.specs.Record.{Record};
 ghost use Rattle.script_model.specs.Bounds.{AreBounded, pace, resting};
+ghost use Rattle.script_model.specs.Containers.{AreStarted};
 ghost use Rattle.script_model.specs.Errors.{before_ends};
 ghost use Rattle.script_model.specs.Events.{running};
 ghost use Rattle.script_model.specs.Orders.{HaveBegun, behind_command, behind_commands, orders};
@@ -110,7 +111,8 @@ fn carry_out_all<H: Host, W: Write>(
 /// Carries out the commands of a text over a host, with a container of its own, and writes what is told of each as it is
 /// carried out. However this ends, each server that was started is ended and awaited. A command sends no server more than 1,000
 /// turns; a turn makes a link anew once at most, and reads it 1,000,000 times at most. A save is lost for a cause alone: the file is
-/// too large, a call of its disk failed, or the disk wasn't given at first.
+/// too large, a call of its disk failed, or the disk wasn't given at first. Before the first `start` the file of frame 1 is saved with
+/// the next session, in which each server is started.
 ///
 /// Where it ends well, what was asked for is done (`settled`): no call is pending of a server that ran to the end, and no frame's file
 /// is to be committed, or in doubt. Of frames this holds where each command begins, too (`heard`).
@@ -135,6 +137,7 @@ pub fn run_script<H: Host, R: Read, W: Write>(
     ensures heard { AreHeard (H.told host.new) }
     ensures saved { AreSaved ⟦<H::Disk as Disk>⟧ (H.told host.new) }
     ensures opened { H.Disk.follows_model → AreOpened ⟦<H::Disk as Disk>⟧ (H.told host.new) }
+    ensures started { AreStarted (H.told host.new) }
     ensures carried { OnOk result (IfSome (R.remaining reader.old) (λ text. AreCarriedOut (H.told host.new) text)) }
     ensures begun { IfSome (R.remaining reader.old) (λ text. MayHaveBegun (H.told host.new) text) }
     ensures settled { OnOk result (IsSettled (before_ends (H.told host.new))) }

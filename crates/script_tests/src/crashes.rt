@@ -10,10 +10,10 @@ use std::process::Abort;
 use store_model::disk::Disk;
 
 /// A file with one note.
-const FIRST: &str = "new d.ole 40 12\ninsert 1 note 0 0 20 5\nsave 1\n";
+const FIRST: &str = "new d.ole 40 12\ninsert 1 note 0 0 20 5\nsession\n";
 
-/// A second note beside it.
-const SECOND: &str = "open d.ole 40 12\ninsert 1 note 0 6 20 5\nsave 1\n";
+/// A second note beside it, once the next session is there.
+const SECOND: &str = "open d.ole 40 12\nsession\ninsert 1 note 0 6 20 5\nsave 1\n";
 
 /// What another script finds.
 const LOOK: &str = "open d.ole 40 12\n";
@@ -87,12 +87,13 @@ fn settled(rt: &impl Abort, alloc: Global, disk: &MemoryDisk) -> MemoryDisk {
     crashed(alloc, disk, calls, Pending::Kept, Pending::Kept).expect(rt, "memory")
 }
 
-/// How often a script's save was told and how often it wasn't, where its disk, which had this, stops after 0, 1, 2 ... calls.
+/// How often a script wrote all of this and how often it didn't, where its disk, which had that, stops after 0, 1, 2 ... calls.
 /// None where something else was found, or where it never came to an end without a failure.
 fn stops(
     rt: &impl Abort,
     alloc: Global,
     script: &str,
+    want: &[u8],
     from: &MemoryDisk,
     texts: &Texts,
 ) -> Option<[u64; 2]> {
@@ -100,7 +101,7 @@ fn stops(
     for calls in 0..MOST_CALLS {
         let disk = settled(rt, alloc, from);
         let (written, left) = run(rt, alloc, script, disk, Faults::From(calls));
-        let is_told = written.ends_with(b"\nok\n");
+        let is_told = written.as_slice() == want;
         if !finds_one(rt, alloc, &left, is_told, texts) {
             return None;
         }
@@ -122,12 +123,12 @@ fn a_save_whose_disk_stops_leaves_the_file_from_before_or_the_saved_one(rt: Host
     let empty = fresh(alloc).expect(&rt, "memory");
     let nothing = look(&rt, alloc, &empty, Pending::Kept, Pending::Kept);
     let disk = settled(&rt, alloc, &empty);
-    let (written, first) = run(&rt, alloc, FIRST, disk, Faults::Never);
-    assert!(rt; written.as_slice() == b"frame 1\nobject 1\nok\n".as_slice());
+    let (saved_first, first) = run(&rt, alloc, FIRST, disk, Faults::Never);
+    assert!(rt; saved_first.as_slice() == b"frame 1\nobject 1\nok\n".as_slice());
     let one = look(&rt, alloc, &first, Pending::Lost, Pending::Lost);
     let disk = settled(&rt, alloc, &first);
-    let (written, second) = run(&rt, alloc, SECOND, disk, Faults::Never);
-    assert!(rt; written.as_slice() == b"frame 1 object 1\nobject 2\nok\n".as_slice());
+    let (saved_second, second) = run(&rt, alloc, SECOND, disk, Faults::Never);
+    assert!(rt; saved_second.as_slice() == b"frame 1 object 1\nok\nobject 2\nok\n".as_slice());
     let two = look(&rt, alloc, &second, Pending::Lost, Pending::Lost);
     assert!(rt; nothing.as_slice() == b"NoSuch\n".as_slice());
     assert!(rt; one.as_slice() == b"frame 1 object 1\n".as_slice() && one != two);
@@ -135,12 +136,12 @@ fn a_save_whose_disk_stops_leaves_the_file_from_before_or_the_saved_one(rt: Host
         old: nothing,
         new: one,
     };
-    let ends = stops(&rt, alloc, FIRST, &empty, &texts);
+    let ends = stops(&rt, alloc, FIRST, &saved_first, &empty, &texts);
     assert!(rt; ends.is_some_and(|it| it[0] == 1 && it[1] > 5));
     let texts = Texts {
         old: texts.new,
         new: two,
     };
-    let ends = stops(&rt, alloc, SECOND, &first, &texts);
+    let ends = stops(&rt, alloc, SECOND, &saved_second, &first, &texts);
     assert!(rt; ends.is_some_and(|it| it[0] == 1 && it[1] > 5));
 }

@@ -47,8 +47,8 @@ impl Host for Files {
 
     ghost told = { λ h. told_in h.history };
 
-    fn start(&mut self, inc: u32) -> Result<(), HostFault> {
-        self.history.started(inc, false);
+    fn start(&mut self, session: u32, inc: u32) -> Result<(), HostFault> {
+        self.history.started(session, inc, false);
         Err(HostFault::Failed)
     }
 

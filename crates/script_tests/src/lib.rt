@@ -7,3 +7,5 @@ mod crashes;
 mod files;
 #[cfg(test)]
 mod saves;
+#[cfg(test)]
+mod sessions;

@@ -10,8 +10,8 @@ use std::process::Abort;
 use store_model::disk::Disk;
 use store_model::fault::StoreFault;
 
-/// A frame with a note is saved to a new file. No server is needed for that.
-const SCRIPT: &str = "new d.ole 40 12\ninsert 1 note 0 0 20 5\nsave 1\n";
+/// A frame with a note is saved to a new file, with its first session. No server is needed for that.
+const SCRIPT: &str = "new d.ole 40 12\ninsert 1 note 0 0 20 5\nsession\n";
 
 /// The most calls of a disk that are tried.
 const MOST_CALLS: u64 = 200;

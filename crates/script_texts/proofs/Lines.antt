@@ -6,7 +6,7 @@ use Rattle.std.proofs.lemmas.Slice.Eq.{bytes_eq-Decides}
 use Rattle.text_words.specs.Words.{words}
 use Rattle.event_texts.specs.Events.{Sized, event_in, event_of, forge_in, is_forge, may_want, open_in, open_of, open_read, or_else as either, sized_read, takes_memory}
 use Rattle.script_model.specs.declared.command.ScriptCommand.{ScriptCommand}
-use Rattle.script_texts.specs.Commands.{command_in, command_of, is_open, or_else}
+use Rattle.script_texts.specs.Commands.{command_in, is_open, or_else}
 use Rattle.world_model.specs.declared.event.Event.{Event}
 use Rattle.world_model.specs.declared.event.Event.TheVariants as event
 

@@ -1,7 +1,7 @@
 -- The lines of a script and the commands that they spell.
 use Rattle.std.specs.Prelude.{ℕ, Bool, false, List, [], ◌∷◌, codes, cond, Option, Some, None, option_map, Result}
 use Rattle.std.specs.Str.{bytes_eq}
-use Rattle.text_words.specs.Words.{words, number_read}
+use Rattle.text_words.specs.Words.{words}
 use Rattle.event_texts.specs.Events.{event_read, open_in, sole_number}
 use Rattle.script_model.specs.declared.command.ScriptCommand.{ScriptCommand}
 use Rattle.script_model.specs.declared.command.ScriptCommand.TheVariants as script

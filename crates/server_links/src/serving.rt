@@ -45,7 +45,7 @@ fn next_link<L: Links>(
     }
 }
 
-/// Is the server of this incarnation, which may have so many activations, and each so many writes: serves one link after
+/// Is the server of this session and incarnation, which may have so many activations, and each so many writes: serves one link after
 /// another, until no other one comes. A call that wants a note, a table or a drawing gets a new one; one that wants another
 /// object is passed over. A link that came is closed on every way out, and before the next one is asked for.
 ///
@@ -55,14 +55,15 @@ pub fn serve_links<L: Links>(
     alloc: Global,
     tally: &Tally,
     links: &mut L,
+    session: u32,
     inc: u32,
     numbers: u32,
 ) -> Result<Stop, AllocError>
-    ensures stopped { IfOk result (λ stop. HasStopped stop L.Reader.remaining L.Writer.contents (first_turn inc numbers) (L.told links.old) (L.told links.new)) }
-    ensures wanting { OnErr result (HasWanted L.Reader.remaining L.Writer.contents (first_turn inc numbers) (L.told links.old) (L.told links.new)) }
+    ensures stopped { IfOk result (λ stop. HasStopped stop L.Reader.remaining L.Writer.contents (first_turn session inc numbers) (L.told links.old) (L.told links.new)) }
+    ensures wanting { OnErr result (HasWanted L.Reader.remaining L.Writer.contents (first_turn session inc numbers) (L.told links.old) (L.told links.new)) }
 {
     let mut serving = Serving::new(alloc);
-    serving.start(alloc, inc, numbers)?;
+    serving.start(alloc, session, inc, numbers)?;
     let Some(mut link) = links.next() else {
         return Ok(Stop::NoLink);
     };

@@ -21,13 +21,9 @@ pub record Turn : Type 0 where
   pub out : List ℕ
   pub edited : List ℕ
 
--- The session of the container that a server serves: 1, until sessions are counted.
-abbrev pub SESSION : ℕ
-SESSION = 1
-
--- the first turn of a server: it has no activation
-abbrev pub first_turn : (inc numbers : ℕ) → Turn
-first_turn inc numbers = record { server = record { session = SESSION; inc = inc; numbers = numbers; acts = [] }; out = []; edited = [] }
+-- the first turn of a server of this session: it has no activation
+abbrev pub first_turn : (session inc numbers : ℕ) → Turn
+first_turn session inc numbers = record { server = record { session = session; inc = inc; numbers = numbers; acts = [] }; out = []; edited = [] }
 
 -- what is written of a frame: nothing where it may not be sent
 abbrev pub sent : Frame → List ℕ

@@ -35,9 +35,6 @@ pub const MOST_TURNS: u32 = 1_000;
 /// The most reads of a turn.
 pub const MOST_READS: u32 = 1_000_000;
 
-/// A container's session is 1 until it is counted.
-const SESSION: u32 = 1;
-
 /// How many bytes are read at once.
 const PIECE: usize = 8192;
 
@@ -197,29 +194,41 @@ impl Serving {
     }
 
     /// Makes the server.
-    fn make(&mut self, alloc: Global, inc: u32, numbers: u32) -> Result<(), AllocError>
+    fn make(
+        &mut self,
+        alloc: Global,
+        session: u32,
+        inc: u32,
+        numbers: u32,
+    ) -> Result<(), AllocError>
         requires { IsNew self.old }
         ensures started { OnOk result (IsStarted self.new) }
         ensures counts { OnOk result ((self.new.turns ≡ 0) × (self.new.reads ≡ 0)) }
-        ensures first { OnOk result (IsAt (λ s. (⟦<dyn Embedded as Embedded>⟧ s.boxed.vtable).content s.boxed.value) self.new (first_turn inc numbers) [] []) }
+        ensures first { OnOk result (IsAt (λ s. (⟦<dyn Embedded as Embedded>⟧ s.boxed.vtable).content s.boxed.value) self.new (first_turn session inc numbers) [] []) }
     {
         self.servers.reserve(1)?;
-        let core = ServerCore::new(alloc, SESSION, inc, numbers);
+        let core = ServerCore::new(alloc, session, inc, numbers);
         add(&mut self.servers, Server { core });
         Ok(())
     }
 
-    /// The server of this incarnation. It may have so many activations, and each so many writes.
+    /// The server of this session and incarnation. It may have so many activations, and each so many writes.
     ///
     /// Refused for want of memory alone.
-    pub fn start(&mut self, alloc: Global, inc: u32, numbers: u32) -> Result<(), AllocError>
+    pub fn start(
+        &mut self,
+        alloc: Global,
+        session: u32,
+        inc: u32,
+        numbers: u32,
+    ) -> Result<(), AllocError>
         requires { IsNew self.old }
         ensures started { OnOk result (IsStarted self.new) }
         ensures counts { OnOk result ((self.new.turns ≡ 0) × (self.new.reads ≡ 0)) }
-        ensures first { OnOk result (IsAt (λ s. (⟦<dyn Embedded as Embedded>⟧ s.boxed.vtable).content s.boxed.value) self.new (first_turn inc numbers) [] []) }
-        ensures underway { OnOk result ((made : List ℕ → Bool) (unread held : Option (List ℕ)) → IsUnderway (λ s. (⟦<dyn Embedded as Embedded>⟧ s.boxed.vtable).content s.boxed.value) self.new made (first_turn inc numbers) unread unread held held) }
+        ensures first { OnOk result (IsAt (λ s. (⟦<dyn Embedded as Embedded>⟧ s.boxed.vtable).content s.boxed.value) self.new (first_turn session inc numbers) [] []) }
+        ensures underway { OnOk result ((made : List ℕ → Bool) (unread held : Option (List ℕ)) → IsUnderway (λ s. (⟦<dyn Embedded as Embedded>⟧ s.boxed.vtable).content s.boxed.value) self.new made (first_turn session inc numbers) unread unread held held) }
     {
-        self.make(alloc, inc, numbers)
+        self.make(alloc, session, inc, numbers)
     }
 
     /// Begins a link: nothing was read of it, and nothing is to be written.

@@ -24,7 +24,7 @@ use store_model::fault::StoreFault;
 /// How often a read that a signal interrupted is made again.
 const MOST_TRIES: usize = 1_000;
 
-/// Starts `PATH serve I` as a child for each server, and talks to it on the port that it prints. It waits no longer than its
+/// Starts `PATH serve I S` as a child for each server, and talks to it on the port that it prints. It waits no longer than its
 /// limit for what a server prints and sends. A file and its journal are those of its name. Nothing is sent to a server that another
 /// user runs, where the system tells.
 #[derive(Drop)]
@@ -51,17 +51,18 @@ impl<'a, R: Net + Processes + Files<File = File> + Clock + AllocGlobal> SystemHo
     }
 }
 
-/// Starts `PATH serve I`, reads its port and connects to it. Where that fails, no child is left.
+/// Starts `PATH serve I S`, reads its port and connects to it. Where that fails, no child is left.
 fn launch<R: Net + Processes + Files<File = File> + Clock + AllocGlobal>(
     rt: &R,
     path: &str,
+    session: u32,
     inc: u32,
     limit: Duration,
 ) -> Result<Running<R>, HostFault> {
     let Ok((ours, theirs)) = UnixStream::pair(rt) else {
         return Err(HostFault::Failed);
     };
-    let mut running = spawn(rt, path, inc, OwnedFd::from(theirs))?;
+    let mut running = spawn(rt, path, session, inc, OwnedFd::from(theirs))?;
     let Some(port) = read_port(rt, &ours, limit) else {
         return Err(HostFault::Failed);
     };
@@ -70,20 +71,27 @@ fn launch<R: Net + Processes + Files<File = File> + Clock + AllocGlobal>(
     Ok(running)
 }
 
-/// Starts `PATH serve I` as a child whose standard output is this.
+/// Starts `PATH serve I S` as a child whose standard output is this.
 fn spawn<R: Net + Processes + AllocGlobal>(
     rt: &R,
     path: &str,
+    session: u32,
     inc: u32,
     stdout: OwnedFd,
 ) -> Result<Running<R>, HostFault> {
-    let Ok(word) = format!(in rt.alloc(); "{inc}") else {
+    let Ok(of_session) = format!(in rt.alloc(); "{session}") else {
+        return Err(HostFault::NoMemory);
+    };
+    let Ok(number) = format!(in rt.alloc(); "{inc}") else {
         return Err(HostFault::NoMemory);
     };
     let Ok(mut command) = Command::new(rt.alloc(), path) else {
         return Err(HostFault::NoMemory);
     };
-    if command.arg("serve").is_err() || command.arg(&word).is_err() {
+    let is_whole = command.arg("serve").is_ok()
+        && command.arg(&number).is_ok()
+        && command.arg(&of_session).is_ok();
+    if !is_whole {
         return Err(HostFault::NoMemory);
     }
     match command.stdin(Stdio::null()).stdout(stdout).spawn(rt) {
@@ -241,15 +249,15 @@ impl<'a, R: Net + Processes + Files<File = File> + Clock + AllocGlobal> Host for
 
     ghost told = { λ h. told_in h.history };
 
-    fn start(&mut self, inc: u32) -> Result<(), HostFault> {
-        let result = match launch(self.rt, self.path, inc, self.limit) {
+    fn start(&mut self, session: u32, inc: u32) -> Result<(), HostFault> {
+        let result = match launch(self.rt, self.path, session, inc, self.limit) {
             Ok(running) => match self.servers.push(running) {
                 Ok(()) => Ok(()),
                 Err(_) => Err(HostFault::NoMemory),
             },
             Err(fault) => Err(fault),
         };
-        self.history.started(inc, result.is_ok());
+        self.history.started(session, inc, result.is_ok());
         result
     }
 

@@ -6,7 +6,7 @@ use Rattle.wire_msgs.specs.Found.{nth, set_nth}
 use Rattle.file_model.specs.Denotes.{Denotes}
 use Rattle.document_model.specs.DocOf.{DocOf}
 use Rattle.container_model.specs.Saves as saves
-use Rattle.container_model.specs.Saves.{committed_frame, document_tree, frame_document, name_after, parts_in}
+use Rattle.container_model.specs.Saves.{committed_frame, document_tree, frame_document, name_after, parts_in, session_after}
 use Rattle.container_model.specs.declared.record.Frame.{Frame}
 use Rattle.container_model.specs.declared.record.Object.{Object}
 use Rattle.container_model.specs.declared.record.Phase.TheVariants.{Idle}
@@ -99,7 +99,7 @@ module _ (frames : List Frame) (f : ℕ) (frame : Frame) (os : List Object) (las
   name = name_after frame.name frame.asked
 
   abbrev pub new : Commit
-  new = record { frame = f; k = frame.k; session = frame.session; parts = parts_in f os }
+  new = record { frame = f; k = frame.k; session = session_after frame.session frame.raised; parts = parts_in f os }
 
   last_after : (g : ℕ) → document_in (nth (set_nth counted f (Some (committed new))) g) ≡ last_commit g (h.commits ++ new ∷ [])
   last_after g =
@@ -115,7 +115,7 @@ module _ (frames : List Frame) (f : ℕ) (frame : Frame) (os : List Object) (las
   made_file file e = subst (λ v. IsOfCommit v (h.commits ++ new ∷ [])) (sym e) (record { commit = new; counted = among_new h.commits (new ∷ []) new (inl refl); denotes = denotes; holds = holds })
 
   pub commits_committed : HasCommits (set_nth frames f (committed_frame frame)) (map id_of os) last (put_file (name_after frame.name frame.asked) bytes files)
-      (set_nth counted f (Some (record { k = frame.k; session = frame.session; parts = parts_in f os }))) (dones ++ map (done_entry frame.k) (parts_in f os))
+      (set_nth counted f (Some (record { k = frame.k; session = session_after frame.session frame.raised; parts = parts_in f os }))) (dones ++ map (done_entry frame.k) (parts_in f os))
   commits_committed = record {
     commits = h.commits ++ new ∷ [];
     entries = ap (λ xs. xs ++ map (done_entry frame.k) (parts_in f os)) h.entries ∙ sym (flat_map_more h.commits new);

@@ -60,8 +60,8 @@ pub settled_same : (n : ℕ) (os : List Object) (frames : List Frame) → AreSam
 settled_same n os frames = record { many = length_settled n os frames; from = settled_nth n os frames }
 
 -- a frame that begins to save, asking for the name that it had asked for, or for none
-pub saving_same : (frame : Frame) (asked : Option (List ℕ)) → ((name : List ℕ) → asked ≡ Some name → frame.asked ≡ Some name) → IsSameFrame frame (saving_frame asked frame)
-saving_same frame asked h = record { name = refl; asked = h; stored = refl; below = λ n h. (let l : n ≤ frame.k = h.last in record { last = omega arith; under = λ ne. omega arith }) }
+pub saving_same : (frame : Frame) (raised : Option ℕ) (asked : Option (List ℕ)) → ((name : List ℕ) → asked ≡ Some name → frame.asked ≡ Some name) → IsSameFrame frame (saving_frame raised asked frame)
+saving_same frame raised asked h = record { name = refl; asked = h; stored = refl; below = λ n h. (let l : n ≤ frame.k = h.last in record { last = omega arith; under = λ ne. omega arith }) }
 
 -- a frame that hands off was saving
 handing_saving : (phase : Phase) (asked : Option (List ℕ)) (w : Bool) → hands_off_at phase asked w ≡ true → phase ≢ Idle

@@ -3,7 +3,7 @@ use Rattle.std.proofs.Common.{◌≡◌, ◌≢◌, ◌⊎◌, ◌==◌, ℕ, �
 use Rattle.std.specs.List.{flat_map}
 use Rattle.std.proofs.lemmas.Bool.{eqb-true}
 use Rattle.wire_msgs.specs.Found.{nth, set_nth}
-use Rattle.container_model.specs.Saves.{parts_in, committed_frame}
+use Rattle.container_model.specs.Saves.{parts_in, committed_frame, session_after}
 use Rattle.container_model.specs.declared.answer.Part.{Part}
 use Rattle.container_model.specs.declared.record.Frame.{Frame}
 use Rattle.container_model.specs.declared.record.Object.{Object}
@@ -85,16 +85,16 @@ turn_more (b ∷ cs) c t h = (
 module _ (frames : List Frame) (f : ℕ) (frame : Frame) (os : List Object) (last : ℕ) (cs : List Commit)
     (at : nth frames f ≡ Some frame) (committing : frame.phase ≢ Idle) (a : AreNumbered frames (map id_of os) last) (b : CommitsBounded frames (map id_of os) last cs) where
   abbrev pub made : Commit
-  made = record { frame = f; k = frame.k; session = frame.session; parts = parts_in f os }
+  made = record { frame = f; k = frame.k; session = session_after frame.session frame.raised; parts = parts_in f os }
 
   -- its parts are of objects of the frame
   part_from : (p : Part) → Among (parts_in f os) p → (o : Object) × Among (map id_of os) (id_of o) × (o.frame ≡ f) × (p.object ≡ o.number)
   part_from p g = (let r = parts_of_frame f frame.k os (done_entry frame.k p) (among_map (done_entry frame.k) (parts_in f os) p g) in (r.0, among_map id_of os r.0 r.1, r.2, r.3))
 
-  part_of_it : (c : Commit) (p : Part) → c ≡ record { frame = f; k = frame.k; session = frame.session; parts = parts_in f os } → Among c.parts p → (o : Object) × Among (map id_of os) (id_of o) × (o.frame ≡ f) × (p.object ≡ o.number)
+  part_of_it : (c : Commit) (p : Part) → c ≡ record { frame = f; k = frame.k; session = session_after frame.session frame.raised; parts = parts_in f os } → Among c.parts p → (o : Object) × Among (map id_of os) (id_of o) × (o.frame ≡ f) × (p.object ≡ o.number)
   part_of_it c p e g = part_from p (subst (λ ps. Among ps p) (ap (λ (v : Commit). v.parts) e) g)
 
-  precedes : (c : Commit) → Among cs c → Precedes c (record { frame = f; k = frame.k; session = frame.session; parts = parts_in f os })
+  precedes : (c : Commit) → Among cs c → Precedes c (record { frame = f; k = frame.k; session = session_after frame.session frame.raised; parts = parts_in f os })
   precedes c g = record {
     rising = λ e. (b.below c frame g (ap (nth frames) e ∙ at)).under committing;
     apart = λ p q h i e. (let r = part_from q i in sym (b.owned (id_of r.0) c p r.1 g h (e ∙ r.3)) ∙ r.2);
@@ -114,7 +114,7 @@ module _ (frames : List Frame) (f : ℕ) (frame : Frame) (os : List Object) (las
     ]
   ]
 
-  pub turns_committed : CommitsBounded (set_nth frames f (committed_frame frame)) (map id_of os) last (cs ++ record { frame = f; k = frame.k; session = frame.session; parts = parts_in f os } ∷ [])
+  pub turns_committed : CommitsBounded (set_nth frames f (committed_frame frame)) (map id_of os) last (cs ++ record { frame = f; k = frame.k; session = session_after frame.session frame.raised; parts = parts_in f os } ∷ [])
   turns_committed = record {
     drawn = λ c p g h. elim (among_one cs made c g) [
       | inl old ↦ b.drawn c p old h

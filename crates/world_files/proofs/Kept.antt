@@ -106,9 +106,9 @@ map_one f [] x = refl
 map_one f (y ∷ ys) x = ap (λ vs. f y ∷ vs) (map_one f ys x)
 
 -- a save, under the frame's name or under another one
-files_saving : (w : World) (f : ℕ) (frame : Frame) (name : Option (List ℕ)) → nth w.rec.frames f ≡ Some frame → IsOtherName w.rec f frame name → Files w → Files (joined w (save_made w.rec f frame name))
-files_saving w f frame None at other k = files_quiet w (save_made w.rec f frame None) k (save_quiet w.rec f frame at)
-files_saving w f frame (Some name) at other k =
+files_saving : (w : World) (f : ℕ) (frame : Frame) (raised : Option ℕ) (name : Option (List ℕ)) → nth w.rec.frames f ≡ Some frame → IsOtherName w.rec f frame name → Files w → Files (joined w (save_made w.rec f frame raised name))
+files_saving w f frame raised None at other k = files_quiet w (save_made w.rec f frame raised None) k (save_quiet w.rec f frame raised at)
+files_saving w f frame raised (Some name) at other k =
     let r = w.rec in
     let asking : World = record w { rec = named r f frame name } in
     let asked : Files asking = record {
@@ -117,7 +117,7 @@ files_saving w f frame (Some name) at other k =
       commits = commits_moved r.frames (set_nth r.frames f (record frame { asked = Some name })) (map id_of r.objects) (map id_of r.objects) r.last_object r.last_object w.files w.counted w.container_done
           (λ cs b. turns_asking r.frames f frame name (map id_of r.objects) r.last_object cs at b) k.commits;
     } in
-    let h : Files (joined asking (save_made r f frame (Some name))) = files_quiet asking (save_made r f frame (Some name)) asked (renaming_quiet r f frame name at) in
+    let h : Files (joined asking (save_made r f frame raised (Some name))) = files_quiet asking (save_made r f frame raised (Some name)) asked (renaming_quiet r f frame raised name at) in
     record { counted_bounded = h.counted_bounded; filed = h.filed; commits = h.commits }
 
 -- whatever a command makes
@@ -154,7 +154,7 @@ files_made w _ t s k (makes_server started made) = files_quiet w t k (subst (IsQ
 files_made w _ t s k (makes_end inc alive made) = files_quiet w t k (subst (IsQuiet w.rec) made (same_quiet w.rec _ refl refl refl refl))
 files_made w _ t s k (makes_activation n inc at run made) = files_quiet w t k (subst (IsQuiet w.rec) made (linked_quiet w.rec _ n at.object _ at.found refl refl refl refl))
 files_made w _ t s k (makes_edit n bytes go small has made) = files_quiet w t k (subst (IsQuiet w.rec) made (linked_quiet w.rec _ n go.at.object _ go.at.found refl refl refl refl))
-files_made w _ t s k (makes_save f name at other made) = subst (λ (v : Took). Files (joined w v)) made (files_saving w f at.frame name at.there other k)
+files_made w _ t s k (makes_save f raised name at raising other made) = subst (λ (v : Took). Files (joined w v)) made (files_saving w f at.frame raised name at.there other k)
 files_made w _ t s k (makes_steps n go ts has row made) = files_quiet w t k (subst (IsQuiet w.rec) made (leaving_quiet w.rec n go.at.frame go.at.object go.link ts go.at.found go.at.inside))
 files_made w _ t s k (makes_taking n go ts taking made) = files_quiet w t k (subst (IsQuiet w.rec) made (taking_quiet w.rec n go.at.frame go.at.object go.link ts go.at.found go.at.inside))
 

@@ -43,19 +43,19 @@ moved_quiet : (r : Record) (t : Took) → IsMoved r t.rec → t.answer.frame ≡
 moved_quiet r t h e = record { frames = h.frames; ids = h.ids; last = h.last; frame = e }
 
 -- a save of a frame that asks for no name; one under another name is one of a frame that had asked for it already
-saving_quiet : (r w : Record) (f : ℕ) (frame : Frame) (name : Option (List ℕ)) → AreSameFrames w.frames (saving r f frame name).frames → w.objects ≡ r.objects → w.last_object ≡ r.last_object → IsQuiet w (save_made r f frame name)
-saving_quiet r w f frame name same os last =
-    let v = saving r f frame name in
-    let u = (saving_on r f frame name).rec in
+saving_quiet : (r w : Record) (f : ℕ) (frame : Frame) (raised : Option ℕ) (name : Option (List ℕ)) → AreSameFrames w.frames (saving r f frame raised name).frames → w.objects ≡ r.objects → w.last_object ≡ r.last_object → IsQuiet w (save_made r f frame raised name)
+saving_quiet r w f frame raised name same os last =
+    let v = saving r f frame raised name in
+    let u = (saving_on r f frame raised name).rec in
     let begun : IsMoved w v = record {
       frames = same;
       ids = map_map_same id_of (asked_object f (Save (frame.k + 1))) r.objects (id_asked f (Save (frame.k + 1))) ∙ ap (map id_of) (sym os);
       last = sym last;
     } in
-    moved_quiet w (save_made r f frame name) (moved_settled w u (moved_after w v u begun (handed_moved v f))) refl
+    moved_quiet w (save_made r f frame raised name) (moved_settled w u (moved_after w v u begun (handed_moved v f))) refl
 
-pub save_quiet : (r : Record) (f : ℕ) (frame : Frame) → nth r.frames f ≡ Some frame → IsQuiet r (save_made r f frame None)
-save_quiet r f frame at = saving_quiet r r f frame None (set_same r.frames f frame (saving_frame None frame) at (saving_same frame None (λ name h. cc))) refl refl
+pub save_quiet : (r : Record) (f : ℕ) (frame : Frame) (raised : Option ℕ) → nth r.frames f ≡ Some frame → IsQuiet r (save_made r f frame raised None)
+save_quiet r f frame raised at = saving_quiet r r f frame raised None (set_same r.frames f frame (saving_frame raised None frame) at (saving_same frame raised None (λ name h. cc))) refl refl
 
 -- the record in which a frame asked for a name
 abbrev pub named_frame : List ℕ → Frame → Frame
@@ -64,9 +64,9 @@ named_frame name frame = record frame { asked = Some name }
 abbrev pub named : Record → ℕ → Frame → List ℕ → Record
 named r f frame name = with_frame r f (named_frame name frame)
 
-pub renaming_quiet : (r : Record) (f : ℕ) (frame : Frame) (name : List ℕ) → nth r.frames f ≡ Some frame → IsQuiet (named r f frame name) (save_made r f frame (Some name))
-renaming_quiet r f frame name at = saving_quiet r (named r f frame name) f frame (Some name)
-    (again_same r.frames f frame (named_frame name frame) (saving_frame (Some name) frame) at (saving_same (named_frame name frame) (Some name) (λ n h. h))) refl refl
+pub renaming_quiet : (r : Record) (f : ℕ) (frame : Frame) (raised : Option ℕ) (name : List ℕ) → nth r.frames f ≡ Some frame → IsQuiet (named r f frame name) (save_made r f frame raised (Some name))
+renaming_quiet r f frame raised name at = saving_quiet r (named r f frame name) f frame raised (Some name)
+    (again_same r.frames f frame (named_frame name frame) (saving_frame raised (Some name) frame) at (saving_same (named_frame name frame) raised (Some name) (λ n h. h))) refl refl
 
 -- a commit that failed, and a save that is dropped
 pub doubt_quiet : (r : Record) (f : ℕ) (frame : Frame) → nth r.frames f ≡ Some frame → frame.phase ≢ Idle → IsQuiet r (commit_doubted r f frame)

@@ -25,13 +25,13 @@ pub linked_leaves : (r : Record) (n : ℕ) (x a : Object) → find (is_object n)
 linked_leaves r n x a e k = kept_stay r.objects _ (with_found n r.objects r.objects x a (all_kept r.objects) e k)
 
 -- a whole frame is asked
-pub save_leaves : (r : Record) (f : ℕ) (frame : Frame) (name : Option (List ℕ)) → nth r.frames f ≡ Some frame → Leaves r (save_made r f frame name).rec
-save_leaves r f frame name at =
-    let v = saving r f frame name in
-    let u = (saving_on r f frame name).rec in
+pub save_leaves : (r : Record) (f : ℕ) (frame : Frame) (raised : Option ℕ) (name : Option (List ℕ)) → nth r.frames f ≡ Some frame → Leaves r (save_made r f frame raised name).rec
+save_leaves r f frame raised name at =
+    let v = saving r f frame raised name in
+    let u = (saving_on r f frame raised name).rec in
     let k = handed_on NoClaim NoTools v f in (
       kept_stay r.objects u.objects (kept_further r.objects v.objects u.objects (map_kept _ r.objects (λ o. asked_keeps f _ o)) k.objects),
-      settled_move NoClaim NoTools u.objects r.frames u.frames (k.frames r.frames (one_moves NoClaim NoTools r.frames f frame (saving_frame name frame) at (same frame.ui.state))),
+      settled_move NoClaim NoTools u.objects r.frames u.frames (k.frames r.frames (one_moves NoClaim NoTools r.frames f frame (saving_frame raised name frame) at (same frame.ui.state))),
     )
 
 -- a commit is counted

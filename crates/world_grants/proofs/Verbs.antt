@@ -63,7 +63,7 @@ made_leaves r _ t s (makes_server started made) = subst (λ (v : Took). Leaves r
 made_leaves r _ t s (makes_end inc alive made) = subst (λ (v : Took). Leaves r v.rec) made (leaves_all r r refl refl)
 made_leaves r _ t s (makes_activation n inc at run made) = subst (λ (v : Took). Leaves r v.rec) made (linked_leaves r n at.object _ at.found (record { number = refl; frame = refl }), none_move NoClaim NoTools r.frames)
 made_leaves r _ t s (makes_edit n bytes go small has made) = subst (λ (v : Took). Leaves r v.rec) made (linked_leaves r n go.at.object _ go.at.found (record { number = refl; frame = refl }), none_move NoClaim NoTools r.frames)
-made_leaves r _ t s (makes_save f name at other made) = subst (λ (v : Took). Leaves r v.rec) made (save_leaves r f at.frame name at.there)
+made_leaves r _ t s (makes_save f raised name at raising other made) = subst (λ (v : Took). Leaves r v.rec) made (save_leaves r f at.frame raised name at.there)
 made_leaves r _ t s (makes_steps n go ts has row made) = subst (λ (v : Took). Leaves r v.rec) made (leaving_leaves r n go.at.frame go.at.object go.link ts go.at.found go.at.inside)
 made_leaves r _ t s (makes_taking n go ts taking made) = subst (λ (v : Took). Leaves r v.rec) made (taking_leaves r n go.at.frame go.at.object go.link ts go.at.found go.at.inside)
 

@@ -55,5 +55,5 @@ pub joins : (w : World) (a : Answer) (sent : List Sent) (starts places commits :
     → commits ≡ commits_of a.actions
     → answers ≡ w.answers ++ told.Took (record { frame = a.frame; objects = a.objects; server = a.server; taken = a.taken; refused = a.refused; no_tools = a.no_tools; sent = places; commits = commits }) ∷ []
     → counted ≡ w.counted ++ uncounted a.frame
-    → joined (record w { instances = [] }) (counts_none w.rec a) ≡ started (record w { sent = sent; answers = answers; counted = counted }) w.rec.session w.rec.numbers starts
+    → joined (record w { instances = [] }) (counts_none w.rec a) ≡ started (record w { sent = sent; answers = answers; counted = counted }) starts
 joins w a sent starts places commits answers counted es et ep ec ea en = rw (none_ended a.actions, started_starts w.rec.session w.rec.numbers a.actions, es, ea, et, ep, ec, en) refl

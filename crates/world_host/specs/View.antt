@@ -20,6 +20,6 @@ bare l = record {
   hostile = l.hostile.items;
 }
 
--- the same with new servers of these incarnations
-abbrev pub started : World → ℕ → ℕ → List ℕ → World
-started w session numbers starts = record w { instances = map (fresh session numbers) starts }
+-- a world with new servers of these incarnations alone
+abbrev pub started : World → List ℕ → World
+started w starts = record w { instances = map (fresh w.rec.session w.rec.numbers) starts }

@@ -174,7 +174,7 @@ impl Host {
     ) -> Result<Servers, AllocError>
         requires image { image self.old.core f ≡ Ok saved }
         requires committing { is_committing_in (nth self.old.core.frames f) ≡ true }
-        ensures taken { IfOk result (λ s. done (bare self.old) f bytes.items ≡ Ok (started (bare self.new) self.new.core.session self.new.core.numbers s.starts.items)) }
+        ensures taken { IfOk result (λ s. done (bare self.old) f bytes.items ≡ Ok (started (bare self.new) s.starts.items)) }
         ensures ends { IfOk result (λ s. s.ends.items ≡ ends_in (commit_done self.old.core f)) }
         ensures few { IfOk result (λ s. vec_len s.starts ≤ most self.old.core) }
         ensures kept { OnErr result (bare self.new ≡ bare self.old) }
@@ -205,7 +205,7 @@ impl Host {
     /// Refused: `NotEnabled` where the commit isn't asked for; then `EventLimit`; then `NoMemory`. Then nothing changes.
     pub fn done(&mut self, alloc: Global, f: u32, room: bool) -> Result<Servers, Stop>
         ensures room { OnOk result (room ≡ true) }
-        ensures taken { IfOk result (λ s. (bytes : List ℕ) × IsImage (bare self.old) (making bytes) (event.Done f) × (limited (bare self.old) (done (bare self.old) f bytes) ≡ Ok (started (bare self.new) self.new.core.session self.new.core.numbers s.starts.items))) }
+        ensures taken { IfOk result (λ s. (bytes : List ℕ) × IsImage (bare self.old) (making bytes) (event.Done f) × (limited (bare self.old) (done (bare self.old) f bytes) ≡ Ok (started (bare self.new) s.starts.items))) }
         ensures ends { IfOk result (λ s. s.ends.items ≡ ends_in (commit_done self.old.core f)) }
         ensures few { IfOk result (λ s. vec_len s.starts ≤ most self.old.core) }
         ensures refused { IfErr result (λ stop. (bytes : List ℕ) → Refuses (limited (bare self.old) (done (bare self.old) f bytes)) stop) }

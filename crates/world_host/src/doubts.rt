@@ -36,7 +36,7 @@ impl Host {
     // What a commit that fails leaves.
     fn doubt(&mut self, alloc: Global, f: u32) -> Result<Servers, AllocError>
         requires { is_committing_in (nth self.old.core.frames f) ≡ true }
-        ensures taken { IfOk result (λ s. only_taken (bare self.old) (commit_failed self.old.core f) ≡ Ok (started (bare self.new) self.new.core.session self.new.core.numbers s.starts.items)) }
+        ensures taken { IfOk result (λ s. only_taken (bare self.old) (commit_failed self.old.core f) ≡ Ok (started (bare self.new) s.starts.items)) }
         ensures ends { IfOk result (λ s. s.ends.items ≡ ends_in (commit_failed self.old.core f)) }
         ensures few { IfOk result (λ s. vec_len s.starts ≤ most self.old.core) }
         ensures kept { OnErr result (bare self.new ≡ bare self.old) }
@@ -51,7 +51,7 @@ impl Host {
     // What a commit leaves that is lost.
     fn lose(&mut self, alloc: Global, f: u32) -> Result<Servers, AllocError>
         requires { is_doubtful_in (nth self.old.core.frames f) ≡ true }
-        ensures taken { IfOk result (λ s. only_taken (bare self.old) (resolve self.old.core f false) ≡ Ok (started (bare self.new) self.new.core.session self.new.core.numbers s.starts.items)) }
+        ensures taken { IfOk result (λ s. only_taken (bare self.old) (resolve self.old.core f false) ≡ Ok (started (bare self.new) s.starts.items)) }
         ensures ends { IfOk result (λ s. s.ends.items ≡ ends_in (resolve self.old.core f false)) }
         ensures few { IfOk result (λ s. vec_len s.starts ≤ most self.old.core) }
         ensures kept { OnErr result (bare self.new ≡ bare self.old) }
@@ -73,7 +73,7 @@ impl Host {
     ) -> Result<Servers, AllocError>
         requires image { image self.old.core f ≡ Ok saved }
         requires doubtful { is_doubtful_in (nth self.old.core.frames f) ≡ true }
-        ensures taken { IfOk result (λ s. resolved (bare self.old) f true bytes.items ≡ Ok (started (bare self.new) self.new.core.session self.new.core.numbers s.starts.items)) }
+        ensures taken { IfOk result (λ s. resolved (bare self.old) f true bytes.items ≡ Ok (started (bare self.new) s.starts.items)) }
         ensures ends { IfOk result (λ s. s.ends.items ≡ ends_in (resolve self.old.core f true)) }
         ensures few { IfOk result (λ s. vec_len s.starts ≤ most self.old.core) }
         ensures kept { OnErr result (bare self.new ≡ bare self.old) }
@@ -104,7 +104,7 @@ impl Host {
     /// Refused: `NotEnabled` where the commit isn't asked for; then `EventLimit`; then `NoMemory`. Then nothing changes.
     pub fn fail(&mut self, alloc: Global, f: u32, room: bool) -> Result<Servers, Stop>
         ensures room { OnOk result (room ≡ true) }
-        ensures taken { IfOk result (λ s. limited (bare self.old) (only_taken (bare self.old) (commit_failed self.old.core f)) ≡ Ok (started (bare self.new) self.new.core.session self.new.core.numbers s.starts.items)) }
+        ensures taken { IfOk result (λ s. limited (bare self.old) (only_taken (bare self.old) (commit_failed self.old.core f)) ≡ Ok (started (bare self.new) s.starts.items)) }
         ensures ends { IfOk result (λ s. s.ends.items ≡ ends_in (commit_failed self.old.core f)) }
         ensures few { IfOk result (λ s. vec_len s.starts ≤ most self.old.core) }
         ensures refused { IfErr result (Refuses (limited (bare self.old) (only_taken (bare self.old) (commit_failed self.old.core f)))) }
@@ -131,7 +131,7 @@ impl Host {
     /// Refused: `NotEnabled` where no commit of the frame is in doubt; then `EventLimit`; then `NoMemory`. Then nothing changes.
     pub fn resolve_lost(&mut self, alloc: Global, f: u32, room: bool) -> Result<Servers, Stop>
         ensures room { OnOk result (room ≡ true) }
-        ensures taken { IfOk result (λ s. limited (bare self.old) (only_taken (bare self.old) (resolve self.old.core f false)) ≡ Ok (started (bare self.new) self.new.core.session self.new.core.numbers s.starts.items)) }
+        ensures taken { IfOk result (λ s. limited (bare self.old) (only_taken (bare self.old) (resolve self.old.core f false)) ≡ Ok (started (bare self.new) s.starts.items)) }
         ensures ends { IfOk result (λ s. s.ends.items ≡ ends_in (resolve self.old.core f false)) }
         ensures few { IfOk result (λ s. vec_len s.starts ≤ most self.old.core) }
         ensures refused { IfErr result (Refuses (limited (bare self.old) (only_taken (bare self.old) (resolve self.old.core f false)))) }
@@ -158,7 +158,7 @@ impl Host {
     /// Refused: `NotEnabled` where no commit of the frame is in doubt; then `EventLimit`; then `NoMemory`. Then nothing changes.
     pub fn resolve_kept(&mut self, alloc: Global, f: u32, room: bool) -> Result<Servers, Stop>
         ensures room { OnOk result (room ≡ true) }
-        ensures taken { IfOk result (λ s. (bytes : List ℕ) × IsImage (bare self.old) (making bytes) (event.Resolve f true) × (limited (bare self.old) (resolved (bare self.old) f true bytes) ≡ Ok (started (bare self.new) self.new.core.session self.new.core.numbers s.starts.items))) }
+        ensures taken { IfOk result (λ s. (bytes : List ℕ) × IsImage (bare self.old) (making bytes) (event.Resolve f true) × (limited (bare self.old) (resolved (bare self.old) f true bytes) ≡ Ok (started (bare self.new) s.starts.items))) }
         ensures ends { IfOk result (λ s. s.ends.items ≡ ends_in (resolve self.old.core f true)) }
         ensures few { IfOk result (λ s. vec_len s.starts ≤ most self.old.core) }
         ensures refused { IfErr result (λ stop. (bytes : List ℕ) → Refuses (limited (bare self.old) (resolved (bare self.old) f true bytes)) stop) }

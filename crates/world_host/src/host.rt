@@ -283,7 +283,7 @@ impl Host {
     pub(crate) fn join(&mut self, alloc: Global, answer: Answer, room: Room) -> Servers
         requires logs { HasLogRoom (length answer.actions) self.old }
         requires room { IsRoom (length answer.actions) room }
-        ensures joined { joined (bare self.old) (counts_none self.old.core answer) ≡ started (bare self.new) self.old.core.session self.old.core.numbers result.starts.items }
+        ensures joined { joined (bare self.old) (counts_none self.old.core answer) ≡ started (bare self.new) result.starts.items }
         ensures ends { result.ends.items ≡ ends_of answer.actions }
         ensures few { length result.starts.items ≤ length answer.actions }
     {
@@ -351,7 +351,7 @@ impl Host {
     ///
     /// Refused for want of memory alone. Then nothing changes.
     pub fn command(&mut self, alloc: Global, command: &Command) -> Result<Servers, AllocError>
-        ensures taken { IfOk result (λ s. commanded (bare self.old) command.now (on_command self.old.core command.now) ≡ started (bare self.new) self.new.core.session self.new.core.numbers s.starts.items) }
+        ensures taken { IfOk result (λ s. commanded (bare self.old) command.now (on_command self.old.core command.now) ≡ started (bare self.new) s.starts.items) }
         ensures ends { IfOk result (λ s. s.ends.items ≡ ends_in (on_command self.old.core command.now)) }
         ensures few { IfOk result (λ s. vec_len s.starts ≤ most self.old.core) }
         ensures kept { OnErr result (bare self.new ≡ bare self.old) }
@@ -379,7 +379,7 @@ impl Host {
         link: ServerLink,
         message: Message,
     ) -> Result<Servers, AllocError>
-        ensures taken { IfOk result (λ s. heard (bare self.old) (Some place) link message ≡ started (bare self.new) self.new.core.session self.new.core.numbers s.starts.items) }
+        ensures taken { IfOk result (λ s. heard (bare self.old) (Some place) link message ≡ started (bare self.new) s.starts.items) }
         ensures ends { IfOk result (λ s. s.ends.items ≡ ends_in (on_message self.old.core link message)) }
         ensures few { IfOk result (λ s. vec_len s.starts ≤ most self.old.core) }
         ensures kept { OnErr result (bare self.new ≡ bare self.old) }
@@ -407,7 +407,7 @@ impl Host {
         inc: u32,
         message: Message,
     ) -> Result<Servers, AllocError>
-        ensures taken { IfOk result (λ s. forged (bare self.old) inc message ≡ started (bare self.new) self.new.core.session self.new.core.numbers s.starts.items) }
+        ensures taken { IfOk result (λ s. forged (bare self.old) inc message ≡ started (bare self.new) s.starts.items) }
         ensures ends { IfOk result (λ s. s.ends.items ≡ ends_in (on_message self.old.core (record { session = self.old.core.session; inc = inc }) message)) }
         ensures few { IfOk result (λ s. vec_len s.starts ≤ most self.old.core) }
         ensures kept { OnErr result (bare self.new ≡ bare self.old) }
@@ -438,7 +438,7 @@ impl Host {
     ///
     /// Refused for want of memory alone. Then nothing changes.
     pub fn reap(&mut self, alloc: Global, inc: u32) -> Result<Servers, AllocError>
-        ensures taken { IfOk result (λ s. took (bare self.old) (on_reap self.old.core inc) ≡ started (bare self.new) self.new.core.session self.new.core.numbers s.starts.items) }
+        ensures taken { IfOk result (λ s. took (bare self.old) (on_reap self.old.core inc) ≡ started (bare self.new) s.starts.items) }
         ensures ends { IfOk result (λ s. s.ends.items ≡ ends_in (on_reap self.old.core inc)) }
         ensures few { IfOk result (λ s. vec_len s.starts ≤ most self.old.core) }
         ensures kept { OnErr result (bare self.new ≡ bare self.old) }

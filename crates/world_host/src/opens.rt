@@ -37,7 +37,7 @@ impl Host {
         width: u16,
         height: u16,
     ) -> Result<Servers, AllocError>
-        ensures taken { IfOk result (λ s. (given : Given) × IsImage (bare self.old) (giving given) (event.Open name.now width height) × (took (bare self.old) (opened self.old.core name.now width height given) ≡ started (bare self.new) self.new.core.session self.new.core.numbers s.starts.items)) }
+        ensures taken { IfOk result (λ s. (given : Given) × IsImage (bare self.old) (giving given) (event.Open name.now width height) × (took (bare self.old) (opened self.old.core name.now width height given) ≡ started (bare self.new) s.starts.items)) }
         ensures ends { IfOk result (λ s. s.ends.items ≡ []) }
         ensures few { IfOk result (λ s. vec_len s.starts ≤ most self.old.core) }
         ensures kept { OnErr result (bare self.new ≡ bare self.old) }

@@ -6,11 +6,11 @@ use Rattle.container_model.specs.Opens.{Given}
 use Rattle.container_model.specs.declared.fault.ContainerFault.TheVariants.{Busy, NoSuch}
 use Rattle.world_model.specs.declared.logs.EventAnswer.TheVariants.{Refused}
 use Rattle.world_model.specs.OpenRuns.{stored_note}
-use Rattle.world_model.specs.Report.{frame_line, object_line, done_line}
+use Rattle.world_model.specs.Report.{frame_line, object_line, done_line, session_line}
 use Rattle.world_model.specs.RenameRuns.{AreRenamed, IsNamed, IsRenamed, IsRenamedPassive, IsReopened, IsUnrenamed, opened_again, opened_as, renamed_answers}
 
 pub is_renamed : IsRenamed
-unfolding digits frame_line object_line done_line picture_of
+unfolding digits frame_line object_line done_line session_line picture_of
 is_renamed = record { answers = refl; told = refl; away = refl }
 
 borne : opened_as (codes "b") Given.Missing ≡ renamed_answers ++ Refused Busy ∷ []
@@ -30,11 +30,11 @@ unfolding picture_of
 is_reopened = record { borne = borne; old = old; missing = missing; undelivered = refl }
 
 pub is_renamed_passive : IsRenamedPassive
-unfolding digits frame_line object_line done_line picture_of
+unfolding digits frame_line object_line done_line session_line picture_of
 is_renamed_passive = record { answers = refl; told = refl; passive_answers = refl; passive_told = refl }
 
 pub is_unrenamed : IsUnrenamed
-unfolding digits frame_line object_line done_line picture_of
+unfolding digits frame_line object_line done_line session_line picture_of
 is_unrenamed = record { answers = refl; told = refl }
 
 pub is_named : IsNamed

@@ -7,10 +7,10 @@ use Rattle.document_model.specs.Documents.{no_objects}
 use Rattle.document_model.specs.declared.object.DocObject.{DocObject}
 use Rattle.container_model.specs.Opens.{Given}
 use Rattle.container_model.specs.declared.record.Frame.{Frame}
-use Rattle.container_model.specs.declared.command.Command.TheVariants.{Run, Edit}
+use Rattle.container_model.specs.declared.command.Command.TheVariants.{Run, Session}
 use Rattle.container_model.specs.declared.fault.ContainerFault.TheVariants.{BadFile, Busy, Full, NoSuch, NumbersSpent, UnknownClass, WrongState}
 use Rattle.world_model.specs.declared.event.Event.{Event}
-use Rattle.world_model.specs.declared.event.Event.TheVariants.{Command, Deliver, Open}
+use Rattle.world_model.specs.declared.event.Event.TheVariants.{Command, Deliver, Done, Open}
 use Rattle.world_model.specs.declared.event.Stop.{Stop}
 use Rattle.world_model.specs.declared.logs.EventAnswer.{EventAnswer}
 use Rattle.world_model.specs.declared.logs.EventAnswer.TheVariants.{Took, Refused}
@@ -58,9 +58,10 @@ opened_answer = Took (record quiet_outcome { frame = Some 2; objects = 2 ∷ 3 �
 
 pub record IsOpenedBeside : Type 0 where
   pub answers : answered opened_beside ≡ answered (from_two edited) ++ opened_answer ∷ []
-  pub session : sessions opened_beside ≡ 0 ∷ 7 ∷ []
+  pub session : sessions opened_beside ≡ 1 ∷ 7 ∷ []
   pub told : reported opened_beside ≡ lines (
-      codes "frame 1 a Free k 0 none"
+      codes "session 1"
+      ∷ codes "frame 1 a Free k 1 stored"
       ∷ codes "frame 2 b Free k 0 stored"
       ∷ codes "object 1 frame 1 Note Running Normal act 1 s 1 -"
       ∷ codes "object 2 frame 2 Note Passive Text=6162"
@@ -68,7 +69,8 @@ pub record IsOpenedBeside : Type 0 where
       ∷ [])
   pub run : answered (ran opened_beside run_then) ≡ answered opened_beside ++ Refused UnknownClass ∷ sent 5 ∷ sent 6 ∷ ok ∷ object 4 ∷ []
   pub run_told : reported (ran opened_beside run_then) ≡ lines (
-      codes "frame 1 a Free k 0 none"
+      codes "session 1"
+      ∷ codes "frame 1 a Free k 1 stored"
       ∷ codes "frame 2 b Free k 0 stored"
       ∷ codes "object 1 frame 1 Note Running Normal act 1 s 1 -"
       ∷ codes "object 2 frame 2 Note Running Normal act 2 s 1 Text=6162"
@@ -94,6 +96,26 @@ pub record IsUnopened : Type 0 where
   pub two_frames : answered (opens (codes "b") 40 10 nothing_held (numbered 1 (frame_named 97 ∷ []))) ≡ frame 1 ∷ Refused NumbersSpent ∷ []
   pub three_objects : answered (opens (codes "b") 40 10 both (numbered 2 (frame_named 97 ∷ new_note ∷ []))) ≡ frame 1 ∷ object 1 ∷ Refused NumbersSpent ∷ []
 
+-- A container whose first frame is that file gets the next session, unless no number is left.
+abbrev pub opened_first : ℕ → Result World Stop
+opened_first numbers = opens (codes "b") 40 10 both (numbered numbers [])
+
+abbrev pub raised : Result World Stop
+raised = ran (opened_first 8) (Command Session ∷ Done 1 ∷ [])
+
+pub record IsRaisedFurther : Type 0 where
+  pub session : sessions raised ≡ 8 ∷ []
+  pub told : reported raised ≡ lines (
+      codes "session 8"
+      ∷ codes "frame 1 b Free k 1 stored"
+      ∷ codes "object 1 frame 1 Note Passive Text=6162"
+      ∷ codes "object 2 frame 1 6f1d2a09-3c4b-4e5f-8a9b-0c1d2e3f4051 Passive -"
+      ∷ codes "done container 1 1"
+      ∷ codes "done container 2 1"
+      ∷ [])
+  pub spent : answered (ran (opened_first 7) (Command Session ∷ [])) ≡ answered (opened_first 7) ++ Refused NumbersSpent ∷ []
+
 pub record IsOpened : Type 0 where
   pub is_opened_beside : IsOpenedBeside
   pub is_unopened : IsUnopened
+  pub is_raised_further : IsRaisedFurther

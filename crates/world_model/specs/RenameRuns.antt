@@ -9,7 +9,7 @@ use Rattle.world_model.specs.declared.event.Stop.TheVariants.{NotEnabled}
 use Rattle.world_model.specs.declared.logs.EventAnswer.{EventAnswer}
 use Rattle.world_model.specs.declared.logs.EventAnswer.TheVariants.{Took, Refused}
 use Rattle.world_model.specs.World.{quiet_outcome}
-use Rattle.world_model.specs.Runs.{answered, commit, completed, crashed_late, frame, frame_named, from_start, lines, object, ok, ran, server, reported, sent}
+use Rattle.world_model.specs.Runs.{answered, begun_answers, commit, completed, crashed_late, frame, frame_named, from_start, lines, object, ok, ran, server, reported, sent}
 use Rattle.world_model.specs.OpenRuns.{opens, stored_note}
 
 abbrev pub renaming : Event
@@ -31,23 +31,25 @@ abbrev pub opened_again : EventAnswer
 opened_again = Took (record quiet_outcome { frame = Some 2; objects = 2 ∷ [] })
 
 abbrev pub renamed_answers : List EventAnswer
-renamed_answers = frame 1 ∷ object 1 ∷ server 1 ∷ sent 1 ∷ sent 2 ∷ ok ∷ sent 3 ∷ sent 4 ∷ ok ∷ sent 5 ∷ sent 6 ∷ commit 1 ∷ sent 7 ∷ sent 8 ∷ ok ∷ sent 9 ∷ sent 10 ∷ sent 11 ∷ sent 12 ∷ commit 1 ∷ sent 13 ∷ sent 14 ∷ ok ∷ []
+renamed_answers = begun_answers ++ object 1 ∷ server 1 ∷ sent 1 ∷ sent 2 ∷ ok ∷ sent 3 ∷ sent 4 ∷ ok ∷ sent 5 ∷ sent 6 ∷ commit 1 ∷ sent 7 ∷ sent 8 ∷ ok ∷ sent 9 ∷ sent 10 ∷ sent 11 ∷ sent 12 ∷ commit 1 ∷ sent 13 ∷ sent 14 ∷ ok ∷ []
 
 pub record IsRenamed : Type 0 where
   pub answers : answered (from_start renamed) ≡ renamed_answers
   pub told : reported (from_start renamed) ≡ lines (
-      codes "frame 1 b Free k 2 stored"
+      codes "session 1"
+      ∷ codes "frame 1 b Free k 3 stored"
       ∷ codes "object 1 frame 1 Note Running Normal act 1 s 3 Text=6162"
-      ∷ codes "done container 1 1"
       ∷ codes "done container 1 2"
-      ∷ codes "done server 1 1"
+      ∷ codes "done container 1 3"
       ∷ codes "done server 1 2"
+      ∷ codes "done server 1 3"
       ∷ [])
   pub away : reported (from_start handed_off) ≡ lines (
-      codes "frame 1 a Free k 2 stored"
+      codes "session 1"
+      ∷ codes "frame 1 a Free k 3 stored"
       ∷ codes "object 1 frame 1 Note Running HandsOff act 1 s 2 Text=6162"
-      ∷ codes "done container 1 1"
-      ∷ codes "done server 1 1"
+      ∷ codes "done container 1 2"
+      ∷ codes "done server 1 2"
       ∷ [])
 
 -- The name is borne then, and the old one free: its file is opened.
@@ -71,18 +73,20 @@ renamed_passive = crashed_late ++ renaming ∷ Done 1 ∷ []
 pub record IsRenamedPassive : Type 0 where
   pub answers : answered (from_start crashed_away) ≡ answered (from_start asked_away) ++ ok ∷ commit 1 ∷ ok ∷ []
   pub told : reported (from_start crashed_away) ≡ lines (
-      codes "frame 1 b Free k 2 stored"
+      codes "session 1"
+      ∷ codes "frame 1 b Free k 3 stored"
       ∷ codes "object 1 frame 1 Note Passive Text=6162"
-      ∷ codes "done container 1 1"
       ∷ codes "done container 1 2"
-      ∷ codes "done server 1 1"
+      ∷ codes "done container 1 3"
+      ∷ codes "done server 1 2"
       ∷ [])
   pub passive_answers : answered (from_start renamed_passive) ≡ answered (from_start crashed_late) ++ commit 1 ∷ ok ∷ []
   pub passive_told : reported (from_start renamed_passive) ≡ lines (
-      codes "frame 1 b Free k 2 stored"
+      codes "session 1"
+      ∷ codes "frame 1 b Free k 3 stored"
       ∷ codes "object 1 frame 1 Note Passive Text=6162"
-      ∷ codes "done container 1 1"
       ∷ codes "done container 1 2"
+      ∷ codes "done container 1 3"
       ∷ [])
 
 -- A commit under another name that fails and is lost: the frame keeps its name, and the note gets a storage.
@@ -92,10 +96,11 @@ unrenamed = handed_off ++ Fail 1 ∷ renaming ∷ Resolve 1 false ∷ Deliver 13
 pub record IsUnrenamed : Type 0 where
   pub answers : answered (from_start unrenamed) ≡ answered (from_start handed_off) ++ ok ∷ Refused InDoubt ∷ sent 13 ∷ sent 14 ∷ ok ∷ []
   pub told : reported (from_start unrenamed) ≡ lines (
-      codes "frame 1 a Free k 2 stored"
+      codes "session 1"
+      ∷ codes "frame 1 a Free k 3 stored"
       ∷ codes "object 1 frame 1 Note Running Normal act 1 s 3 Text=6162"
-      ∷ codes "done container 1 1"
-      ∷ codes "done server 1 1"
+      ∷ codes "done container 1 2"
+      ∷ codes "done server 1 2"
       ∷ [])
 
 -- Names: another frame's, and one that another frame asked for, are busy; its own isn't another. While the frame is saved

@@ -1,5 +1,5 @@
--- The report of a world, as bytes: a line for each frame, for each object, for each activation that has a frame's grant, and
--- for each content that was counted.
+-- The report of a world, as bytes: a line for the container's session, for each frame, for each object, for each activation that
+-- has a frame's grant, and for each content that was counted.
 use Rattle.std.specs.Prelude.{◌+◌, ◌++◌, ℕ, List, [], ◌∷◌, map, Option, Some, None, if◌then◌else◌, codes}
 use Rattle.std.specs.List.{flat_map}
 use Rattle.std.specs.Fmt.{decimal}
@@ -25,6 +25,10 @@ use Rattle.server_model.specs.declared.hold.Hold.{Hold}
 use Rattle.world_model.specs.declared.life.Life.{Life}
 use Rattle.world_model.specs.declared.life.Life.TheVariants as life
 use Rattle.world_model.specs.World.{Instance, World}
+
+-- The session, 0 before one is counted.
+unfoldable pub session_line : ℕ → List ℕ
+session_line s = line (codes "session" ∷ decimal s ∷ [])
 
 -- Frames, by their numbers: who has the frame or is to get it, the number of the last save, and whether there is a file.
 abbrev pub grant_text : GrantState → List ℕ
@@ -112,9 +116,10 @@ abbrev pub hold_lines : ℕ → List (List Hold) → List ℕ
 hold_lines inc [] = []
 hold_lines inc (holds ∷ rest) = flat_map (hold_line inc) holds ++ hold_lines (inc + 1) rest
 
--- the report of a container's frames and objects, of who holds frames, by server, and of both logs
-abbrev pub report_of : List Frame → List Object → List (List Hold) → List Done → List ServerDone → List ℕ
-report_of frames objects holds container_done server_done = frame_lines 1 frames ++ flat_map object_line objects ++ hold_lines 1 holds ++ flat_map container_line container_done ++ flat_map server_line server_done
+-- the report of a container's session, frames and objects, of who holds frames, by server, and of both logs
+abbrev pub report_of : ℕ → List Frame → List Object → List (List Hold) → List Done → List ServerDone → List ℕ
+report_of session frames objects holds container_done server_done =
+    session_line session ++ frame_lines 1 frames ++ flat_map object_line objects ++ hold_lines 1 holds ++ flat_map container_line container_done ++ flat_map server_line server_done
 
 abbrev pub report : World → List ℕ
-report w = report_of w.rec.frames w.rec.objects (map held_by w.instances) w.container_done w.server_done
+report w = report_of w.rec.session w.rec.frames w.rec.objects (map held_by w.instances) w.container_done w.server_done

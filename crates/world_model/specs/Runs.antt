@@ -1,4 +1,5 @@
--- Worked runs: a note that is made, edited and saved, and what becomes of it where its server crashes.
+-- Worked runs: a container gets its session; a note that is made, edited and saved, and what becomes of it where its server
+-- crashes.
 use Rattle.std.specs.Prelude.{◌≡◌, ◌++◌, ℕ, Bool, true, false, List, [], ◌∷◌, map, Some, None, Result, Ok, Err, codes}
 use Rattle.std.specs.List.{flat_map, range_with_len}
 use Rattle.object_state.specs.declared.operations.CloseOption.TheVariants.{SaveIfDirty}
@@ -9,7 +10,7 @@ use Rattle.grant_core.specs.declared.grant_states.GrantState.TheVariants.{Granti
 use Rattle.object_parts.specs.declared.area.Area.{Area}
 use Rattle.container_model.specs.declared.record.Frame.{Frame}
 use Rattle.container_model.specs.declared.record.Phase.TheVariants.{Idle, InDoubt}
-use Rattle.container_model.specs.declared.command.Command.TheVariants.{New, Insert, Start, Run, Edit, Save, Delete, Kill, Close}
+use Rattle.container_model.specs.declared.command.Command.TheVariants.{New, Insert, Session, Start, Run, Edit, Save, SaveAs, Delete, Kill, Close}
 use Rattle.container_model.specs.declared.command.ObjectKind.TheVariants as chosen
 use Rattle.container_model.specs.declared.fault.ContainerFault.TheVariants.{NoSuch, Busy, Full, InDoubt as Doubtful, NumbersSpent, Stale, WrongState}
 use Rattle.world_model.specs.declared.event.Event.{Event}
@@ -76,9 +77,16 @@ new_note = Command (Insert 1 chosen.Note whole)
 abbrev pub typing : Event
 typing = Command (Edit 1 (codes "i 0 ab"))
 
+-- a frame is made, whose document gets the first session
+abbrev pub begun : List Event
+begun = new_frame ∷ Command Session ∷ Done 1 ∷ []
+
+abbrev pub begun_answers : List EventAnswer
+begun_answers = frame 1 ∷ commit 1 ∷ ok ∷ []
+
 -- the note is made, started and edited
 abbrev pub edited : List Event
-edited = new_frame ∷ new_note ∷ Command Start ∷ Command (Run 1 1) ∷ Deliver 1 ∷ Deliver 2 ∷ typing ∷ Deliver 3 ∷ Deliver 4 ∷ []
+edited = begun ++ new_note ∷ Command Start ∷ Command (Run 1 1) ∷ Deliver 1 ∷ Deliver 2 ∷ typing ∷ Deliver 3 ∷ Deliver 4 ∷ []
 
 -- then saved, up to its commit
 abbrev pub saved : List Event
@@ -93,12 +101,13 @@ from_start es = ran (Ok (empty_world 1000 (Note ∷ []))) es
 
 -- What each event of the whole run is answered, and what is reported then.
 pub record IsSaved : Type 0 where
-  pub answers : answered (from_start completed) ≡ frame 1 ∷ object 1 ∷ server 1 ∷ sent 1 ∷ sent 2 ∷ ok ∷ sent 3 ∷ sent 4 ∷ ok ∷ sent 5 ∷ sent 6 ∷ commit 1 ∷ sent 7 ∷ sent 8 ∷ ok ∷ []
+  pub answers : answered (from_start completed) ≡ begun_answers ++ object 1 ∷ server 1 ∷ sent 1 ∷ sent 2 ∷ ok ∷ sent 3 ∷ sent 4 ∷ ok ∷ sent 5 ∷ sent 6 ∷ commit 1 ∷ sent 7 ∷ sent 8 ∷ ok ∷ []
   pub told : reported (from_start completed) ≡ lines (
-      codes "frame 1 a Free k 1 stored"
+      codes "session 1"
+      ∷ codes "frame 1 a Free k 2 stored"
       ∷ codes "object 1 frame 1 Note Running Normal act 1 s 2 Text=6162"
-      ∷ codes "done container 1 1"
-      ∷ codes "done server 1 1"
+      ∷ codes "done container 1 2"
+      ∷ codes "done server 1 2"
       ∷ [])
 
 -- A server that crashes before the save: the note is as it was when it was made, and another server may start.
@@ -108,7 +117,8 @@ crashed_early = edited ++ Crash 1 1 ∷ Reap 1 ∷ Command Start ∷ []
 pub record IsLost : Type 0 where
   pub answers : answered (from_start crashed_early) ≡ answered (from_start edited) ++ ok ∷ ok ∷ server 2 ∷ []
   pub told : reported (from_start crashed_early) ≡ lines (
-      codes "frame 1 a Free k 0 none"
+      codes "session 1"
+      ∷ codes "frame 1 a Free k 1 stored"
       ∷ codes "object 1 frame 1 Note Passive -"
       ∷ [])
 
@@ -119,9 +129,10 @@ crashed_late = saved ++ Crash 1 1 ∷ Reap 1 ∷ Done 1 ∷ []
 pub record IsKept : Type 0 where
   pub answers : answered (from_start crashed_late) ≡ answered (from_start saved) ++ ok ∷ ok ∷ ok ∷ []
   pub told : reported (from_start crashed_late) ≡ lines (
-      codes "frame 1 a Free k 1 stored"
+      codes "session 1"
+      ∷ codes "frame 1 a Free k 2 stored"
       ∷ codes "object 1 frame 1 Note Passive Text=6162"
-      ∷ codes "done container 1 1"
+      ∷ codes "done container 1 2"
       ∷ [])
 
 -- A commit that fails: its frame is in doubt, and takes no edit, until it is resolved. Kept, it is as one that was done. Lost,
@@ -140,11 +151,13 @@ pub record IsResolved : Type 0 where
   pub kept_told : reported (from_start (resolved_as true)) ≡ reported (from_start completed)
   pub lost_answers : answered (from_start (resolved_as false)) ≡ resolved_answers
   pub lost_told : reported (from_start (resolved_as false)) ≡ lines (
-      codes "frame 1 a Free k 1 none"
+      codes "session 1"
+      ∷ codes "frame 1 a Free k 2 stored"
       ∷ codes "object 1 frame 1 Note Running Normal act 1 s 2 -"
       ∷ [])
   pub in_doubt : reported (from_start (saved ++ Fail 1 ∷ [])) ≡ lines (
-      codes "frame 1 a Free k 1 doubt"
+      codes "session 1"
+      ∷ codes "frame 1 a Free k 2 doubt"
       ∷ codes "object 1 frame 1 Note Running NoScribble act 1 s 1 -"
       ∷ [])
   pub not_asked : from_start (edited ++ Fail 1 ∷ []) ≡ Err NotEnabled
@@ -169,23 +182,25 @@ reloaded = crashed_late ++ Command Start ∷ Command (Run 1 2) ∷ Deliver 7 ∷
 pub record IsReloaded : Type 0 where
   pub answers : answered (from_two reloaded) ≡ answered (from_two crashed_late) ++ server 2 ∷ sent 7 ∷ sent 8 ∷ ok ∷ []
   pub told : reported (from_two reloaded) ≡ lines (
-      codes "frame 1 a Free k 1 stored"
+      codes "session 1"
+      ∷ codes "frame 1 a Free k 2 stored"
       ∷ codes "object 1 frame 1 Note Running Normal act 2 s 1 Text=6162"
-      ∷ codes "done container 1 1"
+      ∷ codes "done container 1 2"
       ∷ [])
   pub out_of_stock : from_start reloaded ≡ Err OutOfStock
 
 -- A note that is asked is busy until it has answered, and one that refuses an edit stays as it was.
 abbrev pub misedited : List Event
-misedited = new_frame ∷ new_note ∷ Command Start ∷ Command (Run 1 1) ∷ typing ∷ Deliver 1 ∷ Deliver 2 ∷ Command (Edit 1 (codes "ab")) ∷ Command (Save 1) ∷ Deliver 3 ∷ Deliver 4 ∷ []
+misedited = begun ++ new_note ∷ Command Start ∷ Command (Run 1 1) ∷ typing ∷ Deliver 1 ∷ Deliver 2 ∷ Command (Edit 1 (codes "ab")) ∷ Command (Save 1) ∷ Deliver 3 ∷ Deliver 4 ∷ []
 
 abbrev pub refused : EventAnswer
 refused = Took (record quiet_outcome { refused = Some BadEdit })
 
 pub record IsMisedited : Type 0 where
-  pub answers : answered (from_start misedited) ≡ frame 1 ∷ object 1 ∷ server 1 ∷ sent 1 ∷ Refused Busy ∷ sent 2 ∷ ok ∷ sent 3 ∷ Refused Busy ∷ sent 4 ∷ refused ∷ []
+  pub answers : answered (from_start misedited) ≡ begun_answers ++ object 1 ∷ server 1 ∷ sent 1 ∷ Refused Busy ∷ sent 2 ∷ ok ∷ sent 3 ∷ Refused Busy ∷ sent 4 ∷ refused ∷ []
   pub told : reported (from_start misedited) ≡ lines (
-      codes "frame 1 a Free k 0 none"
+      codes "session 1"
+      ∷ codes "frame 1 a Free k 1 stored"
       ∷ codes "object 1 frame 1 Note Running Normal act 1 s 1 -"
       ∷ [])
 
@@ -203,9 +218,9 @@ numbered numbers es = ran (Ok (empty_world numbers [])) es
 pub record IsLimited : Type 0 where
   pub frames : answered (from_start (map frame_named (range_with_len 97 9) ++ new_frame ∷ [])) ≡ map frame (range_with_len 1 8) ++ Refused Full ∷ Refused Busy ∷ []
   pub objects : answered (from_start (new_frame ∷ times 65 new_note)) ≡ frame 1 ∷ map object (range_with_len 1 64) ++ Refused Full ∷ []
-  pub servers : answered (from_start (times 9 (Command Start) ++ Crash 1 1 ∷ Command Start ∷ Reap 1 ∷ Command Start ∷ [])) ≡ map server (range_with_len 1 8) ++ Refused Full ∷ ok ∷ Refused Full ∷ ok ∷ server 9 ∷ []
-  pub three_numbers : answered (numbered 3 (times 4 (Command Start))) ≡ server 1 ∷ server 2 ∷ server 3 ∷ Refused NumbersSpent ∷ []
-  pub one_number : answered (numbered 1 (frame_named 97 ∷ frame_named 98 ∷ [])) ≡ frame 1 ∷ Refused NumbersSpent ∷ []
+  pub servers : answered (from_start (begun ++ times 9 (Command Start) ++ Crash 1 1 ∷ Command Start ∷ Reap 1 ∷ Command Start ∷ [])) ≡ begun_answers ++ map server (range_with_len 1 8) ++ Refused Full ∷ ok ∷ Refused Full ∷ ok ∷ server 9 ∷ []
+  pub three_numbers : answered (numbered 3 (begun ++ times 4 (Command Start))) ≡ begun_answers ++ server 1 ∷ server 2 ∷ server 3 ∷ Refused NumbersSpent ∷ []
+  pub one_number : answered (numbered 1 (begun ++ frame_named 98 ∷ [])) ≡ begun_answers ++ Refused NumbersSpent ∷ []
   pub undelivered : from_start (edited ++ Deliver 99 ∷ []) ≡ Err NotEnabled
 
 -- A server that is killed has ended at once, and is killed again until it is reaped. Its note is passive then, and is
@@ -216,7 +231,8 @@ deleted = edited ++ Command (Delete 1) ∷ Command (Kill 1) ∷ Deliver 3 ∷ Co
 pub record IsDeleted : Type 0 where
   pub answers : answered (from_start deleted) ≡ answered (from_start edited) ++ Refused WrongState ∷ ok ∷ ok ∷ ok ∷ ok ∷ Refused NoSuch ∷ ok ∷ Refused NoSuch ∷ object 2 ∷ []
   pub told : reported (from_start deleted) ≡ lines (
-      codes "frame 1 a Free k 0 none"
+      codes "session 1"
+      ∷ codes "frame 1 a Free k 1 stored"
       ∷ codes "object 2 frame 1 Note Passive -"
       ∷ [])
 
@@ -240,14 +256,44 @@ closed = edited ++ Command (Close 1 SaveIfDirty) ∷ Deliver 5 ∷ Deliver 6 ∷
 pub record IsClosed : Type 0 where
   pub answers : answered (from_two closed) ≡ answered (from_two edited) ++ sent 5 ∷ sent 6 ∷ taken ∷ Dropped Ignored ∷ sent 7 ∷ Refused Stale ∷ sent 8 ∷ sent 9 ∷ ok ∷ []
   pub told : reported (from_two closed) ≡ lines (
-      codes "frame 1 a Free k 0 none"
+      codes "session 1"
+      ∷ codes "frame 1 a Free k 1 stored"
       ∷ codes "object 1 frame 1 Note Running Normal act 2 s 1 Text=6162"
       ∷ [])
+
+-- A session that is asked once more while its commit is, and while it is in doubt. Lost, it may be tried again, and until one is
+-- counted no server starts and nothing else is saved. Once it is there it stays.
+abbrev pub raised_late : List Event
+raised_late = new_frame ∷ Command Session ∷ Command Session ∷ Fail 1 ∷ Command Session ∷ Command Start ∷ Resolve 1 false ∷ Command (Save 1) ∷ Command (SaveAs 1 (codes "b"))
+    ∷ Command Session ∷ Done 1 ∷ Command Session ∷ Command Start ∷ []
+
+-- a commit in doubt is resolved as kept: that counts the session too
+abbrev pub raised_kept : List Event
+raised_kept = new_frame ∷ Command Session ∷ Fail 1 ∷ Resolve 1 true ∷ Command Start ∷ []
+
+-- without a frame no session is raised
+abbrev pub frameless : List Event
+frameless = Command Session ∷ Command Start ∷ Command (Save 1) ∷ Command (SaveAs 1 (codes "b")) ∷ []
+
+-- a lost save has spent its number
+abbrev pub raised_spent : List Event
+raised_spent = new_frame ∷ Command Session ∷ Fail 1 ∷ Resolve 1 false ∷ Command Session ∷ []
+
+pub record IsRaised : Type 0 where
+  pub answers : answered (from_start raised_late) ≡ frame 1 ∷ commit 1 ∷ Refused Busy ∷ ok ∷ Refused Doubtful ∷ Refused WrongState ∷ ok ∷ Refused WrongState ∷ Refused WrongState
+      ∷ commit 1 ∷ ok ∷ Refused WrongState ∷ server 1 ∷ []
+  pub told : reported (from_start raised_late) ≡ lines (codes "session 1" ∷ codes "frame 1 a Free k 2 stored" ∷ [])
+  pub kept_answers : answered (from_start raised_kept) ≡ frame 1 ∷ commit 1 ∷ ok ∷ ok ∷ server 1 ∷ []
+  pub kept_told : reported (from_start raised_kept) ≡ lines (codes "session 1" ∷ codes "frame 1 a Free k 1 stored" ∷ [])
+  pub frameless_answers : answered (from_start frameless) ≡ Refused NoSuch ∷ Refused WrongState ∷ Refused NoSuch ∷ Refused NoSuch ∷ []
+  pub frameless_told : reported (from_start frameless) ≡ lines (codes "session 0" ∷ [])
+  pub spent_answers : answered (numbered 1 raised_spent) ≡ frame 1 ∷ commit 1 ∷ ok ∷ ok ∷ Refused NumbersSpent ∷ []
+  pub spent_told : reported (numbered 1 raised_spent) ≡ lines (codes "session 0" ∷ codes "frame 1 a Free k 1 none" ∷ [])
 
 -- What a report says of frames and contents that no run reaches yet: a frame in doubt, asked for its menus and border, with
 -- a space in its name; streams with a hidden character in their name, without bytes, with bytes that are no characters.
 abbrev pub granting : Frame
-granting = record { name = codes "b c"; asked = None; k = 12; ui = record { width = 40; height = 10; state = Granting (record { object = 3; act = 1; g = 1 }) }; stored = true; session = 0; phase = InDoubt }
+granting = record { name = codes "b c"; asked = None; k = 12; ui = record { width = 40; height = 10; state = Granting (record { object = 3; act = 1; g = 1 }) }; stored = true; session = 0; raised = None; phase = InDoubt }
 
 abbrev pub stream : List ℕ → List ℕ → NamedStream
 stream name bytes = record { name = name; bytes = bytes }
@@ -277,5 +323,6 @@ pub record IsWorked : Type 0 where
   pub is_deleted : IsDeleted
   pub is_written : IsWritten
   pub is_closed : IsClosed
+  pub is_raised : IsRaised
   pub is_spelled : IsSpelled
   pub has_file : HasFile

@@ -264,9 +264,9 @@ pub record Safe (w : World) : Type 0 where
   pub container_once : CountedOnce w.container_done
   pub server_once : ServedOnce w.server_done
   pub agreed : (e : ServerDone) → Among w.server_done e → IsHonest w.hostile e.inc → Among w.container_done (record { object = e.object; k = e.k; content = e.content })
-  -- every message is in the session of the container, and so is every server
-  pub of_session : (m : Message) → WasSent w m → m.session ≡ w.rec.session
-  pub servers : (inc : ℕ) (i : Instance) → nth w.instances inc ≡ Some i → i.core.session ≡ w.rec.session
+  -- every message is in the session of the container, and so is every server; before it has one nothing is sent, and none started
+  pub of_session : (m : Message) → WasSent w m → (m.session ≡ w.rec.session) × (1 ≤ m.session)
+  pub servers : (inc : ℕ) (i : Instance) → nth w.instances inc ≡ Some i → (i.core.session ≡ w.rec.session) × (1 ≤ i.core.session)
   -- every number of a message is at most the limit of the world's numbers
   pub numbered : (m : Message) → WasSent w m → IsWithin w.rec.numbers m
   -- the container counts by commits alone

@@ -152,6 +152,7 @@ took w (Ok t) = joined w t
 abbrev pub owners_by : Command → List ℕ
 owners_by (command.New name width height) = []
 owners_by (command.Insert f kind area) = []
+owners_by command.Session = []
 owners_by command.Start = []
 owners_by (command.Run o inc) = o ∷ []
 owners_by (command.Edit o bytes) = []

@@ -72,6 +72,7 @@ pub fn copy_command(alloc: Global, command: &Command) -> Result<Command, AllocEr
     match command {
         Command::New(name, width, height) => Ok(Command::New(name.copy(alloc)?, *width, *height)),
         Command::Insert(frame, kind, area) => Ok(Command::Insert(*frame, *kind, *area)),
+        Command::Session => Ok(Command::Session),
         Command::Start => Ok(Command::Start),
         Command::Run(object, inc) => Ok(Command::Run(*object, *inc)),
         Command::Edit(object, bytes) => Ok(Command::Edit(*object, bytes.copy(alloc)?)),

@@ -7,8 +7,8 @@ ghost use Rattle.world_model.specs.Runs.{IsWorked};
 
 /// A note that is made, edited and saved: what each event is answered, and what is reported. The same where its server
 /// crashes before the save, and where it crashes once the commit is asked; and where the commit fails, and is resolved as
-/// kept or as lost. Then the limits of frames, objects, servers and numbers; what is deleted and killed; writes that are taken and not; and a note that is closed and
-/// runs again.
+/// kept or as lost. Then the limits of frames, objects, servers and numbers; what is deleted and killed; writes that are
+/// taken and not; a note that is closed and runs again; and a session that is lost, kept, and asked in vain.
 pub fn worked_runs()
     ensures { IsWorked }
 {}
@@ -20,6 +20,7 @@ pub fn worked_grants()
 {}
 
 /// A file that is opened beside a note that runs: its objects, what runs of them, and what isn't opened, each for its reason.
+/// Opened as the first frame, it gets the next session.
 pub fn worked_opens()
     ensures { IsOpened }
 {}

@@ -1,11 +1,11 @@
-//! The report of a world: a line for each frame, for each object, for each activation that has a frame's grant, and for each
-//! content that was counted.
+//! The report of a world: a line for the container's session, for each frame, for each object, for each activation that has a
+//! frame's grant, and for each content that was counted.
 
 ghost use Rattle.std.specs.Io.KnownBytes.{Appends};
 ghost use Rattle.std.specs.Fmt.{decimal};
 ghost use Rattle.std.specs.List.{flat_map};
 ghost use Rattle.std.specs.Prelude.{◌≡◌, ◌≢◌, ◌++◌, ◌∷◌, [], codes, IfErr, IfOk, OnOk};
-ghost use Rattle.world_model.specs.Report.{container_line, content_text, done_line, file_word, frame_line, frame_lines, further_text, grant_text, linked_text, object_line, object_state_name, persist_state_name, report_of, server_line, state_text, stream_text, type_text};
+ghost use Rattle.world_model.specs.Report.{container_line, content_text, done_line, file_word, frame_line, frame_lines, further_text, grant_text, linked_text, object_line, object_state_name, persist_state_name, report_of, server_line, session_line, state_text, stream_text, type_text};
 ghost use Rattle.text_model.specs.Spelled.{name_text};
 
 use crate::holds::push_holds;
@@ -33,24 +33,33 @@ pub enum ReportFault {
     Unwritable,
 }
 
-/// Writes the report of these frames and objects, of who has a frame's grant, by server, and of both logs: a line for each
-/// frame, for each object, for each of those, and for each content that was counted, by the container and then by the
-/// servers.
+/// Writes the report of a container's session, of these frames and objects, of who has a frame's grant, by server, and of both
+/// logs: a line for the session, for each frame, for each object, for each of those, and for each content that was counted, by
+/// the container and then by the servers.
 ///
 /// Refused for want of memory, where nothing is written, and where a write fails.
 pub fn write_report<W: Write>(
     alloc: Global,
     writer: &mut W,
+    session: u32,
     frames: &[Frame],
     objects: &[Object],
     holds: &[Items<Hold>],
     container_done: &[Done],
     server_done: &[ServerDone],
 ) -> Result<(), ReportFault>
-    ensures reported { OnOk result (Appends (W.contents writer.old) (W.contents writer.new) (report_of frames.now objects.now holds.now container_done.now server_done.now)) }
+    ensures reported { OnOk result (Appends (W.contents writer.old) (W.contents writer.new) (report_of session frames.now objects.now holds.now container_done.now server_done.now)) }
     ensures unwritten { IfErr result (λ fault. fault ≢ ReportFault.Unwritable → writer.new ≡ writer.old) }
 {
-    let text = match report_text(alloc, frames, objects, holds, container_done, server_done) {
+    let text = match report_text(
+        alloc,
+        session,
+        frames,
+        objects,
+        holds,
+        container_done,
+        server_done,
+    ) {
         Ok(text) => text,
         Err(_) => return Err(ReportFault::NoMemory),
     };
@@ -72,21 +81,33 @@ fn write_all<W: Write>(writer: &mut W, bytes: &[u8]) -> io::Result<()>
 /// The text of the report.
 fn report_text(
     alloc: Global,
+    session: u32,
     frames: &[Frame],
     objects: &[Object],
     holds: &[Items<Hold>],
     container_done: &[Done],
     server_done: &[ServerDone],
 ) -> Result<Vec<u8>, AllocError>
-    ensures { IfOk result (λ text. text.items ≡ report_of frames.now objects.now holds.now container_done.now server_done.now) }
+    ensures { IfOk result (λ text. text.items ≡ report_of session frames.now objects.now holds.now container_done.now server_done.now) }
 {
     let mut text = Vec::new(alloc);
+    push_session(alloc, &mut text, session)?;
     push_frames(alloc, &mut text, frames)?;
     push_objects(alloc, &mut text, objects)?;
     push_holds(alloc, &mut text, holds)?;
     push_container_done(alloc, &mut text, container_done)?;
     push_server_done(alloc, &mut text, server_done)?;
     Ok(text)
+}
+
+/// Writes the line of the container's session.
+#[tactic(auto, unfolding(world_model::specs::Report::session_line))]
+fn push_session(alloc: Global, text: &mut Vec<u8>, session: u32) -> Result<(), AllocError>
+    ensures { OnOk result (text.new.items ≡ text.old.items ++ session_line session) }
+{
+    push_numbered(alloc, text, "session ", session as usize)?;
+    text.push(b'\n')?;
+    Ok(())
 }
 
 /// Writes the lines of frames, of which the first has number 1.

@@ -1,5 +1,5 @@
 -- Servers seen in two ways are alike but for what the objects in their boxes are said to contain.
-use Rattle.std.proofs.Common.{◌≡◌, ℕ, zero, suc, true, false, List, [], ◌∷◌, length, map, Option, Some, None, option_map, refl, ap, nat_eq, slice_get, if◌then◌else◌, sym, ◌∙◌}
+use Rattle.std.proofs.Common.{◌≡◌, ℕ, zero, suc, true, false, List, [], ◌∷◌, length, map, Option, Some, None, option_map, refl, ap, nat_eq, slice_get, if◌then◌else◌, subst}
 use Rattle.std.specs.List.{AllByRecursion}
 use Rattle.wire_msgs.specs.Found.{find, nth}
 use Rattle.embed_core.specs.Content.{Content}
@@ -63,14 +63,14 @@ module _ {X : Type 0} {V : X → Type 0} (c d : Seat X V → Content) where
   many_alike (x ∷ xs) = ap suc (many_alike xs)
 
   -- their sessions
-  pub sessions_alike : (s : ℕ) (xs : List (held.Instance X V)) → ((inc : ℕ) (i : Instance) → nth (map (seen_instance c) xs) inc ≡ Some i → i.core.session ≡ s)
-      → (inc : ℕ) (i : Instance) → nth (map (seen_instance d) xs) inc ≡ Some i → i.core.session ≡ s
-  sessions_alike s xs h zero i e = cc
-  sessions_alike s xs h (suc k) i e = at xs (λ j y g. h (suc j) y g) k e
+  pub sessions_alike : (Holds : ℕ → Type 0) (xs : List (held.Instance X V)) → ((inc : ℕ) (i : Instance) → nth (map (seen_instance c) xs) inc ≡ Some i → Holds i.core.session)
+      → (inc : ℕ) (i : Instance) → nth (map (seen_instance d) xs) inc ≡ Some i → Holds i.core.session
+  sessions_alike Holds xs h zero i e = cc
+  sessions_alike Holds xs h (suc k) i e = at xs (λ j y g. h (suc j) y g) k e
     where
-      at : (ys : List (held.Instance X V)) → ((j : ℕ) (y : Instance) → slice_get (map (seen_instance c) ys) j ≡ Some y → y.core.session ≡ s) → (k : ℕ) → slice_get (map (seen_instance d) ys) k ≡ Some i → i.core.session ≡ s
+      at : (ys : List (held.Instance X V)) → ((j : ℕ) (y : Instance) → slice_get (map (seen_instance c) ys) j ≡ Some y → Holds y.core.session) → (k : ℕ) → slice_get (map (seen_instance d) ys) k ≡ Some i → Holds i.core.session
       at [] g k f = cc
-      at (y ∷ ys) g zero f = (let q : seen_instance d y ≡ i = cc in ap (λ (z : Instance). z.core.session) (sym q) ∙ g zero (seen_instance c y) refl)
+      at (y ∷ ys) g zero f = (let q : seen_instance d y ≡ i = cc in subst (λ (z : Instance). Holds z.core.session) q (g zero (seen_instance c y) refl))
       at (y ∷ ys) g (suc k) f = at ys (λ j z r. g (suc j) z r) k f
 
   -- their numbers

@@ -3,7 +3,7 @@ use Rattle.embed_core.specs.Content.{Content}
 use Rattle.server_core.specs.declared.server.Seat.{Seat}
 use Rattle.world_run.specs.declared.state.State.{State}
 use Rattle.world_run.specs.View.{seen}
-use Rattle.world_safety.specs.Holding.{Holds}
+use Rattle.world_safety.specs.Holding.{Holds, IsOf}
 use Rattle.world_safety.proofs.Alike.{agrees_alike}
 use Rattle.world_run.proofs.Alike.{acts_alike, lives_alike, many_alike, servers_alike, sessions_alike}
 
@@ -11,7 +11,7 @@ use Rattle.world_run.proofs.Alike.{acts_alike, lives_alike, many_alike, servers_
 module _ {X : Type 0} {V : X → Type 0} (c d : Seat X V → Content) where
   pub held_seen : (st : State X V) → Holds (seen c st) → Holds (seen d st)
   held_seen st h = record {
-    in_session = record { links = h.in_session.links; sent = h.in_session.sent; servers = sessions_alike c d _ st.instances.items h.in_session.servers };
+    in_session = record { holds = h.in_session.holds; sent = h.in_session.sent; servers = sessions_alike c d (IsOf (seen c st).rec.session) st.instances.items h.in_session.servers };
     agrees = agrees_alike _ _ _ _ _ _ _ _ (many_alike c d st.instances.items) (acts_alike c d st.instances.items) (lives_alike c d st.instances.items) h.agrees;
     files = record { counted_bounded = h.files.counted_bounded; filed = h.files.filed; commits = h.files.commits };
     numbers = record { recorded = h.numbers.recorded; sent = h.numbers.sent; servers = servers_alike c d _ st.instances.items h.numbers.servers };

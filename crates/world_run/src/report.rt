@@ -13,8 +13,8 @@ pub use world_report::report::ReportFault;
 use world_report::report::write_report;
 
 impl World {
-    /// Writes the report: a line for each frame, for each object, for each activation of a server that runs which has a
-    /// frame's grant, and for each content that was counted, by the container and then by the servers.
+    /// Writes the report: a line for the container's session, for each frame, for each object, for each activation of a server
+    /// that runs which has a frame's grant, and for each content that was counted, by the container and then by the servers.
     ///
     /// Refused for want of memory, where nothing is written, and where a write fails.
     pub fn report<W: Write>(&self, alloc: Global, writer: &mut W) -> Result<(), ReportFault>
@@ -27,6 +27,7 @@ impl World {
         write_report(
             alloc,
             writer,
+            self.state.host.core.session(),
             self.state.host.core.all_frames(),
             self.state.host.core.all_objects(),
             &holds,

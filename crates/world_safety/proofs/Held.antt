@@ -1,5 +1,5 @@
 -- Every world that a run reaches is safe.
-use Rattle.std.proofs.Common.{◌≡◌, ℕ, zero, suc, List, [], ◌∷◌, Option, Some, None, Ok, refl, sym, ap, ◌∙◌, subst, inl, inr}
+use Rattle.std.proofs.Common.{◌≡◌, ◌≢◌, ◌≤◌, ℕ, zero, suc, List, [], ◌∷◌, Option, Some, None, Ok, refl, sym, ap, ◌∙◌, subst, inl, inr, arith}
 use Rattle.embed_core.specs.Kinds.{Kind}
 use Rattle.stored_streams.specs.declared.stored.Stored.{Stored}
 use Rattle.server_model.specs.Server.{Activation}
@@ -13,7 +13,8 @@ use Rattle.wire_msgs.specs.declared.operation.Operation.TheVariants.{SaveComplet
 use Rattle.world_facts.specs.Words.{Issued, called, waits}
 use Rattle.world_facts.specs.Facts.{HasSaved}
 use Rattle.world_files.proofs.Kept.{empty_files, files_happened, limited_ok, commits_kept}
-use Rattle.world_safety.specs.Holding.{AgreesIn, Holds}
+use Rattle.container_numbers.specs.Sessions.{IsOf}
+use Rattle.world_safety.specs.Holding.{AgreesIn, Holds, InOneSession}
 use Rattle.world_safety.proofs.Events.{agrees_happened, said_in_log}
 use Rattle.world_safety.proofs.Granting.{granted_happened}
 use Rattle.world_safety.proofs.Holders.{holder, one_holder}
@@ -34,6 +35,17 @@ has_saved (Some b) c h = (b, refl, h)
 said_of : (w : World) (s : ℕ) (x : Said) → WasSent w (in_session s x) → Among (sayings w.sent) x
 said_of w s x g = said_in_log w.sent (in_session s x) g
 
+-- a session that there is has a number from 1
+numbered_of : (s session : ℕ) → IsOf s session → (session ≡ s) × (1 ≤ session)
+numbered_of s session h = (h.0, from_one session (λ z. h.1 (sym h.0 ∙ z)))
+  where
+    from_one : (n : ℕ) → n ≢ 0 → 1 ≤ n
+    from_one zero g = absurd (g refl)
+    from_one (suc k) g = omega arith
+
+all_in_session : (w : World) → InOneSession w → (m : Message) → WasSent w m → m.session ≡ w.rec.session
+all_in_session w h m g = (h.sent m g).0
+
 pub safe_held : (w : World) → Holds w → Safe w
 safe_held w h = (let f = h.agrees.facts in record {
   acts_once = λ s inc act n op r next g e. once_answered w s inc act n op r h.agrees (said_of w s (Reply inc act n r) g) next e;
@@ -43,13 +55,13 @@ safe_held w h = (let f = h.agrees.facts in record {
       k.3 (ap (λ (x : Activation). x.last) is) ∙ ap (λ (x : Activation). x.reply) (sym is));
   answered = λ n l content e honest s. has_saved (acts_of w.instances l.inc l.act) content (f.saved_same n l content e honest s);
   one_holder = one_holder w h.agrees;
-  holder = holder w h.agrees h.in_session.sent;
+  holder = holder w h.agrees (all_in_session w h.in_session);
   writes = h.taken_held;
   container_once = h.files.counted_bounded.counted_once;
   server_once = f.counts.server_once;
   agreed = λ e g honest. f.counts.server_counted e g honest;
-  of_session = h.in_session.sent;
-  servers = h.in_session.servers;
+  of_session = λ m g. numbered_of w.rec.session m.session (h.in_session.sent m g);
+  servers = λ inc i e. numbered_of w.rec.session i.core.session (h.in_session.servers inc i e);
   numbered = h.numbers.sent;
   commits = h.files.commits.commits;
   counted = commits_kept w h.files;
@@ -118,7 +130,7 @@ held_happened : (w : World) (choice : Choice) (e : Event) (v : World) → Holds 
 held_happened w choice e v h im ok =
     let agrees = agrees_happened w choice e v h.files h.agrees ok in
     let files = files_happened w choice e v h.agrees.steady h.files im ok in
-    record { in_session = session_happened w choice e v h.in_session ok; agrees = agrees; files = files; numbers = numbers_happened w choice e v h.agrees h.files h.numbers agrees files ok; taken_held = granted_happened w choice e v h.agrees h.in_session.sent h.taken_held ok }
+    record { in_session = session_happened w choice e v h.in_session ok; agrees = agrees; files = files; numbers = numbers_happened w choice e v h.agrees h.files h.numbers agrees files ok; taken_held = granted_happened w choice e v h.agrees (all_in_session w h.in_session) h.taken_held ok }
 
 pub held_run : (w : World) (es : List Event) (after : World) → Holds w → Run w es after → Holds after
 held_run w [] after h r = subst Holds (sym r) h

@@ -1,5 +1,6 @@
--- All of a world is in one session: its container's activations, its servers, and the messages between them.
-use Rattle.std.proofs.Common.{◌≡◌, ◌==◌, ◌&&◌, ℕ, Bool, true, false, zero, suc, List, [], ◌∷◌, ◌++◌, map, length, Option, Some, None, Result, Ok, Err, refl, sym, ap, ◌∙◌, inl, inr, subst, nat_eq, nat_le, slice_get}
+-- All of a world is in one session: its container's activations, its servers, and the messages between them. Before there is
+-- one, none of them is there.
+use Rattle.std.proofs.Common.{◌≡◌, ◌≢◌, ◌==◌, ◌&&◌, ℕ, Bool, true, false, zero, suc, List, [], ◌∷◌, ◌++◌, map, length, Option, Some, None, Result, Ok, Err, refl, sym, ap, ◌∙◌, inl, inr, subst, nat_eq, nat_le, slice_get}
 use Rattle.std.specs.Prelude.{cond}
 use Rattle.std.specs.List.{AllByRecursion}
 use Rattle.std.proofs.lemmas.List.{map-append}
@@ -26,7 +27,8 @@ use Rattle.container_model.specs.declared.answer.FrameDocument.{FrameDocument}
 use Rattle.container_model.specs.declared.command.Command.{Command}
 use Rattle.container_model.specs.declared.fault.ContainerFault.{ContainerFault}
 use Rattle.container_model.specs.declared.record.Frame.{Frame}
-use Rattle.container_numbers.specs.Sessions.{InSession, SendsIn, StaysInSession}
+use Rattle.container_numbers.specs.Sessions.{InSession, IsOf, SendsIn, StaysInSession}
+use Rattle.container_numbers.proofs.SessionLinks.{each_after}
 use Rattle.container_numbers.proofs.Sessions.{in_session_from_the_start, sessions_stay}
 use Rattle.world_model.specs.declared.event.Event.{Event}
 use Rattle.world_model.specs.declared.event.Event.TheVariants as event
@@ -50,17 +52,24 @@ ok_is x y e = cc
 abbrev message_in : Sent → Message
 message_in x = x.message
 
--- each server of these is in a session
+-- each server of these is in a session, and so is each message
+abbrev RunsIn : ℕ → Instance → Type 0
+RunsIn s i = IsOf s i.core.session
+
 abbrev AreIn : ℕ → List Instance → Type 0
-AreIn s is = (inc : ℕ) (i : Instance) → nth is inc ≡ Some i → i.core.session ≡ s
+AreIn s is = (inc : ℕ) (i : Instance) → nth is inc ≡ Some i → RunsIn s i
 
 abbrev AllOf : ℕ → List Sent → Type 0
-AllOf s xs = (m : Message) → Among (messages xs) m → m.session ≡ s
+AllOf s xs = (m : Message) → Among (messages xs) m → IsOf s m.session
+
+-- what bears another's session
+same_of : (s a b : ℕ) → b ≡ a → IsOf s a → IsOf s b
+same_of s a b e h = (e ∙ h.0, h.1)
 
 -- ---- servers
-set_in : (s : ℕ) (is : List Instance) (inc : ℕ) (i j : Instance) → nth is inc ≡ Some i → j.core.session ≡ s → AreIn s is → AreIn s (set_nth is inc j)
+set_in : (s : ℕ) (is : List Instance) (inc : ℕ) (i j : Instance) → nth is inc ≡ Some i → RunsIn s j → AreIn s is → AreIn s (set_nth is inc j)
 set_in s is inc i j at own h x y e = elim (eqb_tells x inc) [
-  | inl q ↦ (let same : Some j ≡ Some y = sym (nth_same is inc i j at) ∙ (ap (nth (set_nth is inc j)) (sym q.1) ∙ e) in let is_j : j ≡ y = cc in ap (λ (z : Instance). z.core.session) (sym is_j) ∙ own)
+  | inl q ↦ (let same : Some j ≡ Some y = sym (nth_same is inc i j at) ∙ (ap (nth (set_nth is inc j)) (sym q.1) ∙ e) in let is_j : j ≡ y = cc in subst (RunsIn s) is_j own)
   | inr q ↦ h x y (sym (nth_other is inc x j q.1) ∙ e)
 ]
 
@@ -78,42 +87,38 @@ all_ended_in s (Start inc ∷ rest) is h = all_ended_in s rest is h
 all_ended_in s (End inc ∷ rest) is h = all_ended_in s rest (ended_at inc is (nth is inc)) (ended_in s is inc (nth is inc) refl h)
 all_ended_in s (Commit f ∷ rest) is h = all_ended_in s rest is h
 
--- those that are started
-started_all : (s numbers : ℕ) (actions : List Action) → AllByRecursion (λ (i : Instance). i.core.session ≡ s) (started_by s numbers actions)
-started_all s numbers [] = tt
-started_all s numbers (Send m ∷ rest) = started_all s numbers rest
-started_all s numbers (Start inc ∷ rest) = (refl, started_all s numbers rest)
-started_all s numbers (End inc ∷ rest) = started_all s numbers rest
-started_all s numbers (Commit f ∷ rest) = started_all s numbers rest
+-- those that are started by a container with a session s, once it is n
+started_all : (s n numbers : ℕ) (actions : List Action) → (s ≢ 0 → n ≢ 0) → AllByRecursion (SendsIn s) actions → AllByRecursion (RunsIn n) (started_by n numbers actions)
+started_all s n numbers [] there h = tt
+started_all s n numbers (Send m ∷ rest) there h = started_all s n numbers rest there h.1
+started_all s n numbers (Start inc ∷ rest) there h = ((refl, there h.0), started_all s n numbers rest there h.1)
+started_all s n numbers (End inc ∷ rest) there h = started_all s n numbers rest there h.1
+started_all s n numbers (Commit f ∷ rest) there h = started_all s n numbers rest there h.1
 
-all_in : (s : ℕ) (is : List Instance) → AllByRecursion (λ (i : Instance). i.core.session ≡ s) is → AreIn s is
+all_in : (s : ℕ) (is : List Instance) → AllByRecursion (RunsIn s) is → AreIn s is
 all_in s is h zero i e = cc
 all_in s is h (suc k) i e = at is k h e
   where
-    at : (xs : List Instance) (k : ℕ) → AllByRecursion (λ (x : Instance). x.core.session ≡ s) xs → slice_get xs k ≡ Some i → i.core.session ≡ s
+    at : (xs : List Instance) (k : ℕ) → AllByRecursion (RunsIn s) xs → slice_get xs k ≡ Some i → RunsIn s i
     at [] k g f = cc
-    at (x ∷ xs) zero g f = (let q : x ≡ i = cc in ap (λ (z : Instance). z.core.session) (sym q) ∙ g.0)
+    at (x ∷ xs) zero g f = (let q : x ≡ i = cc in subst (RunsIn s) q g.0)
     at (x ∷ xs) (suc k) g f = at xs k g.1 f
 
-in_all : (s : ℕ) (is : List Instance) → AreIn s is → AllByRecursion (λ (i : Instance). i.core.session ≡ s) is
+in_all : (s : ℕ) (is : List Instance) → AreIn s is → AllByRecursion (RunsIn s) is
 in_all s [] h = tt
 in_all s (x ∷ xs) h = (h 1 x refl, in_all s xs (λ inc i e. later inc i e))
   where
-    later : (inc : ℕ) (i : Instance) → nth xs inc ≡ Some i → i.core.session ≡ s
+    later : (inc : ℕ) (i : Instance) → nth xs inc ≡ Some i → RunsIn s i
     later zero i e = cc
     later (suc k) i e = h (suc (suc k)) i e
 
-joins : (s : ℕ) (xs ys : List Instance) → AllByRecursion (λ (i : Instance). i.core.session ≡ s) xs → AllByRecursion (λ (i : Instance). i.core.session ≡ s) ys → AllByRecursion (λ (i : Instance). i.core.session ≡ s) (xs ++ ys)
-joins s [] ys h g = g
-joins s (x ∷ xs) ys h g = (h.0, joins s xs ys h.1 g)
-
-more_in : (s : ℕ) (xs ys : List Instance) → AreIn s xs → AllByRecursion (λ (i : Instance). i.core.session ≡ s) ys → AreIn s (xs ++ ys)
-more_in s xs ys h g = all_in s (xs ++ ys) (joins s xs ys (in_all s xs h) g)
+more_in : (s : ℕ) (xs ys : List Instance) → AreIn s xs → AllByRecursion (RunsIn s) ys → AreIn s (xs ++ ys)
+more_in s xs ys h g = all_in s (xs ++ ys) (each_after (RunsIn s) xs ys (in_all s xs h) g)
 
 -- ---- messages
-sends_all : (s : ℕ) (actions : List Action) → AllByRecursion (SendsIn s) actions → (m : Message) → Among (messages_of actions) m → m.session ≡ s
+sends_all : (s : ℕ) (actions : List Action) → AllByRecursion (SendsIn s) actions → (m : Message) → Among (messages_of actions) m → IsOf s m.session
 sends_all s [] h m g = absurd g
-sends_all s (Send x ∷ rest) h m (inl e) = ap (λ (y : Message). y.session) e ∙ h.0
+sends_all s (Send x ∷ rest) h m (inl e) = same_of s x.session m.session (ap (λ (y : Message). y.session) e) h.0
 sends_all s (Send x ∷ rest) h m (inr g) = sends_all s rest h.1 m g
 sends_all s (Start inc ∷ rest) h m g = sends_all s rest h.1 m g
 sends_all s (End inc ∷ rest) h m g = sends_all s rest h.1 m g
@@ -126,36 +131,42 @@ told_again (m ∷ ms) = ap (λ xs. m ∷ xs) (told_again ms)
 more_sent : (s : ℕ) (xs ys : List Sent) → AllOf s xs → AllOf s ys → AllOf s (xs ++ ys)
 more_sent s xs ys h g m a = elim (among_join (messages xs) (messages ys) m (subst (λ ms. Among ms m) (map-append message_in xs ys) a)) [ inl old ↦ h m old | inr new ↦ g m new ]
 
-one_sent : (s : ℕ) (x : Sent) → x.message.session ≡ s → AllOf s (x ∷ [])
-one_sent s x e m (inl q) = ap (λ (y : Message). y.session) q ∙ e
-one_sent s x e m (inr z) = absurd z
+one_sent : (s : ℕ) (x : Sent) → IsOf s x.message.session → AllOf s (x ∷ [])
+one_sent s x h m (inl q) = same_of s x.message.session m.session (ap (λ (y : Message). y.session) q) h
+one_sent s x h m (inr z) = absurd z
 
--- ---- the container's steps
-took_in : (w : World) (t : Took) → InOneSession w → StaysInSession w.rec t → InOneSession (joined w t)
-took_in w t h k =
-    let s = w.rec.session in
-    let own : s ≡ t.rec.session = sym k.same in
-    record {
-      links = k.links;
-      sent = subst (λ n. AllOf n (w.sent ++ map of_container (messages_of t.answer.actions))) own
-          (more_sent s w.sent (map of_container (messages_of t.answer.actions)) h.sent
-          (λ m g. sends_all s t.answer.actions k.sends m (subst (λ ms. Among ms m) (told_again (messages_of t.answer.actions)) g)));
-      servers = subst (λ n. AreIn n (ended_by t.answer.actions w.instances ++ started_by t.rec.session t.rec.numbers t.answer.actions)) own
-          (more_in s (ended_by t.answer.actions w.instances) (started_by t.rec.session t.rec.numbers t.answer.actions) (all_ended_in s t.answer.actions w.instances h.servers)
-          (subst (λ n. AllByRecursion (λ (i : Instance). i.core.session ≡ n) (started_by t.rec.session t.rec.numbers t.answer.actions)) (sym own) (started_all t.rec.session t.rec.numbers t.answer.actions)));
-    }
+-- ---- the container's steps: a session that there is stays, and where there is none, nothing is of it
+module _ (w : World) (x : Input) (t : Took) (k : StaysInSession w.rec x t) where
+  still_there : w.rec.session ≢ 0 → t.rec.session ≢ 0
+  still_there raised z = raised (sym (k.stays raised) ∙ z)
+
+  still_of : (session : ℕ) → IsOf w.rec.session session → IsOf t.rec.session session
+  still_of session h = (h.0 ∙ sym (k.stays h.1), still_there h.1)
+
+  took_in : InOneSession w → InOneSession (joined w t)
+  took_in h =
+      let s = w.rec.session in
+      let actions = t.answer.actions in
+      record {
+        holds = k.holds;
+        sent = λ m g. still_of m.session (more_sent s w.sent (map of_container (messages_of actions)) h.sent
+            (λ y a. sends_all s actions k.sends y (subst (λ ms. Among ms y) (told_again (messages_of actions)) a)) m g);
+        servers = more_in t.rec.session (ended_by actions w.instances) (started_by t.rec.session t.rec.numbers actions)
+            (λ inc i e. still_of i.core.session (all_ended_in s actions w.instances h.servers inc i e))
+            (started_all s t.rec.session t.rec.numbers actions still_there k.sends);
+      }
 
 told_in : (w : World) (x : Input) (told : Result Took ContainerFault) → InOneSession w → on_input w.rec x ≡ told → InOneSession (took w told)
-told_in w x (Err fault) h e = record { links = h.links; sent = h.sent; servers = h.servers }
-told_in w x (Ok t) h e = took_in w t h (sessions_stay w.rec x t h.links e)
+told_in w x (Err fault) h e = record { holds = h.holds; sent = h.sent; servers = h.servers }
+told_in w x (Ok t) h e = took_in w x t (sessions_stay w.rec x t h.holds e) h
 
 only_in : (w : World) (x : Input) (told : Result Took ContainerFault) (v : World) → InOneSession w → on_input w.rec x ≡ told → only_taken w told ≡ Ok v → InOneSession v
 only_in w x (Err fault) v h q e = cc
-only_in w x (Ok t) v h q e = subst InOneSession (ok_is _ v e) (took_in w t h (sessions_stay w.rec x t h.links q))
+only_in w x (Ok t) v h q e = subst InOneSession (ok_is _ v e) (took_in w x t (sessions_stay w.rec x t h.holds q) h)
 
 commanded_in : (w : World) (c : Command) (told : Result Took ContainerFault) → InOneSession w → on_command w.rec c ≡ told → InOneSession (commanded w c told)
-commanded_in w c (Err fault) h e = record { links = h.links; sent = h.sent; servers = h.servers }
-commanded_in w c (Ok t) h e = (let k = took_in w t h (sessions_stay w.rec (Input.Ordered c) t h.links e) in record { links = k.links; sent = k.sent; servers = k.servers })
+commanded_in w c (Err fault) h e = record { holds = h.holds; sent = h.sent; servers = h.servers }
+commanded_in w c (Ok t) h e = (let k = took_in w (Input.Ordered c) t (sessions_stay w.rec (Input.Ordered c) t h.holds e) h in record { holds = k.holds; sent = k.sent; servers = k.servers })
 
 -- ---- what a server does
 known_session : (v : Server) (act : ℕ) (r : Result Acted ServerFault) (told : Served) → after_known v act r ≡ Ok told → told.server.session ≡ v.session
@@ -193,10 +204,10 @@ taken_session v s inc act n op box told e = at (is_for v s inc) e
     at true g = called_session v act n op box (find (is_act act) v.acts) told g
     at false g = cc
 
-module _ (w : World) (h : InOneSession w) (s inc act n : ℕ) (op : Operation) (own : s ≡ w.rec.session) where
+module _ (w : World) (h : InOneSession w) (s inc act n : ℕ) (op : Operation) (own : IsOf w.rec.session s) where
   same_but : (v : World) → v.rec ≡ w.rec → v.sent ≡ w.sent → v.instances ≡ w.instances → InOneSession v
   same_but v r x i = record {
-    links = subst InSession (sym r) h.links;
+    holds = subst InSession (sym r) h.holds;
     sent = subst (λ (q : _). AllOf q.session v.sent) (sym r) (subst (AllOf w.rec.session) (sym x) h.sent);
     servers = subst (λ (q : _). AreIn q.session v.instances) (sym r) (subst (AreIn w.rec.session) (sym i) h.servers);
   }
@@ -204,9 +215,9 @@ module _ (w : World) (h : InOneSession w) (s inc act n : ℕ) (op : Operation) (
   served_in : (i : Instance) (stock : List Kind) (box : Option Kind) (told : Result Served ServerFault) → nth w.instances inc ≡ Some i → on_call i.core (in_session s (Call inc act n op)) box ≡ told → InOneSession (served w s inc act n i stock told)
   served_in i stock box (Err fault) at e = same_but _ refl refl refl
   served_in i stock box (Ok v) at e = record {
-    links = h.links;
+    holds = h.holds;
     sent = more_sent w.rec.session w.sent (record { message = in_session s (Reply inc act n v.answer); view = view_in i.core act } ∷ []) h.sent (one_sent w.rec.session (record { message = in_session s (Reply inc act n v.answer); view = view_in i.core act }) own);
-    servers = set_in w.rec.session w.instances inc i (record i { core = v.server }) at (taken_session i.core s inc act n op box v e ∙ h.servers inc i at) h.servers;
+    servers = set_in w.rec.session w.instances inc i (record i { core = v.server }) at (same_of w.rec.session i.core.session v.server.session (taken_session i.core s inc act n op box v e) (h.servers inc i at)) h.servers;
   }
 
   stocked_in : (i : Instance) (class : List ℕ) (kind : Option Kind) (v : World) → nth w.instances inc ≡ Some i → stocked w s inc act n op i class kind ≡ Ok v → InOneSession v
@@ -235,14 +246,14 @@ delivered_in w m (Ask inc act j) v h g e = subst InOneSession (ok_is _ v e) (tol
 
 logged_in : (w : World) (more : List Taken) (told : Result World Stop) (v : World) → ((u : World) → told ≡ Ok u → InOneSession u) → with_taken w more told ≡ Ok v → InOneSession v
 logged_in w more (Err stop) v g e = cc
-logged_in w more (Ok u) v g e = (let k = g u refl in subst InOneSession (ok_is _ v e) (record { links = k.links; sent = k.sent; servers = k.servers }))
+logged_in w more (Ok u) v g e = (let k = g u refl in subst InOneSession (ok_is _ v e) (record { holds = k.holds; sent = k.sent; servers = k.servers }))
 
 deliver_in : (w : World) (p : ℕ) (x : Option Sent) (v : World) → InOneSession w → nth w.sent p ≡ x → deliver w p x ≡ Ok v → InOneSession v
 deliver_in w p None v h at e = cc
 deliver_in w p (Some x) v h at e = logged_in w (taken_at w.rec (Some p) (link_of x.message) x.message) (delivered w x.message) v (λ u g. delivered_in w x.message x.message.said u h (sent_place w.sent p x at) g) e
 
 forged_on_in : (w : World) (inc : ℕ) (m : Message) → InOneSession w → InOneSession (forged_on w inc m)
-forged_on_in w inc m h = (let k = told_in w (Input.Told (link_to w inc) m) (on_message w.rec (link_to w inc) m) h refl in record { links = k.links; sent = k.sent; servers = k.servers })
+forged_on_in w inc m h = (let k = told_in w (Input.Told (link_to w inc) m) (on_message w.rec (link_to w inc) m) h refl in record { holds = k.holds; sent = k.sent; servers = k.servers })
 
 forged_in : (w : World) (inc : ℕ) (m : Message) (life : Life) (v : World) → InOneSession w → forged w inc m life ≡ Ok v → InOneSession v
 forged_in w inc m Running v h e = subst InOneSession (ok_is _ v e) (forged_on_in w inc m h)
@@ -254,7 +265,7 @@ forge_in w inc m None v h e = cc
 forge_in w inc m (Some i) v h e = forged_in w inc m i.life v h e
 
 crashed_in : (w : World) (inc : ℕ) (i : Instance) (life : Life) (v : World) → InOneSession w → nth w.instances inc ≡ Some i → crashed w inc i life ≡ Ok v → InOneSession v
-crashed_in w inc i Running v h at e = subst InOneSession (ok_is _ v e) (record { links = h.links; sent = h.sent; servers = life_in w.rec.session w.instances inc i Ended at h.servers })
+crashed_in w inc i Running v h at e = subst InOneSession (ok_is _ v e) (record { holds = h.holds; sent = h.sent; servers = life_in w.rec.session w.instances inc i Ended at h.servers })
 crashed_in w inc i Ended v h at e = cc
 crashed_in w inc i Reaped v h at e = cc
 
@@ -266,7 +277,7 @@ reaped_in : (w : World) (inc : ℕ) (i : Instance) (life : Life) (v : World) →
 reaped_in w inc i Running v h at e = cc
 reaped_in w inc i Ended v h at e =
     let u : World = record w { instances = set_nth w.instances inc (record i { life = Reaped }) } in
-    let k : InOneSession u = record { links = h.links; sent = h.sent; servers = life_in w.rec.session w.instances inc i Reaped at h.servers } in
+    let k : InOneSession u = record { holds = h.holds; sent = h.sent; servers = life_in w.rec.session w.instances inc i Reaped at h.servers } in
     subst InOneSession (ok_is _ v e) (told_in u (Input.Reaped inc) (on_reap w.rec inc) k refl)
 reaped_in w inc i Reaped v h at e = cc
 
@@ -275,14 +286,14 @@ reap_in w inc None v h at e = cc
 reap_in w inc (Some i) v h at e = reaped_in w inc i i.life v h at e
 
 spoken_by_in : (w : World) (inc act : ℕ) (i : Instance) (told : Result Told ServerFault) → InOneSession w → nth w.instances inc ≡ Some i → ((t : Told) → told ≡ Ok t → IsTelling i.core act t) → InOneSession (spoken_by w inc act i told)
-spoken_by_in w inc act i (Err fault) h at g = record { links = h.links; sent = h.sent; servers = h.servers }
+spoken_by_in w inc act i (Err fault) h at g = record { holds = h.holds; sent = h.sent; servers = h.servers }
 spoken_by_in w inc act i (Ok t) h at g =
     let k = g t refl in
     let own = h.servers inc i at in
     record {
-      links = h.links;
-      sent = more_sent w.rec.session w.sent (record { message = t.message; view = view_in i.core act } ∷ []) h.sent (one_sent w.rec.session (record { message = t.message; view = view_in i.core act }) (k.session ∙ own));
-      servers = set_in w.rec.session w.instances inc i (record i { core = t.server }) at (k.same ∙ own) h.servers;
+      holds = h.holds;
+      sent = more_sent w.rec.session w.sent (record { message = t.message; view = view_in i.core act } ∷ []) h.sent (one_sent w.rec.session (record { message = t.message; view = view_in i.core act }) (same_of w.rec.session i.core.session t.message.session k.session own));
+      servers = set_in w.rec.session w.instances inc i (record i { core = t.server }) at (same_of w.rec.session i.core.session t.server.session k.same own) h.servers;
     }
 
 spoken_in : (w : World) (inc act : ℕ) (i : Instance) (life : Life) (told : Result Told ServerFault) (v : World) → InOneSession w → nth w.instances inc ≡ Some i → ((t : Told) → told ≡ Ok t → IsTelling i.core act t) → spoken w inc act i life told ≡ Ok v → InOneSession v
@@ -301,7 +312,7 @@ ask_in w inc act (Some i) v h at e = spoken_in w inc act i i.life (server.ask_de
 module _ (w : World) (f : ℕ) (bytes : List ℕ) (h : InOneSession w) (x : Input) where
   done_taken_in : (frame : Frame) (saved : FrameDocument) (told : Result Took ContainerFault) (v : World) → on_input w.rec x ≡ told → done_taken w f bytes frame saved told ≡ Ok v → InOneSession v
   done_taken_in frame saved (Err fault) v q e = cc
-  done_taken_in frame saved (Ok t) v q e = (let k = took_in w t h (sessions_stay w.rec x t h.links q) in subst InOneSession (ok_is _ v e) (record { links = k.links; sent = k.sent; servers = k.servers }))
+  done_taken_in frame saved (Ok t) v q e = (let k = took_in w x t (sessions_stay w.rec x t h.holds q) h in subst InOneSession (ok_is _ v e) (record { holds = k.holds; sent = k.sent; servers = k.servers }))
 
   imaged_in : (frame : Frame) (counted : Result Took ContainerFault) (told : Result FrameDocument ContainerFault) (v : World) → on_input w.rec x ≡ counted → done_imaged w f bytes frame counted told ≡ Ok v → InOneSession v
   imaged_in frame counted (Err fault) v q e = cc
@@ -330,8 +341,8 @@ session_happened w choice (event.Open name x y) v h e = subst InOneSession (ok_i
 
 -- the world in which nothing has happened
 pub empty_session : (numbers : ℕ) (stock : List Kind) → InOneSession (empty_world numbers stock)
-empty_session numbers stock = record { links = in_session_from_the_start numbers; sent = λ m g. absurd g; servers = none }
+empty_session numbers stock = record { holds = in_session_from_the_start numbers; sent = λ m g. absurd g; servers = none }
   where
-    none : (inc : ℕ) (i : Instance) → nth [] inc ≡ Some i → i.core.session ≡ 1
+    none : (inc : ℕ) (i : Instance) → nth [] inc ≡ Some i → IsOf 0 i.core.session
     none zero i e = cc
     none (suc k) i e = cc

@@ -17,6 +17,7 @@ use Rattle.world_numbers.specs.Numbers.{Numbers}
 use Rattle.wire_msgs.specs.declared.message.Message.{Message}
 use Rattle.wire_msgs.specs.Found.{nth}
 use Rattle.container_numbers.specs.Sessions.{InSession}
+pub use Rattle.container_numbers.specs.Sessions.{IsOf}
 
 -- The container's record, the servers, the messages and the logs agree: the record is steady by itself, the servers are
 -- those that it started, and the facts hold of what is looked up, of what senders saw, and of who has frames.
@@ -30,11 +31,11 @@ pub record Agrees (hostile : List ℕ) (rec : Record) (instances : List Instance
 abbrev pub AgreesIn : World → Type 0
 AgreesIn w = Agrees w.hostile w.rec w.instances w.sent w.owners w.container_done w.server_done
 
--- all of a world is in its container's session
+-- all of a world is in its container's session; nothing is in it before there is one
 pub record InOneSession (w : World) : Type 0 where
-  pub links : InSession w.rec
-  pub sent : (m : Message) → WasSent w m → m.session ≡ w.rec.session
-  pub servers : (inc : ℕ) (i : Instance) → nth w.instances inc ≡ Some i → i.core.session ≡ w.rec.session
+  pub holds : InSession w.rec
+  pub sent : (m : Message) → WasSent w m → IsOf w.rec.session m.session
+  pub servers : (inc : ℕ) (i : Instance) → nth w.instances inc ≡ Some i → IsOf w.rec.session i.core.session
 
 pub record Holds (w : World) : Type 0 where
   pub in_session : InOneSession w

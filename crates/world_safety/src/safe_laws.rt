@@ -12,7 +12,8 @@ ghost use Rattle.world_model.specs.declared.event.Event.{Event};
 /// open, no save is counted twice, the container counts commit by commit, where a frame's numbers rise and an object is
 /// counted for one frame, what an honest server counts stands in one of these commits with the same content, the file of a
 /// frame that isn't in doubt has bytes that denote the document of its last one, any file gives the objects of one counted
-/// commit where it is opened, and every number of a message that was sent is at most the limit of the world's numbers.
+/// commit where it is opened, every message that was sent and every server is of the container's session, so that there is
+/// none before it has one, and every number of a message is at most the limit of the world's numbers.
 pub fn every_world_is_safe()
     ensures { (numbers : ℕ) (stock : List Kind) (events : List Event) (w : World) → Run (empty_world numbers stock) events w → Safe w }
 {}

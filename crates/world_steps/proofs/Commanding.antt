@@ -27,10 +27,10 @@ use Rattle.world_steps.proofs.Turns.{one_turn}
 use Rattle.world_steps.proofs.Verbing.{claiming_turned, leaving_turned}
 
 -- where no link changes, and nothing is sent, started or ended, nobody is asked
-still_turned : (r : Record) (t : Took) → ((k : ℕ) → links_of t.rec.objects k ≡ links_of r.objects k) → t.rec.session ≡ r.session → t.rec.last_act ≡ r.last_act → t.rec.servers ≡ r.servers → t.answer.actions ≡ [] → IsTurned r t
-still_turned r t same session last servers none = (
+still_turned : (r : Record) (t : Took) → ((k : ℕ) → links_of t.rec.objects k ≡ links_of r.objects k) → t.rec.last_act ≡ r.last_act → t.rec.servers ≡ r.servers → t.answer.actions ≡ [] → IsTurned r t
+still_turned r t same last servers none = (
   asks_none (links_of r.objects) (links_of t.rec.objects) (sayings_of t.answer.actions) same (ap sayings_of none),
-  record { session = session; last_act = last; servers = ap length servers; starts = λ session numbers. ap (started_by session numbers) none; ends = λ is. ap (λ actions. ended_by actions is) none },
+  record { last_act = last; servers = ap length servers; starts = λ session numbers. ap (started_by session numbers) none; ends = λ is. ap (λ actions. ended_by actions is) none },
 )
 
 -- a new object is passive
@@ -70,22 +70,22 @@ edit_turned r n bytes x l s f xl =
     let ms = (ask l (Edit bytes)).sent in
     let after = links_of (put (is_object x.number) a r.objects) in (
       subst (AsksInTurn (links_of r.objects) after) (sym (messages_sends ms)) (one_turn (links_of r.objects) after (all_said ms) (one_asked r n (Edit bytes) x l s f xl (edit_quiet bytes))),
-      record { session = refl; last_act = refl; servers = refl; starts = λ session numbers. no_start_sent session numbers ms; ends = no_end_sent ms },
+      record { last_act = refl; servers = refl; starts = λ session numbers. no_start_sent session numbers ms; ends = no_end_sent ms },
     )
 
 -- whatever a command makes
 module _ (r : Record) (lives : Lives) (owners : List ℕ) (s : Steady r) (own : (n : ℕ) → nth (owners ++ n ∷ []) (r.last_act + 1) ≡ Some n) (host : (inc : ℕ) → is_alive r inc ≡ true → (life : Life) × (lives inc ≡ Some life)) where
   made_commanded : (ns : List ℕ) (t : Took) → IsMade r t ns → IsCommanded r lives owners t ns
-  made_commanded _ t (makes_nothing made) = command_asks (subst (IsTurned r) made (still_turned r _ (λ k. refl) refl refl refl refl))
-  made_commanded _ t (makes_frame name w h new made) = command_asks (subst (IsTurned r) made (still_turned r _ (λ k. refl) refl refl refl refl))
-  made_commanded _ t (makes_object f kind area at made) = command_asks (subst (IsTurned r) made (still_turned r _ (λ k. link_more r.objects (new_object (r.last_object + 1) f (kind_of kind) area) k refl) refl refl refl refl))
+  made_commanded _ t (makes_nothing made) = command_asks (subst (IsTurned r) made (still_turned r _ (λ k. refl) refl refl refl))
+  made_commanded _ t (makes_frame name w h new made) = command_asks (subst (IsTurned r) made (still_turned r _ (λ k. refl) refl refl refl))
+  made_commanded _ t (makes_object f kind area at made) = command_asks (subst (IsTurned r) made (still_turned r _ (λ k. link_more r.objects (new_object (r.last_object + 1) f (kind_of kind) area) k refl) refl refl refl))
   made_commanded _ t (makes_fewer n at passive made) = command_asks (subst (IsTurned r) made
-      (still_turned r _ (λ k. without_links r.objects at.object.number k s.order (ap link_at at.own ∙ passive)) refl refl refl refl))
+      (still_turned r _ (λ k. without_links r.objects at.object.number k s.order (ap link_at at.own ∙ passive)) refl refl refl))
   made_commanded _ t (makes_server started made) = command_starts made
   made_commanded _ t (makes_end inc alive made) = command_ends inc made
   made_commanded _ t (makes_activation n inc at run made) = command_begins n (subst (IsBegun r lives (owners ++ n ∷ []) n) made (run_begins r lives (owners ++ n ∷ []) n inc at run s (own n) (host inc)))
   made_commanded _ t (makes_edit n bytes go small has made) = command_asks (subst (IsTurned r) made (edit_turned r n bytes go.at.object go.link s go.at.found go.linked))
-  made_commanded _ t (makes_save f name at other made) = command_asks (subst (IsTurned r) made (save_turned r f at.frame name s))
+  made_commanded _ t (makes_save f raised name at raising other made) = command_asks (subst (IsTurned r) made (save_turned r f at.frame raised name s))
   made_commanded _ t (makes_steps n go ts has row made) = command_asks (subst (IsTurned r) made (leaving_turned r n go.at.object go.link s go.at.found go.linked go.at.frame ts))
   made_commanded _ t (makes_taking n go ts taking made) = command_asks (subst (IsTurned r) made (claiming_turned r n go.at.object go.link s go.at.found go.linked go.at.frame ts go.at.inside taking))
 

@@ -69,4 +69,4 @@ module _ (r : Record) (f : ℕ) (frame : Frame) (s : Steady r) (at : nth r.frame
   }
 
   pub commit_plain : IsPlain r (commit_made r f frame)
-  commit_plain = record { session = refl; last_act = refl; servers = refl; starts = λ session numbers. no_start_sent session numbers (asked_all f op r.objects); ends = no_end_sent (asked_all f op r.objects) }
+  commit_plain = record { last_act = refl; servers = refl; starts = λ session numbers. no_start_sent session numbers (asked_all f op r.objects); ends = no_end_sent (asked_all f op r.objects) }

@@ -26,7 +26,7 @@ AsksQuietly r t = AsksAll (λ o op. IsQuiet op) (links_of r.objects) (links_of t
 pub failed_asks : (r : Record) (f : ℕ) (t : Took) → commit_failed r f ≡ Ok t → AsksQuietly r t
 failed_asks r f t e =
     let h = is_failed r f t e in
-    subst (AsksQuietly r) h.made (none_asked (links_of r.objects) (links_of r.objects) (λ n. refl), record { session = refl; last_act = refl; servers = refl; starts = λ session numbers. refl; ends = λ is. refl })
+    subst (AsksQuietly r) h.made (none_asked (links_of r.objects) (links_of r.objects) (λ n. refl), record { last_act = refl; servers = refl; starts = λ session numbers. refl; ends = λ is. refl })
 
 module _ (r : Record) (f : ℕ) (frame : Frame) (s : Steady r) where
   abbrev op : Operation
@@ -48,7 +48,7 @@ module _ (r : Record) (f : ℕ) (frame : Frame) (s : Steady r) where
   drop_asks = (
     subst (λ ms. AsksAll (λ o p. IsQuiet p) (links_of r.objects) (links_of (save_dropped r f frame).rec.objects) ms) (sym (messages_sends (asked_all f op r.objects)))
         (all_mapped (λ o p. IsQuiet p) r.objects (dropped_object f frame) (λ o. all_said (asked_of f op o)) (all_said (asked_all f op r.objects)) (λ o. dropped_if (λ (z : Object). z.number ≡ o.number) f frame o (λ e. refl) (λ e. refl)) each (λ m h. who_is_asked r.objects f op m (ordered_rise r.objects s.order) h)),
-    record { session = refl; last_act = refl; servers = refl; starts = λ session numbers. no_start_sent session numbers (asked_all f op r.objects); ends = no_end_sent (asked_all f op r.objects) },
+    record { last_act = refl; servers = refl; starts = λ session numbers. no_start_sent session numbers (asked_all f op r.objects); ends = no_end_sent (asked_all f op r.objects) },
   )
 
 pub dropped_asks : (r : Record) (f : ℕ) (t : Took) → Steady r → resolve r f false ≡ Ok t → AsksQuietly r t

@@ -43,11 +43,10 @@ pub record IsHanded (r : Record) (v : Requested) : Type 0 where
   pub asked : AsksInTurn (links_of r.objects) (links_of v.rec.objects) (all_said v.sent)
   pub orderly : IsOrderly v.rec
   pub servers : v.rec.servers ≡ r.servers
-  pub session : v.rec.session ≡ r.session
   pub last_act : v.rec.last_act ≡ r.last_act
 
 none_handed : (r : Record) → IsOrderly r → IsHanded r (not_handed r)
-none_handed r h = record { asked = asks_none (links_of r.objects) (links_of r.objects) [] (λ o. refl) refl; orderly = h; servers = refl; session = refl; last_act = refl }
+none_handed r h = record { asked = asks_none (links_of r.objects) (links_of r.objects) [] (λ o. refl) refl; orderly = h; servers = refl; last_act = refl }
 
 hands_quiet : IsQuiet HandsOff
 hands_quiet = λ k storage e. cc
@@ -65,7 +64,6 @@ frame_handed r f frame h =
       asked = one_turn (links_of r.objects) (links_of (map (asked_object f HandsOff) r.objects)) (all_said (asked_all f HandsOff r.objects)) (frame_asked r.objects f HandsOff h.waits h.rises hands_quiet);
       orderly = record { waits = o.0; rises = o.1 };
       servers = refl;
-      session = refl;
       last_act = refl;
     }
 
@@ -85,7 +83,6 @@ handed_further r v u h k = record {
   asked = turns_further (links_of r.objects) (links_of v.rec.objects) (links_of u.rec.objects) v.sent u.sent h.asked k.asked;
   orderly = k.orderly;
   servers = k.servers ∙ h.servers;
-  session = k.session ∙ h.session;
   last_act = k.last_act ∙ h.last_act;
 }
 
@@ -102,12 +99,12 @@ all_handed r h = handed_each 1 r.frames r h
 save_quiet : (k : ℕ) → IsQuiet (Save k)
 save_quiet k = λ j storage e. cc
 
-pub save_turned : (r : Record) (f : ℕ) (frame : Frame) (name : Option (List ℕ)) → Steady r → IsTurned r (save_made r f frame name)
-save_turned r f frame name s =
+pub save_turned : (r : Record) (f : ℕ) (frame : Frame) (raised : Option ℕ) (name : Option (List ℕ)) → Steady r → IsTurned r (save_made r f frame raised name)
+save_turned r f frame raised name s =
     let op = Save (frame.k + 1) in
     let first = asked_all f op r.objects in
-    let v = saving r f frame name in
-    let u = saving_on r f frame name in
+    let v = saving r f frame raised name in
+    let u = saving_on r f frame raised name in
     let h = steady_orderly r s in
     let o = asked_orderly r.objects f op (save_quiet (frame.k + 1)) h.waits h.rises in
     let k = handed_in v f (record { waits = o.0; rises = o.1 }) in
@@ -115,7 +112,6 @@ save_turned r f frame name s =
       subst (AsksInTurn (links_of r.objects) (links_of u.rec.objects)) (sym (sent_of ms 1 u.rec.objects u.rec.frames))
           (asks_first (links_of r.objects) (links_of v.objects) (links_of u.rec.objects) (all_said first) (all_said u.sent) (all_said ms) (frame_asked r.objects f op h.waits h.rises (save_quiet (frame.k + 1))) k.asked (said_join first u.sent)),
       record {
-        session = k.session;
         last_act = k.last_act;
         servers = ap length k.servers;
         starts = λ session count. no_start session count ms (settle_actions u.rec) (no_start_settled session count 1 u.rec.objects u.rec.frames);

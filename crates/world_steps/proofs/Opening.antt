@@ -26,4 +26,4 @@ pub open_asks : (r : Record) (name : List ℕ) (w h : ℕ) (given : Given) (t : 
 open_asks r name w h given t e =
     let k = is_opened r name w h given t e in
     subst (λ (v : Took). AsksAll (λ o op. IsQuiet op) (links_of r.objects) (links_of v.rec.objects) (sayings_of v.answer.actions) × IsPlain r v) k.made
-    (none_asked (links_of r.objects) _ (links_opened r.objects r.last_object _ k.d.objects), record { session = refl; last_act = refl; servers = refl; starts = λ session numbers. refl; ends = λ is. refl })
+    (none_asked (links_of r.objects) _ (links_opened r.objects r.last_object _ k.d.objects), record { last_act = refl; servers = refl; starts = λ session numbers. refl; ends = λ is. refl })

@@ -82,7 +82,6 @@ module _ (hostile : List ℕ) (r : Record) (acts0 : Acts) (lives : Lives) (inc :
               (turns_further (links_of u.objects) (links_of v.rec.objects) (links_of w.rec.objects) v.sent w.sent granted k.asked);
         },
         record {
-          session = k.session ∙ rest.session;
           last_act = k.last_act ∙ rest.last_act;
           servers = ap length (k.servers ∙ rest.servers) ∙ length_set_nth r.servers inc true;
           starts = λ session count. no_start session count ms (settle_actions w.rec) (no_start_settled session count 1 w.rec.objects w.rec.frames);

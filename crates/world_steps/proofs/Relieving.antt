@@ -36,7 +36,7 @@ module _ (r : Record) (s : Steady r) where
       let rest = request_keeps v o.number UiDeactivate in
       let u = relieved r o act g frame in (
         subst (AsksAll (λ o op. IsQuiet op) (links_of r.objects) (links_of u.rec.objects)) (sym (messages_sends u.sent)) asked,
-        record { session = rest.session; last_act = rest.last_act; servers = ap length rest.servers; starts = λ session numbers. no_start_sent session numbers u.sent; ends = no_end_sent u.sent },
+        record { last_act = rest.last_act; servers = ap length rest.servers; starts = λ session numbers. no_start_sent session numbers u.sent; ends = no_end_sent u.sent },
       )
 
   framed_asks : (o : Object) (act g : ℕ) (frame : Option Frame) (t : Took) → ask_framed r o act g frame ≡ Ok t → Result_of t

@@ -277,7 +277,6 @@ module _ {hostile : List ℕ} (r : Record) (acts : Acts) (lives : Lives) (sent :
           joined = sent_of ms 1 w.rec.objects w.rec.frames ∙ (ap all_said (append_assoc (next_sent p.link) v.sent w.sent) ∙ said_join (next_sent p.link) (v.sent ++ w.sent));
         },
         record {
-          session = k.session ∙ g.session;
           last_act = k.last_act ∙ g.last_act;
           servers = ap length (k.servers ∙ g.servers);
           starts = λ session count. no_start session count ms (settle_actions w.rec) (no_start_settled session count 1 w.rec.objects w.rec.frames);

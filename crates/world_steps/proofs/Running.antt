@@ -43,7 +43,6 @@ run_begins r lives owners n inc at run s ow ho =
     } in
     record {
       begins = subst (λ k. Begins (links_of r.objects) (links_of (put test a r.objects)) lives owners r.last_act k (sayings_of (run_made r x inc).answer.actions)) xn made;
-      session = refl;
       last_act = refl;
       servers = refl;
       starts = λ session numbers. refl;

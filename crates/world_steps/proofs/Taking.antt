@@ -202,5 +202,5 @@ write_asks r inc act s w content t steady e =
     let h = write_is r inc act s w content t e in
     subst (λ (v : Took). AsksAll (λ o op. IsQuiet op) (links_of r.objects) (links_of v.rec.objects) (sayings_of v.answer.actions) × IsPlain r v) h.made (
       write_asks_made r inc act w content h.object h.link steady h.found h.linked,
-      record { session = refl; last_act = refl; servers = refl; starts = λ session numbers. refl; ends = λ is. refl },
+      record { last_act = refl; servers = refl; starts = λ session numbers. refl; ends = λ is. refl },
     )

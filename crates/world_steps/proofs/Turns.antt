@@ -198,11 +198,10 @@ module _ (r : Record) (f : ℕ) (waits : Waits (links_of r.objects)) where
   pub record IsRegranted (v : Regranted) : Type 0 where
     pub asked : AsksInTurn (links_of r.objects) (links_of v.rec.objects) (all_said v.sent)
     pub servers : v.rec.servers ≡ r.servers
-    pub session : v.rec.session ≡ r.session
     pub last_act : v.rec.last_act ≡ r.last_act
 
   nothing_regranted : IsRegranted (record { rec = r; sent = []; no_tools = false })
-  nothing_regranted = record { asked = asks_none (links_of r.objects) (links_of r.objects) [] (λ o. refl) refl; servers = refl; session = refl; last_act = refl }
+  nothing_regranted = record { asked = asks_none (links_of r.objects) (links_of r.objects) [] (λ o. refl) refl; servers = refl; last_act = refl }
 
   regranted_by_event : (frame : Frame) (e : Option Event) → IsRegranted (regranted_by r f frame e)
   regranted_by_event frame None = nothing_regranted
@@ -210,7 +209,7 @@ module _ (r : Record) (f : ℕ) (waits : Waits (links_of r.objects)) where
       let v = with_frame r f (moved frame e) in
       let claims = passed_to frame.ui.state (after frame.ui e).state in
       let rest = grants_keep claims v in
-      record { asked = grants_asked claims v waits; servers = rest.servers; session = rest.session; last_act = rest.last_act }
+      record { asked = grants_asked claims v waits; servers = rest.servers; last_act = rest.last_act }
 
   regranted_at : (told : Tells) (frame : Option Frame) → IsRegranted (regranted_in r f told frame)
   regranted_at told None = nothing_regranted

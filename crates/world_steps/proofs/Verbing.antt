@@ -77,7 +77,7 @@ module _ (r : Record) (n : ℕ) (o : Object) (l : Link) (s : Steady r) (found : 
       let ms = (stepped_link 0 l ss).sent in
       let a : Object = record o { link = Some (stepped_link 0 l ss).link } in (
         subst (AsksInTurn (links_of r.objects) (links_of (put (is_object o.number) a r.objects))) (sym (messages_sends ms)) (object_steps r o l o at linked waits 0 ss),
-        record { session = refl; last_act = refl; servers = refl; starts = λ session numbers. no_start_sent session numbers ms; ends = no_end_sent ms },
+        record { last_act = refl; servers = refl; starts = λ session numbers. no_start_sent session numbers ms; ends = no_end_sent ms },
       )
 
   pub leaving_turned : (frame : Frame) (ss : List Step) → IsTurned r (leaving_made r frame o l ss)
@@ -103,7 +103,7 @@ module _ (r : Record) (n : ℕ) (o : Object) (l : Link) (s : Steady r) (found : 
       let x = linked_object v.rec.objects o.number l here in
       let steps = object_steps v.rec o l x.0 x.1 x.2 waits g ss in (
         subst (AsksInTurn (links_of r.objects) (links_of (put (is_object o.number) a v.rec.objects))) (sym (messages_sends (v.sent ++ ms))) (turns_further (links_of r.objects) (links_of v.rec.objects) (links_of (put (is_object o.number) a v.rec.objects)) v.sent ms asked steps),
-        record { session = rest.session; last_act = rest.last_act; servers = ap length rest.servers; starts = λ session numbers. no_start_sent session numbers (v.sent ++ ms); ends = no_end_sent (v.sent ++ ms) },
+        record { last_act = rest.last_act; servers = ap length rest.servers; starts = λ session numbers. no_start_sent session numbers (v.sent ++ ms); ends = no_end_sent (v.sent ++ ms) },
       )
 
   with_holder : (frame : Frame) (ss : List Step) (holder : Option ℕ) → (holder ≡ Some o.number → ⊥) → IsTurned r (taken_after (revoked_at (claimed r frame o l) holder) ss)

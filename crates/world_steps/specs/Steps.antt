@@ -11,7 +11,6 @@ use Rattle.world_facts.specs.Shapes.{AsksAll, IsQuiet, Begins, Settles, SendsNex
 
 -- a step that makes no activation, and starts and ends no server
 pub record IsPlain (r : Record) (t : Took) : Type 0 where
-  pub session : t.rec.session ≡ r.session
   pub last_act : t.rec.last_act ≡ r.last_act
   pub servers : length t.rec.servers ≡ length r.servers
   pub starts : (session numbers : ℕ) → started_by session numbers t.answer.actions ≡ []
@@ -20,7 +19,6 @@ pub record IsPlain (r : Record) (t : Took) : Type 0 where
 -- A run that is taken begins an activation.
 pub record IsBegun (r : Record) (lives : Lives) (owners : List ℕ) (o : ℕ) (t : Took) : Type 0 where
   pub begins : Begins (links_of r.objects) (links_of t.rec.objects) lives owners r.last_act o (sayings_of t.answer.actions)
-  pub session : t.rec.session ≡ r.session
   pub last_act : t.rec.last_act ≡ r.last_act + 1
   pub servers : length t.rec.servers ≡ length r.servers
   pub starts : (session numbers : ℕ) → started_by session numbers t.answer.actions ≡ []

@@ -95,12 +95,12 @@ pub(crate) fn is_shown(world: &World, words: &mut SplitWhitespace<'_>) -> bool {
         && word(words).is_empty()
 }
 
-/// What an event was answered.
+/// What an event was answered: why it was refused or dropped, or that it was taken.
 pub(crate) fn answer(world: &World, event: u32) -> &'static str {
     match world.answer(event) {
         Some(EventAnswer::Took(_)) => "took",
-        Some(EventAnswer::Refused(_)) => "refused",
-        Some(EventAnswer::Dropped(_)) => "dropped",
+        Some(EventAnswer::Refused(fault)) => fault.name(),
+        Some(EventAnswer::Dropped(fault)) => fault.name(),
         None => "none",
     }
 }

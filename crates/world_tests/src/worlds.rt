@@ -18,6 +18,8 @@ use world_run::world::World;
 
 /// A note that is saved.
 const SAVED: &str = "new a 40 10
+session
+done 1
 insert 1 note 0 0 20 5
 start
 run 1 1
@@ -34,7 +36,7 @@ deliver 7
 deliver 8";
 
 const REPORT: &str =
-    "frame 1 a Free k 1 stored\nobject 1 frame 1 Note Running Normal act 1 s 2 Text=6161\ndone container 1 1\ndone server 1 1\n";
+    "session 1\nframe 1 a Free k 2 stored\nobject 1 frame 1 Note Running Normal act 1 s 2 Text=6161\ndone container 1 2\ndone server 1 2\n";
 
 /// What the note writes, and its content when it is closed; a frame without objects that is saved; then a command that is
 /// refused, and a call that is dropped.
@@ -55,26 +57,72 @@ const FORGED: &str =
 scribble 1.1 1
 deliver 9";
 
-/// What is looked at, and what it is: how many events, messages and frames there are, and the contents that were counted or
-/// taken; the text of the note in a frame's file; what an event was answered.
-const NEW_SHOWS: &str = "shown events 0 sent 0 frames 0
-file 1 none";
+/// Sessions that are asked for in vain: without a frame, while the commit of one is asked, while it is in doubt, and where there
+/// is one. Before that no server starts and nothing else is saved. A lost one is asked for again.
+const RAISED: &str = "session
+new a 40 10
+start
+save 1
+saveas 1 b
+session
+session
+fail 1
+session
+resolve 1 lost
+save 1
+session
+done 1
+session
+start";
 
-const SAVED_SHOWS: &str = "shown events 15 sent 8 frames 1 container 1 1 server 1 1 1 counted 1 1
+/// A lost session, whose save has the last number.
+const SPENT: &str = "new a 40 10
+session
+fail 1
+resolve 1 lost
+session";
+
+/// What is looked at, and what it is: how many events, messages and frames there are, and the contents that were counted or
+/// taken; the text of the note in a frame's file; what an event was answered; the session.
+const NEW_SHOWS: &str = "shown events 0 sent 0 frames 0
+file 1 none
+session 0";
+
+const SAVED_SHOWS: &str = "shown events 17 sent 8 frames 1 container 1 2 server 1 1 2 counted 2 1
 file 1 aa
-file 2 none";
+file 2 none
+session 1";
 
 const CLOSED_SHOWS: &str =
-    "shown events 25 sent 11 frames 2 container 1 1 server 1 1 1 taken 9 1 1 1 2 taken 11 1 1 1 2 counted 1 1
+    "shown events 27 sent 11 frames 2 container 1 2 server 1 1 2 taken 9 1 1 1 2 taken 11 1 1 1 2 counted 2 1
 file 2 empty
 answer 1 took
-answer 24 refused
-answer 25 dropped";
+answer 26 NoSuch
+answer 27 Ignored";
 
 const FORGED_SHOWS: &str =
-    "shown events 18 sent 9 frames 1 container 1 1 server 1 1 1 hostile 1 forged 1 1 1 2 counted 1 1
-answer 16 took
-answer 18 refused";
+    "shown events 20 sent 9 frames 1 container 1 2 server 1 1 2 hostile 1 forged 1 1 1 2 counted 2 1
+answer 18 took
+answer 20 Stale";
+
+const RAISED_SHOWS: &str = "shown events 15 sent 0 frames 1 counted 2 0
+answer 1 NoSuch
+answer 3 WrongState
+answer 4 WrongState
+answer 5 WrongState
+answer 6 took
+answer 7 Busy
+answer 9 InDoubt
+answer 11 WrongState
+answer 12 took
+answer 14 WrongState
+answer 15 took
+session 1";
+
+const SPENT_SHOWS: &str = "shown events 5 sent 0 frames 1
+file 1 none
+answer 5 NumbersSpent
+session 0";
 
 fn boxed(rt: &impl Abort, alloc: Global) -> Box<dyn Embedded> {
     let tally = Tally::new(alloc).expect(rt, "memory");
@@ -85,11 +133,21 @@ fn add(rt: &impl Abort, stock: &mut Stock, boxed: Box<dyn Embedded>) {
     assert!(rt; stock.add(boxed).is_ok());
 }
 
-/// A world that gives numbers up to 1000, with one note in stock.
-fn world(rt: &impl Abort, alloc: Global) -> World {
+/// A stock of one note.
+fn stock(rt: &impl Abort, alloc: Global) -> Stock {
     let mut stock = Stock::new(alloc);
     add(rt, &mut stock, boxed(rt, alloc));
-    World::new(alloc, Limits { numbers: 1000 }, stock)
+    stock
+}
+
+/// A world that gives numbers up to 1000, with one note in stock.
+fn world(rt: &impl Abort, alloc: Global) -> World {
+    World::new(alloc, Limits { numbers: 1000 }, stock(rt, alloc))
+}
+
+/// The same with a single number.
+fn narrow_world(rt: &impl Abort, alloc: Global) -> World {
+    World::new(alloc, Limits { numbers: 1 }, stock(rt, alloc))
 }
 
 fn event(rt: &impl Abort, alloc: Global, line: &str) -> Event {
@@ -110,12 +168,13 @@ fn run(alloc: Global, world: &mut World, events: &[Event]) -> Option<Stop> {
     world.run(alloc, events).1
 }
 
-/// `shown ..`, `file FRAME TEXT` or `answer EVENT NAME`: whether a world shows this.
+/// `shown ..`, `file FRAME TEXT`, `answer EVENT NAME` or `session NUMBER`: whether a world shows this.
 fn shows(rt: &impl Abort, alloc: Global, world: &World, row: &str) -> bool {
     let mut words = row.split_whitespace();
     match word(&mut words) {
         "file" => file(rt, alloc, world, number(&mut words)) == word(&mut words),
         "answer" => answer(world, number(&mut words)) == word(&mut words),
+        "session" => world.container().session() == number(&mut words),
         _ => is_shown(world, &mut words),
     }
 }
@@ -151,6 +210,18 @@ fn a_forged_content_has_no_place(rt: HostRuntime) {
     let mut world = world(&rt, rt.alloc());
     play(&rt, rt.alloc(), &mut world, SAVED, SAVED_SHOWS);
     play(&rt, rt.alloc(), &mut world, FORGED, FORGED_SHOWS);
+}
+
+#[test]
+fn a_session_is_raised_once(rt: HostRuntime) {
+    let mut world = world(&rt, rt.alloc());
+    play(&rt, rt.alloc(), &mut world, RAISED, RAISED_SHOWS);
+}
+
+#[test]
+fn a_lost_session_spends_a_number(rt: HostRuntime) {
+    let mut world = narrow_world(&rt, rt.alloc());
+    play(&rt, rt.alloc(), &mut world, SPENT, SPENT_SHOWS);
 }
 
 /// Runs events one after the other, and each again where memory ran out: whether all were taken.

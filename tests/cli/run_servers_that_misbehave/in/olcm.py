@@ -15,7 +15,7 @@ def note():
 def begin():
     note()
     if sys.argv[2] == "1":
-        os.execv(os.environ["OLECON"], ["olecon", "serve", "1"])
+        os.execv(os.environ["OLECON"], ["olecon", *sys.argv[1:]])
 
 
 def frame(kind, *numbers, rest=b"", session=SESSION):

@@ -1,5 +1,5 @@
 use Rattle.std.proofs.Common.{◌≡◌, ℕ}
-use Rattle.script_model.specs.Orders.{orders}
+use Rattle.script_model.specs.Orders.{asked}
 use Rattle.script_model.specs.Bounds.{pace}
 use Rattle.script_model.specs.Events.{running}
 use Rattle.script_model.specs.Origins.{passed}
@@ -12,5 +12,5 @@ invariant-loop-action g l = record {
   still : (s : ℕ) → running s (g.H.Host.told l.host) ≡ running s (g.H.Host.told l.fn.host);
   quiet : (s : ℕ) → passed s (g.H.Host.told l.host) ≡ passed s (g.H.Host.told l.fn.host);
   paced : (s : ℕ) → pace s (g.H.Host.told l.host) ≡ pace s (g.H.Host.told l.fn.host);
-  ordered : orders (g.H.Host.told l.host) ≡ orders (g.H.Host.told l.fn.host);
+  ordered : asked (g.H.Host.told l.host) ≡ asked (g.H.Host.told l.fn.host);
 }

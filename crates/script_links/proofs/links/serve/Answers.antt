@@ -49,3 +49,6 @@ pub returns-in_err-heard-clause-shown : goal.returns-in_err-heard-clause-shown
 returns-in_err-heard-clause-shown g c =
     let again : IsErrAnd c.from_residual-in_err-heard.result (λ x. x ≡ c.in_err-heard.field-0.0) = search rules in
     passed_on g.H.Disk.Disk c.from_residual-in_err-heard.result c.in_err-heard.field-0.0 (g.H.Host.told c.exchange-2.new.host) again c.in_err-heard.ensures.shown
+
+pub exchange-requires-2-clause-told : goal.exchange-requires-2-clause-told
+exchange-requires-2-clause-told g c = c.reconnect.ensures.told c.exchange.new.core c.exchange.ensures.told

@@ -1,5 +1,6 @@
 use Rattle.std.proofs.Common.{◌≡◌}
 use Rattle.script_model.specs.Bounds.{AreBounded}
+use Rattle.script_model.specs.Containers.{AreStarted}
 use Rattle.script_model.specs.Errors.{before_ends}
 use Rattle.script_model.specs.Orders.{orders}
 use Rattle.script_model.specs.Origins.{AreHeard}
@@ -15,6 +16,7 @@ invariant-loop-link g l = record {
   heard : AreHeard (g.H.Host.told l.host);
   saved : AreSaved g.H.Disk.Disk (g.H.Host.told l.host);
   opened : g.H.Disk.Disk.follows_model → AreOpened g.H.Disk.Disk (g.H.Host.told l.host);
+  started : AreStarted (g.H.Host.told l.host);
   linked : AreLinked (g.H.Host.told l.host) l.links.items;
   ends : before_ends (g.H.Host.told l.host) ≡ before_ends (g.H.Host.told l.fn.host);
   ordered : orders (g.H.Host.told l.host) ≡ orders (g.H.Host.told l.fn.host);

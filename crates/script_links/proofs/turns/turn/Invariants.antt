@@ -1,5 +1,5 @@
 use Rattle.std.proofs.Common.{length, ◌≡◌, ◌-◌, Bool, ℕ}
-use Rattle.script_model.specs.Orders.{orders}
+use Rattle.script_model.specs.Orders.{asked}
 use Rattle.script_links.specs.Links.{AreLinked, AreServed, HoldFor}
 use Rattle.script_links.specs.Ready.{AreDue, AreReady, HaveHad, IsUnderway}
 use Rattle.script_container.specs.Told.{IsTold}
@@ -13,7 +13,7 @@ invariant-loop-place g l = record {
   each : (n : ℕ) → AreReady n (g.H.Host.told l.fn.host) l.fn.links.items → IsUnderway n (g.H.Host.told l.host) l.links.items l.place;
   holding : (f : ℕ → Bool) → HoldFor f l.fn.links.items → HoldFor f l.links.items;
   due : (n : ℕ) → AreDue n (g.H.Host.told l.fn.host) l.fn.links.items → HaveHad n (g.H.Host.told l.host) l.links.items l.place;
-  ordered : orders (g.H.Host.told l.host) ≡ orders (g.H.Host.told l.fn.host);
+  ordered : asked (g.H.Host.told l.host) ≡ asked (g.H.Host.told l.fn.host);
 }
 
 abbrev pub decreases-loop-place : goal.decreases-loop-place

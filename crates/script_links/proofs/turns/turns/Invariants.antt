@@ -1,5 +1,5 @@
 use Rattle.std.proofs.Common.{◌≡◌, ◌+◌, Bool, ℕ}
-use Rattle.script_model.specs.Orders.{orders}
+use Rattle.script_model.specs.Orders.{asked}
 use Rattle.script_links.specs.Links.{AreLinked, AreServed, HoldFor}
 use Rattle.script_links.specs.Ready.{AreDue, AreReady}
 use Rattle.script_container.specs.Told.{IsTold}
@@ -13,5 +13,5 @@ invariant-loop-done g l = record {
   ready : AreReady (l.done + 1) (g.H.Host.told l.host) l.links.items;
   holding : (f : ℕ → Bool) → HoldFor f l.fn.links.items → HoldFor f l.links.items;
   due : AreDue (l.done + 1) (g.H.Host.told l.host) l.links.items;
-  ordered : orders (g.H.Host.told l.host) ≡ orders (g.H.Host.told l.fn.host);
+  ordered : asked (g.H.Host.told l.host) ≡ asked (g.H.Host.told l.fn.host);
 }

@@ -1,5 +1,5 @@
 use Rattle.std.proofs.Common.{◌≡◌, Bool, ℕ}
-use Rattle.script_model.specs.Orders.{orders}
+use Rattle.script_model.specs.Orders.{asked}
 use Rattle.script_model.specs.Bounds.{pace}
 use Rattle.script_links.specs.Links.{AreLinked, AreServed, HoldFor}
 use Rattle.script_links.specs.Told.{IsTold}
@@ -12,5 +12,5 @@ invariant-loop-action g l = record {
   served : AreServed (g.H.Host.told l.host) l.links.items;
   paced : (s : ℕ) → pace s (g.H.Host.told l.host) ≡ pace s (g.H.Host.told l.fn.host);
   holding : (f : ℕ → Bool) → HoldFor f l.fn.links.items → HoldFor f l.links.items;
-  ordered : orders (g.H.Host.told l.host) ≡ orders (g.H.Host.told l.fn.host);
+  ordered : asked (g.H.Host.told l.host) ≡ asked (g.H.Host.told l.fn.host);
 }

@@ -2,8 +2,10 @@ use Rattle.std.proofs.Common.{◌≡◌, ◌∙◌, ap, inr, sym, rules}
 use Rattle.std.specs.Result.{IsErrAnd}
 use Rattle.container_model.specs.Record.{Record}
 use Rattle.script_model.specs.Errors.{behind_hold}
+use Rattle.script_model.specs.Orders.{asked, ordered_by, orders}
 use Rattle.script_model.specs.Saved.{is_any_unsaved}
 use Rattle.script_container.proofs.Shown.{memory_on, passed_on}
+use Rattle.script_run.proofs.Ordered.{begun_on}
 use Rattle.script_run.proofs.commands.carry_out.Goals as goal
 
 pub returns-in_err-told-clause-shown : goal.returns-in_err-told-clause-shown
@@ -36,3 +38,26 @@ returns-then-is_any_unsaved-clause-shown g c = inr (ap (λ (r : Record). is_any_
 
 pub returns-then-is_any_unsaved-clause-holding : goal.returns-then-is_any_unsaved-clause-holding
 returns-then-is_any_unsaved-clause-holding g c = λ f hold. c.turns.ensures.holding (λ s. behind_hold c.args.command s (f s)) (c.begin.ensures.holding f hold)
+
+pub returns-in_err-turns-clause-begun : goal.returns-in_err-turns-clause-begun
+returns-in_err-turns-clause-begun g c =
+    begun_on c.args.command (orders (g.H.Host.told c.args.host.now)) (asked (g.H.Host.told c.begin.new.host)) (asked (g.H.Host.told c.turns.new.host)) c.turns.ensures.ordered c.begin.ensures.begun
+
+pub returns-then-is_any_unsaved-clause-begun : goal.returns-then-is_any_unsaved-clause-begun
+returns-then-is_any_unsaved-clause-begun g c =
+    begun_on c.args.command (orders (g.H.Host.told c.args.host.now)) (asked (g.H.Host.told c.begin.new.host)) (asked (g.H.Host.told c.turns.new.host)) c.turns.ensures.ordered c.begin.ensures.begun
+
+pub returns-in_err-push_told-clause-begun : goal.returns-in_err-push_told-clause-begun
+returns-in_err-push_told-clause-begun g c =
+    begun_on c.args.command (orders (g.H.Host.told c.args.host.now)) (asked (g.H.Host.told c.begin.new.host)) (asked (g.H.Host.told c.turns.new.host)) c.turns.ensures.ordered c.begin.ensures.begun
+
+pub returns-in-Ok-clause-begun : goal.returns-in-Ok-clause-begun
+returns-in-Ok-clause-begun g c =
+    begun_on c.args.command (orders (g.H.Host.told c.args.host.now)) (asked (g.H.Host.told c.begin.new.host)) (asked (g.H.Host.told c.turns.new.host)) c.turns.ensures.ordered c.begin.ensures.begun
+
+pub returns-clause-begun : goal.returns-clause-begun
+returns-clause-begun g c =
+    begun_on c.args.command (orders (g.H.Host.told c.args.host.now)) (asked (g.H.Host.told c.begin.new.host)) (asked (g.H.Host.told c.turns.new.host)) c.turns.ensures.ordered c.begin.ensures.begun
+
+pub returns-in-Ok-clause-ordered : goal.returns-in-Ok-clause-ordered
+returns-in-Ok-clause-ordered g c = ap ordered_by c.turns.ensures.ordered ∙ c.in_ok-told.ensures.ordered

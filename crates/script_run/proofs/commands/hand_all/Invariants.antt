@@ -1,5 +1,5 @@
 use Rattle.std.proofs.Common.{◌≡◌, ℕ}
-use Rattle.script_model.specs.Orders.{orders}
+use Rattle.script_model.specs.Orders.{asked}
 use Rattle.std.specs.Vec.Iter.{into_iter_items}
 use Rattle.script_model.specs.Bounds.{pace}
 use Rattle.script_model.specs.Events.{running}
@@ -16,5 +16,5 @@ invariant-loop-taken g l = record {
   paced : (s : ℕ) → pace s (g.H.Host.told l.host) ≡ pace s (g.H.Host.told l.fn.host);
   next : AreNext (passed l.inc (g.H.Host.told l.host)) (into_iter_items l.taken-iterator);
   given : giving (into_iter_items l.taken-iterator) (passed l.inc (g.H.Host.told l.host)) ≡ giving l.fn.waiting (passed l.inc (g.H.Host.told l.fn.host));
-  ordered : orders (g.H.Host.told l.host) ≡ orders (g.H.Host.told l.fn.host);
+  ordered : asked (g.H.Host.told l.host) ≡ asked (g.H.Host.told l.fn.host);
 }

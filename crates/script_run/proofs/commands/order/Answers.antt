@@ -1,9 +1,26 @@
-use Rattle.std.proofs.Common.{◌≡◌, rules}
-use Rattle.std.specs.Result.{IsErrAnd}
-use Rattle.script_container.proofs.Shown.{passed_on}
+use Rattle.std.proofs.Common.{◌≡◌}
+use Rattle.script_model.specs.Containers.{record_of}
+use Rattle.script_model.specs.Orders.{asked, behind_given, orders}
+use Rattle.script_links.proofs.Served.{on_ok}
+use Rattle.script_run.proofs.Ordered.{alone_begun, given_alone, is_begun, is_given, readied_at}
 use Rattle.script_run.proofs.commands.order.Goals as goal
 
-pub returns-in_err-act-in-Ok-clause-shown : goal.returns-in_err-act-in-Ok-clause-shown
-returns-in_err-act-in-Ok-clause-shown g c =
-    let again : IsErrAnd c.from_residual.result (λ x. x ≡ c.in_err-act-in-Ok.field-0.0) = search rules in
-    passed_on g.H.Disk.Disk c.from_residual.result c.in_err-act-in-Ok.field-0.0 (g.H.Host.told c.act.new.host) again c.in_err-act-in-Ok.ensures.shown
+pub give-requires-clause-readied : goal.give-requires-clause-readied
+give-requires-clause-readied g c =
+    readied_at c.args.ordered c.args.core.now (record_of (g.H.Host.told c.args.host.now)) (asked (g.H.Host.told c.args.host.now)) c.requires.told.recorded (c.is_first_start.ensures.other (asked (g.H.Host.told c.args.host.now)) c.if-is_first_start.false)
+
+pub returns-then-is_first_start-clause-ordered : goal.returns-then-is_first_start-clause-ordered
+returns-then-is_first_start-clause-ordered g c =
+    is_given c.start_first.result c.args.ordered (orders (g.H.Host.told c.args.host.now)) (orders (g.H.Host.told c.start_first.new.host)) (c.is_first_start.ensures.first c.if-is_first_start.true) c.start_first.ensures.ordered
+
+pub returns-then-is_first_start-clause-begun : goal.returns-then-is_first_start-clause-begun
+returns-then-is_first_start-clause-begun g c =
+    is_begun c.args.ordered (orders (g.H.Host.told c.args.host.now)) (orders (g.H.Host.told c.start_first.new.host)) (c.is_first_start.ensures.first c.if-is_first_start.true) c.start_first.ensures.begun
+
+pub returns-clause-ordered : goal.returns-clause-ordered
+returns-clause-ordered g c =
+    on_ok c.give.result (orders (g.H.Host.told c.give.new.host) ≡ behind_given c.args.ordered (orders (g.H.Host.told c.args.host.now)))
+    (given_alone c.args.ordered (asked (g.H.Host.told c.give.new.host)) (asked (g.H.Host.told c.args.host.now)) c.give.ensures.ordered)
+
+pub returns-clause-begun : goal.returns-clause-begun
+returns-clause-begun g c = alone_begun c.args.ordered (asked (g.H.Host.told c.give.new.host)) (asked (g.H.Host.told c.args.host.now)) c.give.ensures.ordered

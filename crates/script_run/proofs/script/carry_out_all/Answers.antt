@@ -4,7 +4,7 @@ use Rattle.std.specs.Vec.Iter.{into_iter_items}
 use Rattle.container_model.specs.Record.{Record}
 use Rattle.script_model.specs.Saved.{is_any_unsaved}
 use Rattle.script_links.specs.Links.{is_any_held}
-use Rattle.script_run.proofs.Carried.{left_held, so_far_begun, so_far_more}
+use Rattle.script_run.proofs.Carried.{last_begun, left_held, so_far_more}
 use Rattle.script_run.proofs.Faulted.{handed_on}
 use Rattle.script_run.proofs.Held.{some_held}
 use Rattle.script_run.proofs.Settled.{settled_by}
@@ -23,17 +23,15 @@ loop-place-preserved g c =
       quiet = c.in_ok-carry_out.ensures.quiet;
       saved = c.in_ok-carry_out.ensures.saved;
       so_far = so_far_more (g.H.Host.told c.loop-place.host) (g.H.Host.told c.begins.new.host) (g.H.Host.told c.carry_out.new.host) c.loop-place.links.items c.carry_out.new.links.items c.args.commands.items (into_iter_items c.loop-place.place-iterator.iter)
-          (into_iter_items c.next.new.self.iter) c.in-Some.command c.loop-place.place-iterator.count c.in-Some.place c.next.new.self.count c.loop-place.invariant.so_far at counts items c.begins.ensures.ordered c.carry_out.ensures.ordered c.carry_out.ensures.holding;
+          (into_iter_items c.next.new.self.iter) c.in-Some.command c.loop-place.place-iterator.count c.in-Some.place c.next.new.self.count c.loop-place.invariant.so_far at counts items c.begins.ensures.ordered c.in_ok-carry_out.ensures.ordered c.carry_out.ensures.holding;
     }
 
 pub returns-in_err-carry_out-clause-begun : goal.returns-in_err-carry_out-clause-begun
 returns-in_err-carry_out-clause-begun g c =
     let items : into_iter_items c.loop-place.place-iterator.iter ≡ c.in-Some.command ∷ into_iter_items c.next.new.self.iter = search rules in
     let at : c.in-Some.place ≡ c.loop-place.place-iterator.count = search rules in
-    let counts : c.next.new.self.count ≡ c.loop-place.place-iterator.count + 1 = search rules in
-    let now = so_far_more (g.H.Host.told c.loop-place.host) (g.H.Host.told c.begins.new.host) (g.H.Host.told c.carry_out.new.host) c.loop-place.links.items c.carry_out.new.links.items c.args.commands.items (into_iter_items c.loop-place.place-iterator.iter)
-    (into_iter_items c.next.new.self.iter) c.in-Some.command c.loop-place.place-iterator.count c.in-Some.place c.next.new.self.count c.loop-place.invariant.so_far at counts items c.begins.ensures.ordered c.carry_out.ensures.ordered c.carry_out.ensures.holding in
-    so_far_begun (g.H.Host.told c.carry_out.new.host) c.carry_out.new.links.items c.args.commands.items (into_iter_items c.next.new.self.iter) c.next.new.self.count now
+    last_begun (g.H.Host.told c.loop-place.host) (g.H.Host.told c.begins.new.host) (g.H.Host.told c.carry_out.new.host) c.loop-place.links.items c.args.commands.items (into_iter_items c.loop-place.place-iterator.iter)
+    (into_iter_items c.next.new.self.iter) c.in-Some.command c.loop-place.place-iterator.count c.in-Some.place c.loop-place.invariant.so_far at items c.begins.ensures.ordered c.carry_out.ensures.begun
 
 pub returns-in_err-carry_out-clause-shown : goal.returns-in_err-carry_out-clause-shown
 returns-in_err-carry_out-clause-shown g c =

@@ -14,7 +14,7 @@ pub returns-in_default-clause-stopped : goal.returns-in_default-clause-stopped
 returns-in_default-clause-stopped g c = record {
   links = g.L.Links.told c.args.links.now;
   count = 0;
-  left = first_turn c.args.inc c.args.numbers;
+  left = first_turn c.args.session c.args.inc c.args.numbers;
   served = none;
   few = omega arith;
   behind = c.in_default.ensures;
@@ -24,7 +24,7 @@ pub loop-init : goal.loop-init
 loop-init g c = (
   c.in_ok-start.ensures.started,
   omega arith,
-  on_first _ g.L.Reader.Read.remaining g.L.Writer.Write.contents (first_turn c.args.inc c.args.numbers) (g.L.Links.told c.args.links.now) c.start.new.self c.in-Some.link _ c.in-Some.ensures
+  on_first _ g.L.Reader.Read.remaining g.L.Writer.Write.contents (first_turn c.args.session c.args.inc c.args.numbers) (g.L.Links.told c.args.links.now) c.start.new.self c.in-Some.link _ c.in-Some.ensures
       (λ unread held. c.in_ok-start.ensures.underway is_made unread held),
 )
 

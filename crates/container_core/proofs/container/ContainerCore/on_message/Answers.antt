@@ -6,6 +6,7 @@ use Rattle.container_model.specs.Messages.{on_message}
 use Rattle.container_model.specs.Record.{Record}
 use Rattle.container_model.specs.Room.{IsSound}
 use Rattle.container_numbers.specs.FewFrames.{FewFrames}
+use Rattle.container_numbers.specs.Sessions.{InSession}
 use Rattle.container_steps.proofs.StepsKeep.{step_keeps}
 use Rattle.container_laws.specs.Apart.{StaysApart}
 use Rattle.container_laws.proofs.ApartLaws.{stays_as_it_was}
@@ -36,4 +37,5 @@ invariant_of-self c = (
   step_keeps Steady c.self.inside.state c.on_message.new.self (on_message c.self.inside.state c.args.link c.args.message) [] c.self.invariant.0 (λ t e. c.steady_after.ensures c.self.inside.state (Input.Told c.args.link c.args.message) t c.self.invariant.0 e) c.on_message.result c.on_message.ensures.taken c.on_message.ensures.kept,
   step_keeps IsSound c.self.inside.state c.on_message.new.self (on_message c.self.inside.state c.args.link c.args.message) [] c.self.invariant.1 (λ t e. c.sound_after.ensures c.self.inside.state (Input.Told c.args.link c.args.message) t c.self.invariant.0 c.self.invariant.1 e) c.on_message.result c.on_message.ensures.taken c.on_message.ensures.kept,
   step_keeps FewFrames c.self.inside.state c.on_message.new.self (on_message c.self.inside.state c.args.link c.args.message) [] c.self.invariant.2 (λ t e. c.few_frames_after.ensures c.self.inside.state (Input.Told c.args.link c.args.message) t c.self.invariant.2 e) c.on_message.result c.on_message.ensures.taken c.on_message.ensures.kept,
+  step_keeps InSession c.self.inside.state c.on_message.new.self (on_message c.self.inside.state c.args.link c.args.message) [] c.self.invariant.3 (λ t e. (c.sessions_stay.ensures c.self.inside.state (Input.Told c.args.link c.args.message) t c.self.invariant.3 e).holds) c.on_message.result c.on_message.ensures.taken c.on_message.ensures.kept,
 )

@@ -4,6 +4,7 @@ use Rattle.container_model.specs.Inputs.{Input}
 use Rattle.container_model.specs.Messages.{on_reap}
 use Rattle.container_model.specs.Room.{IsSound}
 use Rattle.container_numbers.specs.FewFrames.{FewFrames}
+use Rattle.container_numbers.specs.Sessions.{InSession}
 use Rattle.container_steps.proofs.StepsKeep.{step_keeps}
 use Rattle.container_core.proofs.container.ContainerCore.on_reap.Goals as goal
 
@@ -20,4 +21,5 @@ invariant_of-self c = (
   step_keeps Steady c.self.inside.state c.on_reap.new.state (on_reap c.self.inside.state c.args.inc) [] c.self.invariant.0 (λ t e. c.steady_after.ensures c.self.inside.state (Input.Reaped c.args.inc) t c.self.invariant.0 e) c.on_reap.result c.on_reap.ensures.taken c.on_reap.ensures.kept,
   step_keeps IsSound c.self.inside.state c.on_reap.new.state (on_reap c.self.inside.state c.args.inc) [] c.self.invariant.1 (λ t e. c.sound_after.ensures c.self.inside.state (Input.Reaped c.args.inc) t c.self.invariant.0 c.self.invariant.1 e) c.on_reap.result c.on_reap.ensures.taken c.on_reap.ensures.kept,
   step_keeps FewFrames c.self.inside.state c.on_reap.new.state (on_reap c.self.inside.state c.args.inc) [] c.self.invariant.2 (λ t e. c.few_frames_after.ensures c.self.inside.state (Input.Reaped c.args.inc) t c.self.invariant.2 e) c.on_reap.result c.on_reap.ensures.taken c.on_reap.ensures.kept,
+  step_keeps InSession c.self.inside.state c.on_reap.new.state (on_reap c.self.inside.state c.args.inc) [] c.self.invariant.3 (λ t e. (c.sessions_stay.ensures c.self.inside.state (Input.Reaped c.args.inc) t c.self.invariant.3 e).holds) c.on_reap.result c.on_reap.ensures.taken c.on_reap.ensures.kept,
 )

@@ -33,6 +33,7 @@ returns-in-Err-may_bear-clause-refused c =
     let frames : r.frames ≡ c.as_slice-2.result.now = sym (c.as_slice-2.ensures ∙ ap (λ (t : Record). t.frames) c.self.view_is) in
     let is : save_as r c.args.frame c.args.name ≡ named r c.args.frame c.args.name c.index.result.now =
     ap (save_as_at r c.args.frame c.args.name) (found.found ∙ here) ∙ save_as_is r c.args.frame c.args.name c.index.result.now ∙ c.in-Ok.ensures.may r (named r c.args.frame c.args.name c.index.result.now) same in
-    let told = c.in-Err-may_bear.ensures.refused r frames in
+    let session : r.session ≡ c.self.inside.session = ap (λ (t : Record). t.session) (sym c.self.view_is) in
+    let told = c.in-Err-may_bear.ensures.refused r session frames in
     subst (λ t. Refuses t c.in-Err-may_bear.fault) (sym (is ∙ ap (named r c.args.frame c.args.name) one))
     (subst (λ (n : List ℕ). Refuses (named r c.args.frame n c.index-2.result.now) c.in-Err-may_bear.fault) c.as_slice.ensures told)

@@ -32,8 +32,8 @@ returns-clause-taken c =
     let here : slice_get r.frames c.args.at ≡ Some a = slice_get-get_or r.frames c.args.at a place.fits ∙ ap (λ (x : Frame). Some x) (sym c.index.ensures) in
     let there : nth r.frames f ≡ Some a = place.found ∙ here in
     let idle : a.phase ≡ Idle = subst (λ o. IfSome o (λ (x : Frame). x.phase ≡ Idle)) here (subst (λ (x : Record). IfSome (slice_get x.frames c.args.at) (λ (y : Frame). y.phase ≡ Idle)) (sym view) c.requires.idle) in
-    saved_taken r c.args.self.now f c.args.at a c.args.asked _ view place.fits c.index.ensures (omega (arith, c.if-k-self.false)) has
-    (saved_is r f a c.args.asked steady there idle c.args.at c.index_mut-target.result.now c.begin_save.new.frame c.go_on.new.frame c.take_up.new.objects.items
+    saved_taken r c.args.self.now f c.args.at a c.args.raised c.args.asked _ view place.fits c.index.ensures (omega (arith, c.if-k-self.false)) has
+    (saved_is r f a c.args.raised c.args.asked steady there idle c.args.at c.index_mut-target.result.now c.begin_save.new.frame c.go_on.new.frame c.take_up.new.objects.items
     place c.index.ensures c.index_mut-target.ensures.value c.begin_save.ensures objects (c.go_on.ensures ∙ ap (λ (os : List Object). if hands_off f os c.begin_save.new.frame then handing_frame c.begin_save.new.frame else c.begin_save.new.frame) c.as_slice-3.ensures.value)
     c.settle_into.new.frames c.in-Ok.asking.actions.items c.settle_into.new.actions.items c.acts.result
     c.settle_into.ensures.settled asking.sent

@@ -11,14 +11,12 @@ use Rattle.world_run.proofs.state.State.fail.Goals as goal
 pub returns-in-Ok-clause-taken : goal.returns-in-Ok-clause-taken
 returns-in-Ok-clause-taken g c =
     let b = bare c.fail.new.self in
-    let session = c.fail.new.self.core.session in
-    let numbers = c.fail.new.self.core.numbers in
     let ends = c.in-Ok.servers.ends.items in
     let starts = c.in-Ok.servers.starts.items in (
       no_choice,
       tt,
-      only_taken_all (seen (λ s. (goal.Embedded-dyn g (s.boxed.vtable, s.boxed.value)).content s.boxed.value) c.args.self.now) b _ (commit_failed (seen (λ s. (goal.Embedded-dyn g (s.boxed.vtable, s.boxed.value)).content s.boxed.value) c.args.self.now).rec c.args.f) session numbers ends starts c.in-Ok.ensures.taken c.in-Ok.ensures.ends
-          (c.finish.ensures ∙ ap (λ is. record b { instances = ends_by ends (map (seen_instance (λ s. (goal.Embedded-dyn g (s.boxed.vtable, s.boxed.value)).content s.boxed.value)) is) ++ map (fresh session numbers) starts; stock = map (seen_stocked (λ s. (goal.Embedded-dyn g (s.boxed.vtable, s.boxed.value)).content s.boxed.value)) c.args.self.now.stock.boxes.items }) c.reserve.ensures.items),
+      only_taken_all (seen (λ s. (goal.Embedded-dyn g (s.boxed.vtable, s.boxed.value)).content s.boxed.value) c.args.self.now) b _ (commit_failed (seen (λ s. (goal.Embedded-dyn g (s.boxed.vtable, s.boxed.value)).content s.boxed.value) c.args.self.now).rec c.args.f) ends starts c.in-Ok.ensures.taken c.in-Ok.ensures.ends
+          (c.finish.ensures ∙ ap (λ is. record b { instances = ends_by ends (map (seen_instance (λ s. (goal.Embedded-dyn g (s.boxed.vtable, s.boxed.value)).content s.boxed.value)) is) ++ map (fresh b.rec.session b.rec.numbers) starts; stock = map (seen_stocked (λ s. (goal.Embedded-dyn g (s.boxed.vtable, s.boxed.value)).content s.boxed.value)) c.args.self.now.stock.boxes.items }) c.reserve.ensures.items),
     )
 
 pub returns-in-Err-clause-refused : goal.returns-in-Err-clause-refused

@@ -13,13 +13,11 @@ pub returns-in-Ok-forge-clause-taken : goal.returns-in-Ok-forge-clause-taken
 returns-in-Ok-forge-clause-taken g c =
     let w = seen (λ s. (goal.Embedded-dyn g (s.boxed.vtable, s.boxed.value)).content s.boxed.value) c.args.self.now in
     let b = bare c.forge.new.self in
-    let session = c.forge.new.self.core.session in
-    let numbers = c.forge.new.self.core.numbers in
     let ends = c.in-Ok-forge.servers.ends.items in
     let starts = c.in-Ok-forge.servers.starts.items in
-    let Is : World → Type 0 = λ w. forged w c.args.inc c.in-Ok.copied ≡ started b session numbers starts in
+    let Is : World → Type 0 = λ w. forged w c.args.inc c.in-Ok.copied ≡ started b starts in
     ap (forging w c.args.inc) (sym c.in-Ok.ensures)
-    ∙ forge_taken w b _ c.args.inc c.in-Ok.copied session numbers ends starts c.in_ok-open.ensures.open
+    ∙ forge_taken w b _ c.args.inc c.in-Ok.copied ends starts c.in_ok-open.ensures.open
     (subst Is c.open.ensures.kept c.in-Ok-forge.ensures.taken)
     (c.in-Ok-forge.ensures.ends ∙ ap (λ (w : World). ends_in (on_message w.rec (link_to w c.args.inc) c.in-Ok.copied)) c.open.ensures.kept)
-    (c.finish.ensures ∙ ap (λ is. record b { instances = ends_by ends (map (seen_instance (λ s. (goal.Embedded-dyn g (s.boxed.vtable, s.boxed.value)).content s.boxed.value)) is) ++ map (fresh session numbers) starts; stock = map (seen_stocked (λ s. (goal.Embedded-dyn g (s.boxed.vtable, s.boxed.value)).content s.boxed.value)) c.args.self.now.stock.boxes.items }) c.reserve.ensures.items)
+    (c.finish.ensures ∙ ap (λ is. record b { instances = ends_by ends (map (seen_instance (λ s. (goal.Embedded-dyn g (s.boxed.vtable, s.boxed.value)).content s.boxed.value)) is) ++ map (fresh b.rec.session b.rec.numbers) starts; stock = map (seen_stocked (λ s. (goal.Embedded-dyn g (s.boxed.vtable, s.boxed.value)).content s.boxed.value)) c.args.self.now.stock.boxes.items }) c.reserve.ensures.items)
