@@ -3,7 +3,7 @@
 
 use cfb_names::name::Name;
 use container_cli::fault::SimulateFault;
-use container_cli::simulation::{read_events, write_told};
+use container_cli::simulation::{read_moments, write_told};
 use file_commands::cleaning::clean_file;
 use file_commands::commands::list_file;
 use file_commands::fault::{CleanFault, GetFault, ListFault};
@@ -119,7 +119,7 @@ fn simulated<R: Read, W: Write>(
     writer: &mut W,
     told: &str,
 ) -> Result<(), SimulateFault> {
-    drop(read_events(alloc, reader)?);
+    drop(read_moments(alloc, reader)?);
     write_told(writer, told.as_bytes())
 }
 

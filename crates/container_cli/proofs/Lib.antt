@@ -1,2 +1,5 @@
+pub mod Counted
 pub mod Ending
 pub mod Lines
+mod Stops
+mod Wanting

@@ -5,7 +5,7 @@ use Rattle.texts.specs.Reports.{of_file, of_line, standard}
 use Rattle.container_cli.specs.declared.fault.SimulateFault.{SimulateFault}
 use Rattle.container_cli.specs.declared.fault.SimulateFault.TheVariants as simulate
 
--- where the events of the file of this name are read, and what they lead to is written on standard output
+-- where the moments of the file of this name are read, and what they lead to is written on standard output
 abbrev pub simulate_report : SimulateFault → List ℕ → List ℕ
 simulate_report (simulate.Input fault) name = of_file name (input_fault_name fault)
 simulate_report (simulate.Line n fault) name = of_line n (syntax_fault_name fault)

@@ -1,17 +1,17 @@
-//! Why no events are run.
+//! Why no moments are run.
 
 use texts::input::InputFault;
 use texts::lines::SyntaxFault;
 use texts::report::{Report, STANDARD};
 use thiserror::Error;
 
-/// Why no events are run.
+/// Why no moments are run.
 #[derive(Debug, Clone, Copy, Error)]
 pub enum SimulateFault {
-    /// The events aren't read.
+    /// The moments aren't read.
     #[error("{0}")]
     Input(InputFault),
-    /// A line of the events is refused.
+    /// A line of the moments is refused.
     #[error("line {0}: {1}")]
     Line(usize, SyntaxFault),
     /// No memory was left for what is printed.
@@ -27,7 +27,7 @@ impl SimulateFault {
     ghost use Rattle.std.specs.Prelude.{◌≡◌};
     ghost use Rattle.texts.specs.Reports.{report_text};
 
-    /// How the fault is printed where the events of a file of this name are run.
+    /// How the fault is printed where the moments of a file of this name are run.
     pub fn report<'a>(&self, file: &'a str) -> Report<'a>
         ensures { report_text result ≡ simulate_report self.now file.entry.now }
     {

@@ -1,38 +1,39 @@
-//! The ends of a run of events: what is read before it, and what is written behind it. The world in which the events happen
+//! The ends of a story of moments: what is read before it, and what is written behind it. The world in which the moments happen
 //! is the caller's.
 
-ghost use Rattle.event_texts.specs.Events.{events_read};
+ghost use Rattle.container_cli.specs.Moments.{moments_read};
 ghost use Rattle.container_cli.specs.Simulation.{MayRefuseSimulate, stop_text};
 ghost use Rattle.std.specs.Io.KnownBytes.{Appends};
 ghost use Rattle.std.specs.Prelude.{◌≡◌, ◌<◌, ◌++◌, IfErr, IfOk, IfSome, Ok, OnOk};
 
 use crate::fault::SimulateFault;
+use crate::moments::parse_moments;
 use event_texts::answers::push_stop;
-use event_texts::lines::parse_events;
 use std::alloc::{AllocError, Global};
 use std::io::{Read, Write};
+use story_model::moment::Moment;
 use texts::input::read_all;
 use texts::output::write_all;
-use world_model::event::{Event, Stop};
+use world_model::event::Stop;
 
-/// The events that a text spells.
+/// The moments that a text spells.
 ///
-/// Refused: an input that isn't read or has more than 134,217,728 bytes; the first line that spells no event.
-pub fn read_events<R: Read>(alloc: Global, reader: &mut R) -> Result<Vec<Event>, SimulateFault>
-    ensures read { IfOk result (λ events. IfSome (R.remaining reader.old) (λ text. events_read text ≡ Ok events.items)) }
+/// Refused: an input that isn't read or has more than 134,217,728 bytes; the first line that spells no moment.
+pub fn read_moments<R: Read>(alloc: Global, reader: &mut R) -> Result<Vec<Moment>, SimulateFault>
+    ensures read { IfOk result (λ moments. IfSome (R.remaining reader.old) (λ text. moments_read text ≡ Ok moments.items)) }
     ensures refused { IfErr result (λ fault. IfSome (R.remaining reader.old) (λ text. MayRefuseSimulate text fault)) }
 {
     let text = match read_all(alloc, reader) {
         Ok(text) => text,
         Err(fault) => return Err(SimulateFault::Input(fault)),
     };
-    match parse_events(alloc, &text) {
-        Ok(events) => Ok(events),
+    match parse_moments(alloc, &text) {
+        Ok(moments) => Ok(moments),
         Err((line, fault)) => Err(SimulateFault::Line(line, fault)),
     }
 }
 
-/// Writes the event before which a run stopped, if it did.
+/// Writes the moment before which a story stopped, if it did.
 pub fn push_end(
     alloc: Global,
     out: &mut Vec<u8>,
@@ -48,7 +49,7 @@ pub fn push_end(
     }
 }
 
-/// Writes what is printed of a run.
+/// Writes what is printed of a story.
 ///
 /// Refused: `Unwritable` where a write fails.
 pub fn write_told<W: Write>(writer: &mut W, out: &[u8]) -> Result<(), SimulateFault>

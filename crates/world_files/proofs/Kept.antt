@@ -37,7 +37,7 @@ use Rattle.world_model.specs.World.{World, Instance, document_in, empty_world, j
 use Rattle.world_model.specs.Safe.{IsCounted}
 use Rattle.container_steady.specs.Steady.{Steady}
 use Rattle.container_steady.proofs.Settling.{IsCommitOf, done_commits, is_dropped, is_failed, kept_commits, not_idle}
-use Rattle.world_files.specs.Files.{id_of, CountedBounded, FilesCounted, HasCommits, Files}
+use Rattle.world_files.specs.Files.{CountedBounded, Files, FilesCounted, HasCommits, MakesImage, id_of}
 use Rattle.world_facts.proofs.Lookups.{among_map, find_among, find_passes, map_map_same}
 use Rattle.world_files.proofs.Numbering.{numbered}
 use Rattle.world_files.proofs.Moving.{id_asked}
@@ -348,11 +348,26 @@ failed_quiet r f t e = (let h = is_failed r f t e in subst (IsQuiet r) h.made (d
 lost_quiet : (r : Record) (f : ℕ) (t : Took) → resolve r f false ≡ Ok t → IsQuiet r t
 lost_quiet r f t e = (let h = is_dropped r f t e in subst (IsQuiet r) h.made (drop_quiet r f h.frame h.there))
 
-files_resolved : (w : World) (choice : Choice) (f : ℕ) (is_kept : Bool) (v : World) → Steady w.rec → Files w → IsImage w choice (event.Resolve f is_kept) → resolved w f is_kept choice.file ≡ Ok v → Files v
+files_resolved : (w : World) (choice : Choice) (f : ℕ) (is_kept : Bool) (v : World) → Steady w.rec → Files w → MakesImage w choice (event.Resolve f is_kept) → resolved w f is_kept choice.file ≡ Ok v → Files v
 files_resolved w choice f true v s k im e = files_done_in w f choice.file (resolve w.rec f true) (nth w.rec.frames f) v s k refl (λ x at. kept_commits w.rec f x at) im e
 files_resolved w choice f false v s k im e = files_only w (resolve w.rec f false) v k (lost_quiet w.rec f) e
 
-pub files_happened : (w : World) (choice : Choice) (e : Event) (v : World) → Steady w.rec → Files w → IsImage w choice e → happened w choice e ≡ Ok v → Files v
+-- what may be chosen for an event makes a file of a document, if any
+pub images_make : (w : World) (choice : Choice) (e : Event) → IsImage w choice e → MakesImage w choice e
+images_make w choice (event.Command c) im = tt
+images_make w choice (event.Deliver p) im = tt
+images_make w choice (event.Forge inc m) im = tt
+images_make w choice (event.Crash s inc) im = tt
+images_make w choice (event.Reap inc) im = tt
+images_make w choice (event.Scribble s inc act) im = tt
+images_make w choice (event.Ask s inc act) im = tt
+images_make w choice (event.Done f) im = im
+images_make w choice (event.Fail f) im = tt
+images_make w choice (event.Resolve f true) im = im
+images_make w choice (event.Resolve f false) im = tt
+images_make w choice (event.Open name x y) im = tt
+
+pub files_happened : (w : World) (choice : Choice) (e : Event) (v : World) → Steady w.rec → Files w → MakesImage w choice e → happened w choice e ≡ Ok v → Files v
 files_happened w choice (event.Command c) v s k im e = subst Files (ok_is _ v e) (files_commanded w c (on_command w.rec c) k (λ t g. files_command w c t s k g))
 files_happened w choice (event.Deliver p) v s k im e = files_deliver w p (nth w.sent p) v k e
 files_happened w choice (event.Forge inc m) v s k im e = files_forge w inc m (nth w.instances inc) v k e

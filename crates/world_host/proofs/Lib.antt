@@ -3,3 +3,4 @@ pub mod Opening
 pub mod NumberedRanges
 pub mod Joins
 pub mod Filed
+pub mod Stopping

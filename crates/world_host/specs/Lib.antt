@@ -3,3 +3,4 @@ pub mod Logging
 pub mod Rooms
 pub mod Files
 pub mod View
+pub mod Stops

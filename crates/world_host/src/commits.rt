@@ -50,7 +50,9 @@ pub(crate) fn file_place(files: &[File], name: &[u8]) -> Option<usize>
 // These bytes are the file of this name.
 pub(crate) fn put_file(files: &mut Vec<File>, name: Bytes, bytes: Bytes)
     requires { vec_len files.old < vec_capacity files.old }
-    ensures { files.new.items ≡ put_file name bytes files.old.items }
+    ensures put { files.new.items ≡ put_file name bytes files.old.items }
+    ensures few { vec_len files.new ≤ vec_len files.old + 1 }
+    ensures capacity { vec_capacity files.old ≤ vec_capacity files.new }
 {
     match file_place(files, name.as_slice()) {
         Some(i) => files[i] = File { name, bytes },

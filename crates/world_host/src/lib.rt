@@ -6,6 +6,7 @@ mod doubts;
 pub mod host;
 mod opens;
 mod replying;
+pub mod stops;
 mod taking;
 
 pub use container_checks::lookups;

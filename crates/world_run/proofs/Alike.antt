@@ -8,8 +8,8 @@ use Rattle.server_core.specs.View.{seat_at, seen_activation}
 use Rattle.server_core.specs.declared.seats.Owned.{Owned}
 use Rattle.server_core.specs.declared.server.Seat.{Seat}
 use Rattle.server_core.specs.declared.server.Activation as code
-use Rattle.world_run.specs.declared.instance.Instance as held
-use Rattle.world_run.specs.View.{seen_instance}
+use Rattle.world_state.specs.declared.instance.Instance as held
+use Rattle.world_state.specs.View.{seen_instance}
 use Rattle.world_model.specs.Safe.{act_at, acts_of}
 use Rattle.world_safety.specs.Words.{life_at, lives_of}
 use Rattle.world_safety.specs.Numbers.{IsActivationWithin, RunsWithin}

@@ -1,4 +1,5 @@
-pub mod View
+pub mod Names
+pub mod Told
+pub mod Passes
+pub mod Changes
 pub mod Shown
-pub mod Plans
-pub mod Lives

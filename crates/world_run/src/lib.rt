@@ -1,15 +1,16 @@
-//! Worlds: a container, its servers, the messages between them, and what happens.
+//! The public world: a container that may stop and start again, its servers, and what is left of the runs before.
 #![tactic(auto)]
 
-mod deliveries;
-mod holds;
-pub mod instance;
-mod plan;
+mod commits;
+mod earlier;
+mod events;
+pub mod past;
 mod readers;
 pub mod report;
-mod speaking;
-mod state;
-pub mod stock;
+mod runs;
+mod sessions;
+mod stops;
 pub mod world;
 
 pub use world_host::container;
+pub use world_state::stock;

@@ -1,4 +1,4 @@
-//! The report of a world.
+//! The report of a world's present run.
 
 ghost use Rattle.std.specs.Io.KnownBytes.{Appends};
 ghost use Rattle.std.specs.Prelude.{◌≡◌, ◌≢◌, IfErr, OnOk};
@@ -18,21 +18,21 @@ impl World {
     ///
     /// Refused for want of memory, where nothing is written, and where a write fails.
     pub fn report<W: Write>(&self, alloc: Global, writer: &mut W) -> Result<(), ReportFault>
-        ensures reported { OnOk result (Appends (W.contents writer.old) (W.contents writer.new) (report (shown (λ s. (⟦<dyn Embedded as Embedded>⟧ s.boxed.vtable).content s.boxed.value) self.now))) }
+        ensures reported { OnOk result (Appends (W.contents writer.old) (W.contents writer.new) (report (shown (λ s. (⟦<dyn Embedded as Embedded>⟧ s.boxed.vtable).content s.boxed.value) self.now).now)) }
         ensures unwritten { IfErr result (λ fault. fault ≢ ReportFault.Unwritable → writer.new ≡ writer.old) }
     {
-        let Ok(holds) = self.state.holds(alloc) else {
+        let Ok(holds) = self.runs.state.holds(alloc) else {
             return Err(ReportFault::NoMemory);
         };
         write_report(
             alloc,
             writer,
-            self.state.host.core.session(),
-            self.state.host.core.all_frames(),
-            self.state.host.core.all_objects(),
+            self.runs.state.host.core.session(),
+            self.runs.state.host.core.all_frames(),
+            self.runs.state.host.core.all_objects(),
             &holds,
-            &self.state.host.container_done,
-            &self.state.host.server_done,
+            &self.runs.state.host.container_done,
+            &self.runs.state.host.server_done,
         )
     }
 }

@@ -6,13 +6,14 @@ use Rattle.server_model.specs.Server.{Activation}
 use Rattle.container_model.specs.declared.record.Link.{Link}
 use Rattle.container_steady.proofs.SteadyRecords.{empty_steady}
 use Rattle.world_model.specs.declared.event.Event.{Event}
-use Rattle.world_model.specs.World.{World, empty_world, happened, IsImage, Run, Choice, in_session}
+use Rattle.world_model.specs.World.{World, empty_world, happened, Run, Choice, in_session}
 use Rattle.world_model.specs.Safe.{Safe, acts_of, links_of, Among, WasSent, messages, sayings}
 use Rattle.wire_msgs.specs.declared.operation.Operation.{Operation}
 use Rattle.wire_msgs.specs.declared.operation.Operation.TheVariants.{SaveCompleted}
 use Rattle.world_facts.specs.Words.{Issued, called, waits}
 use Rattle.world_facts.specs.Facts.{HasSaved}
-use Rattle.world_files.proofs.Kept.{empty_files, files_happened, limited_ok, commits_kept}
+use Rattle.world_files.proofs.Kept.{empty_files, files_happened, limited_ok, commits_kept, images_make}
+use Rattle.world_files.specs.Files.{MakesImage}
 use Rattle.container_numbers.specs.Sessions.{IsOf}
 use Rattle.world_safety.specs.Holding.{AgreesIn, Holds, InOneSession}
 use Rattle.world_safety.proofs.Events.{agrees_happened, said_in_log}
@@ -126,7 +127,7 @@ empty_agrees numbers stock = record {
 pub empty_held : (numbers : ℕ) (stock : List Kind) → Holds (empty_world numbers stock)
 empty_held numbers stock = record { in_session = empty_session numbers stock; agrees = empty_agrees numbers stock; files = empty_files numbers stock; numbers = empty_numbers numbers stock; taken_held = λ t h. absurd h }
 
-held_happened : (w : World) (choice : Choice) (e : Event) (v : World) → Holds w → IsImage w choice e → happened w choice e ≡ Ok v → Holds v
+pub held_happened : (w : World) (choice : Choice) (e : Event) (v : World) → Holds w → MakesImage w choice e → happened w choice e ≡ Ok v → Holds v
 held_happened w choice e v h im ok =
     let agrees = agrees_happened w choice e v h.files h.agrees ok in
     let files = files_happened w choice e v h.agrees.steady h.files im ok in
@@ -134,4 +135,4 @@ held_happened w choice e v h im ok =
 
 pub held_run : (w : World) (es : List Event) (after : World) → Holds w → Run w es after → Holds after
 held_run w [] after h r = subst Holds (sym r) h
-held_run w (e ∷ es) after h r = held_run r.1 es after (held_happened w r.0 e r.1 h r.2 (limited_ok w (happened w r.0 e) r.1 r.3)) r.4
+held_run w (e ∷ es) after h r = held_run r.1 es after (held_happened w r.0 e r.1 h (images_make w r.0 e r.2) (limited_ok w (happened w r.0 e) r.1 r.3)) r.4

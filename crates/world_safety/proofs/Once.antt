@@ -17,7 +17,7 @@ use Rattle.world_model.specs.Safe.{act_at, Among, sayings}
 use Rattle.world_safety.specs.Holding.{AgreesIn}
 
 -- the servers are as they were, and they counted nothing
-abbrev Same : World → Result World Stop → Type 0
+abbrev pub Same : World → Result World Stop → Type 0
 Same w r = (next : World) → r ≡ Ok next → (next.instances ≡ w.instances) × (next.server_done ≡ w.server_done)
 
 same_as : (w v next : World) → v.instances ≡ w.instances → v.server_done ≡ w.server_done → v ≡ next → (next.instances ≡ w.instances) × (next.server_done ≡ w.server_done)
@@ -57,7 +57,7 @@ module _ (w : World) (s inc act n : ℕ) (op : Operation) (i : Instance) (at : n
   in_same Ended = ok_same w _ refl refl
   in_same Reaped = ok_same w _ refl refl
 
-called_same : (w : World) (s inc act n : ℕ) (op : Operation) (x : Option Instance) (a : Activation) → nth w.instances inc ≡ x → act_at act x ≡ Some a → n ≤ a.last → Same w (called w s inc act n op x)
+pub called_same : (w : World) (s inc act n : ℕ) (op : Operation) (x : Option Instance) (a : Activation) → nth w.instances inc ≡ x → act_at act x ≡ Some a → n ≤ a.last → Same w (called w s inc act n op x)
 called_same w s inc act n op None a e known le = ok_same w _ refl refl
 called_same w s inc act n op (Some i) a e known le = in_same w s inc act n op i e a known le i.life
 

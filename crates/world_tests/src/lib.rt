@@ -4,6 +4,8 @@
 #[cfg(test)]
 mod files;
 #[cfg(test)]
+mod moments;
+#[cfg(test)]
 mod reports;
 #[cfg(test)]
 mod shown;

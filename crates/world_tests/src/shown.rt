@@ -4,6 +4,7 @@ use crate::words::{number, word};
 use container_model::answer::Done;
 use std::str::SplitWhitespace;
 use world_model::logs::{Document, EventAnswer, ServerDone, Taken};
+use world_run::past::Past;
 use world_run::world::World;
 
 /// Whether the next two words are this name and this number.
@@ -93,6 +94,26 @@ pub(crate) fn is_shown(world: &World, words: &mut SplitWhitespace<'_>) -> bool {
         && are_taken(world.taken(), words)
         && is_document(world.counted(1), words)
         && word(words).is_empty()
+}
+
+/// Whether the next words are the session of an earlier run and its logs.
+fn is_run(past: &Past, words: &mut SplitWhitespace<'_>) -> bool {
+    tells(words, "session", &[past.session()])
+        && are_container_done(past.container_done(), words)
+        && are_server_done(past.server_done(), words)
+        && are_hostile(past.hostile(), words)
+        && are_taken(past.taken(), words)
+}
+
+/// Whether these are the runs before the present one, each with its session, each content that was counted in it, the servers
+/// of which messages were forged, and each content that was taken.
+pub(crate) fn are_past(world: &World, words: &mut SplitWhitespace<'_>) -> bool {
+    for past in world.past() {
+        if !is_run(past, words) {
+            return false;
+        }
+    }
+    word(words).is_empty()
 }
 
 /// What an event was answered: why it was refused or dropped, or that it was taken.

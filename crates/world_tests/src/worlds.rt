@@ -1,17 +1,18 @@
-//! Worlds, and what they show. Events are texts, as the program reads them; and the functions have no contracts: so the tests
+//! Worlds, and what they show. Moments are texts, as the program reads them; and the functions have no contracts: so the tests
 //! are quick to prove.
 
 use crate::files::file;
 use crate::reports::{is_report, is_unwritten};
-use crate::shown::{answer, is_shown};
+use crate::shown::{answer, are_past, is_shown};
 use crate::words::{number, word};
+use container_cli::moments::parse_moment;
 use embed_core::embedded::Embedded;
 use embed_core::tally::Tally;
 use embed_note::note::Note;
-use event_texts::lines::parse_line;
 use std::alloc::Global;
 use std::process::Abort;
-use world_model::event::{Event, Stop};
+use story_model::moment::Moment;
+use world_model::event::Stop;
 use world_run::container::Limits;
 use world_run::stock::Stock;
 use world_run::world::World;
@@ -82,11 +83,23 @@ fail 1
 resolve 1 lost
 session";
 
+/// The container stops, and the next run opens the session document first. A server of the run before it goes on, and what it
+/// writes isn't taken.
+const STOPPED: &str = "stop
+open a 40 10
+session
+done 1
+start
+scribble 1.1 1
+deliver 9";
+
 /// What is looked at, and what it is: how many events, messages and frames there are, and the contents that were counted or
-/// taken; the text of the note in a frame's file; what an event was answered; the session.
+/// taken; the text of the note in a frame's file; what an event was answered; the session; the sessions of the runs before the
+/// present one, each with the contents that were counted or taken in it.
 const NEW_SHOWS: &str = "shown events 0 sent 0 frames 0
 file 1 none
-session 0";
+session 0
+past";
 
 const SAVED_SHOWS: &str = "shown events 17 sent 8 frames 1 container 1 2 server 1 1 2 counted 2 1
 file 1 aa
@@ -124,6 +137,14 @@ file 1 none
 answer 5 NumbersSpent
 session 0";
 
+const STOPPED_SHOWS: &str = "shown events 24 sent 9 frames 1 container 1 1 counted 1 1
+past session 1 container 1 2 server 1 1 2
+file 1 aa
+answer 18 took
+answer 23 took
+answer 24 Stale
+session 2";
+
 fn boxed(rt: &impl Abort, alloc: Global) -> Box<dyn Embedded> {
     let tally = Tally::new(alloc).expect(rt, "memory");
     Box::new(alloc, Note::new(alloc, tally)).expect(rt, "memory")
@@ -150,31 +171,32 @@ fn narrow_world(rt: &impl Abort, alloc: Global) -> World {
     World::new(alloc, Limits { numbers: 1 }, stock(rt, alloc))
 }
 
-fn event(rt: &impl Abort, alloc: Global, line: &str) -> Event {
-    parse_line(alloc, line.as_bytes())
+fn moment(rt: &impl Abort, alloc: Global, line: &str) -> Moment {
+    parse_moment(alloc, line.as_bytes())
         .expect(rt, "memory")
-        .expect(rt, "an event")
+        .expect(rt, "a moment")
 }
 
-fn events(rt: &impl Abort, alloc: Global, lines: &str) -> Vec<Event> {
-    let mut events = Vec::new(alloc);
+fn moments(rt: &impl Abort, alloc: Global, lines: &str) -> Vec<Moment> {
+    let mut moments = Vec::new(alloc);
     for line in lines.split('\n') {
-        events.push(event(rt, alloc, line)).expect(rt, "memory");
+        moments.push(moment(rt, alloc, line)).expect(rt, "memory");
     }
-    events
+    moments
 }
 
-fn run(alloc: Global, world: &mut World, events: &[Event]) -> Option<Stop> {
-    world.run(alloc, events).1
+fn run(alloc: Global, world: &mut World, moments: &[Moment]) -> Option<Stop> {
+    world.run(alloc, moments).1
 }
 
-/// `shown ..`, `file FRAME TEXT`, `answer EVENT NAME` or `session NUMBER`: whether a world shows this.
+/// `shown ..`, `file FRAME TEXT`, `answer EVENT NAME`, `session NUMBER` or `past ..`: whether a world shows this.
 fn shows(rt: &impl Abort, alloc: Global, world: &World, row: &str) -> bool {
     let mut words = row.split_whitespace();
     match word(&mut words) {
         "file" => file(rt, alloc, world, number(&mut words)) == word(&mut words),
         "answer" => answer(world, number(&mut words)) == word(&mut words),
         "session" => world.container().session() == number(&mut words),
+        "past" => are_past(world, &mut words),
         _ => is_shown(world, &mut words),
     }
 }
@@ -185,9 +207,9 @@ fn expect(rt: &impl Abort, alloc: Global, world: &World, rows: &str) {
     }
 }
 
-/// Runs events, and then looks at what the world shows.
+/// Runs moments, and then looks at what the world shows.
 fn play(rt: &impl Abort, alloc: Global, world: &mut World, lines: &str, rows: &str) {
-    drop(run(alloc, world, &events(rt, alloc, lines)));
+    drop(run(alloc, world, &moments(rt, alloc, lines)));
     expect(rt, alloc, world, rows);
 }
 
@@ -224,10 +246,17 @@ fn a_lost_session_spends_a_number(rt: HostRuntime) {
     play(&rt, rt.alloc(), &mut world, SPENT, SPENT_SHOWS);
 }
 
-/// Runs events one after the other, and each again where memory ran out: whether all were taken.
-fn run_on(alloc: Global, world: &mut World, events: &[Event]) -> bool {
-    for event in events.chunks(1) {
-        if run(alloc, world, event).is_some() && run(alloc, world, event).is_some() {
+#[test]
+fn a_stop_leaves_the_logs_of_its_run(rt: HostRuntime) {
+    let mut world = world(&rt, rt.alloc());
+    play(&rt, rt.alloc(), &mut world, SAVED, SAVED_SHOWS);
+    play(&rt, rt.alloc(), &mut world, STOPPED, STOPPED_SHOWS);
+}
+
+/// Runs moments one after the other, and each again where memory ran out: whether all were taken.
+fn run_on(alloc: Global, world: &mut World, moments: &[Moment]) -> bool {
+    for moment in moments.chunks(1) {
+        if run(alloc, world, moment).is_some() && run(alloc, world, moment).is_some() {
             return false;
         }
     }
@@ -238,6 +267,6 @@ fn run_on(alloc: Global, world: &mut World, events: &[Event]) -> bool {
 #[test]
 fn a_run_goes_on_where_memory_ran_out(rt: HostRuntime) {
     let mut world = world(&rt, rt.alloc());
-    assert!(rt; run_on(rt.alloc(), &mut world, &events(&rt, rt.alloc(), SAVED)));
+    assert!(rt; run_on(rt.alloc(), &mut world, &moments(&rt, rt.alloc(), SAVED)));
     assert!(rt; is_report(rt.alloc(), &world, REPORT));
 }

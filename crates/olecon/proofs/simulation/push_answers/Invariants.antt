@@ -6,7 +6,7 @@ use Rattle.olecon.proofs.simulation.push_answers.Given as goal
 
 abbrev pub invariant-loop-answer : goal.invariant-loop-answer
 invariant-loop-answer g l =
-    let answers = (shown (λ _. note []) l.world).answers in
+    let answers = (shown (λ _. note []) l.world).now.answers in
     record {
       first : 1 ≤ l.event;
       last : l.event ≤ length answers + 1;
@@ -15,5 +15,5 @@ invariant-loop-answer g l =
 
 abbrev pub decreases-loop-answer : goal.decreases-loop-answer
 decreases-loop-answer g l =
-    let answers = (shown (λ _. note []) l.world).answers in
+    let answers = (shown (λ _. note []) l.world).now.answers in
     length answers + 1 - l.event

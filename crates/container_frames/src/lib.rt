@@ -1,0 +1,4 @@
+//! What a step of a container makes of its frames.
+#![tactic(auto)]
+
+pub mod frames_laws;

@@ -1,0 +1,14 @@
+pub mod StoryFiles
+pub mod Stopping
+pub mod Documents
+pub mod Members
+pub mod Lists
+pub mod SafeRuns
+pub mod Laws
+pub mod SafeSound
+pub mod Elsewhere
+pub mod Following
+pub mod GoingOn
+pub mod Twins
+pub mod Going
+pub mod Sounding

@@ -1,0 +1,190 @@
+-- What every story keeps makes it safe.
+use Rattle.std.proofs.Common.{◌≡◌, ◌≢◌, ◌≤◌, ◌<◌, ◌==◌, ◌⊎◌, ◌++◌, ℕ, zero, suc, Bool, true, false, List, [], ◌∷◌, Option, Some, None, Ok, Err, Result, refl, sym, ap, ◌∙◌, subst, inl, inr, arith, append-nil, cond, if◌then◌else◌, slice_get}
+use Rattle.std.proofs.lemmas.Bool.Decides.{eqb_tells}
+use Rattle.wire_msgs.specs.Found.{find, nth}
+use Rattle.wire_msgs.specs.declared.message.Message.{Message}
+use Rattle.wire_msgs.specs.declared.message.Said.{Said}
+use Rattle.wire_msgs.specs.declared.message.Said.TheVariants.{Call, Reply, Write, Ask}
+use Rattle.wire_msgs.specs.declared.answer.Answer.{Answer}
+use Rattle.container_laws.specs.OpenLaws.{IsFileOf}
+use Rattle.container_laws.proofs.OpensLaws.{files-give_theirs}
+use Rattle.container_model.specs.Opens.{Given, IsReadAs}
+use Rattle.container_model.specs.declared.record.Frame.{Frame}
+use Rattle.world_facts.proofs.Lookups.{among_join, among_new, among_old}
+use Rattle.world_model.specs.declared.logs.File.{File}
+use Rattle.world_model.specs.declared.logs.Sent.{Sent}
+use Rattle.world_model.specs.declared.logs.Taken.{Taken}
+use Rattle.world_model.specs.Safe.{Among, Commit, GivesCommit, IsHonest, IsWithin, Safe, WasSent, messages}
+use Rattle.world_model.specs.World.{World, file_bytes, file_of, in_session, is_file}
+use Rattle.world_safety.specs.Holding.{Holds}
+use Rattle.world_safety.proofs.Events.{said_in_log}
+use Rattle.world_safety.proofs.Held.{safe_held}
+use Rattle.story_model.specs.SafeStory.{AreOf, Gives, GivesCounted, GivesSaved, HasSession, IsGrantedIn, SafeNow, SafeRun, SafeStory, is_kept}
+use Rattle.story_model.specs.Story.{Epoch, Story, epoch_of, epochs}
+use Rattle.story_safety.specs.Holding.{DocumentStands, HasDocument, HoldsPast, IsCounted, IsFrom, IsSaved, IsThere, Sound, mirror, mirror_of, sent_in}
+use Rattle.story_safety.proofs.Laws.{earlier_stays, forged_stays}
+use Rattle.story_safety.proofs.Members.{among_in}
+use Rattle.story_safety.proofs.SafeRuns.{Held, now_safe, past_commits, past_each, rising_above, run_safe}
+use Rattle.story_safety.proofs.Stopping.{is_stopped}
+
+from_one : (n : ℕ) → n ≢ 0 → 1 ≤ n
+from_one zero g = absurd (g refl)
+from_one (suc k) g = omega arith
+
+module _ (s : Story) (h : Sound s) where
+  -- each run is an earlier one, or the present one
+  which : (e : Epoch) → Among (epochs s) e → Among s.past e ⊎ (e ≡ epoch_of s.now)
+  which e g = elim (among_join s.past (epoch_of s.now ∷ []) e g) [ inl k ↦ inl k | inr k ↦ last k ]
+    where
+      last : Among (epoch_of s.now ∷ []) e → Among s.past e ⊎ (e ≡ epoch_of s.now)
+      last (inl q) = inr q
+      last (inr z) = absurd z
+
+  here : Among (epochs s) (epoch_of s.now)
+  here = among_new s.past (epoch_of s.now ∷ []) (epoch_of s.now) (inl refl)
+
+  -- earlier sessions are others
+  other : (e : Epoch) → Among s.past e → e.session ≢ s.now.rec.session
+  other e g same =
+      let from : 0 < e.session = rising_above 0 s.past e h.rising g in
+      elim (eqb_tells s.now.rec.session 0) [
+        | inl t ↦ (let zero : s.now.rec.session ≡ 0 = t.1 in absurd (omega arith))
+        | inr t ↦ (let lt : e.session < s.now.rec.session = h.above e g t.1 in absurd (omega arith))
+      ]
+
+  abbrev commits_now : List Commit
+  commits_now = (safe_held (mirror s.now h.mine) h.now).commits
+
+  abbrev earlier_commits : ℕ → List Commit
+  earlier_commits n = past_commits s.now h.records h.archive s.past h.past n
+
+  abbrev commits : ℕ → List Commit
+  commits n = if n == s.now.rec.session then (safe_held (mirror s.now h.mine) h.now).commits else past_commits s.now h.records h.archive s.past h.past n
+
+  commits_here : (safe_held (mirror s.now h.mine) h.now).commits ≡ commits s.now.rec.session
+  commits_here = elim (eqb_tells s.now.rec.session s.now.rec.session) [
+    | inl t ↦ subst (λ b. commits_now ≡ (if b then commits_now else earlier_commits s.now.rec.session)) (sym t.0) refl
+    | inr t ↦ absurd (t.1 refl)
+  ]
+
+  commits_there : (e : Epoch) → Among s.past e → past_commits s.now h.records h.archive s.past h.past e.session ≡ commits e.session
+  commits_there e g = elim (eqb_tells e.session s.now.rec.session) [
+    | inl t ↦ absurd (other e g t.1)
+    | inr t ↦ subst (λ b. earlier_commits e.session ≡ (if b then commits_now else earlier_commits e.session)) (sym t.0) refl
+  ]
+
+  run_here : SafeRun s.now (epoch_of s.now) commits_now
+  run_here = run_safe s.now (epoch_of s.now) s.now.rec h.mine refl h.now (λ t g honest. h.granted (epoch_of s.now) t here g honest)
+
+  old : (e : Epoch) → Among s.past e → Among (epochs s) e
+  old e g = among_old s.past (epoch_of s.now ∷ []) e g
+
+  run_there : (e : Epoch) → Among s.past e → SafeRun s.now e (earlier_commits e.session)
+  run_there e g = past_each s.now h.records h.archive 0 s.past h.past h.rising (λ x cs. SafeRun s.now x cs)
+      (λ x k. run_safe s.now x (h.records x.session) (h.archive x.session) (h.past x k).session (h.past x k).holds (λ t a honest. h.granted x t (old x k) a honest)) e g
+
+  run : (e : Epoch) → Among (epochs s) e → SafeRun s.now e (commits e.session)
+  run e g = elim (which e g) [
+    | inl k ↦ subst (SafeRun s.now e) (commits_there e k) (run_there e k)
+    | inr q ↦ subst (λ (x : Epoch). SafeRun s.now x (commits x.session)) (sym q) (subst (SafeRun s.now (epoch_of s.now)) commits_here run_here)
+  ]
+
+  -- numbers of messages
+  within_past : (e : Epoch) → Among s.past e → (m : Message) → m.session ≡ e.session → WasSent s.now m → IsWithin s.now.rec.numbers m
+  within_past e g m is a = (let k = h.past e g in subst (λ n. IsWithin n m) k.numbers (k.holds.numbers.sent m (among_in e.session s.now.sent m is a)))
+
+  within : (m : Message) → WasSent s.now m → IsWithin s.now.rec.numbers m
+  within m a = (let r = h.of_runs m a in elim (which r.0 r.1) [
+    | inl k ↦ within_past r.0 k m r.2 a
+    | inr q ↦ h.now.numbers.sent m (among_in s.now.rec.session s.now.sent m (r.2 ∙ ap (λ (x : Epoch). x.session) q) a)
+  ])
+
+  -- one answer of a call
+  reply_past : (e : Epoch) → Among s.past e → (session inc act n : ℕ) (r q : Answer) → session ≡ e.session → WasSent s.now (in_session session (Reply inc act n r)) → WasSent s.now (in_session session (Reply inc act n q)) → r ≡ q
+  reply_past e g session inc act n r q is a b =
+      let log = sent_in e.session s.now.sent in
+      (h.past e g).holds.agrees.facts.replies.one_reply inc act n r q (said_in_log log (in_session session (Reply inc act n r)) (among_in e.session s.now.sent (in_session session (Reply inc act n r)) is a))
+      (said_in_log log (in_session session (Reply inc act n q)) (among_in e.session s.now.sent (in_session session (Reply inc act n q)) is b))
+
+  reply_now : (session inc act n : ℕ) (r q : Answer) → session ≡ s.now.rec.session → WasSent s.now (in_session session (Reply inc act n r)) → WasSent s.now (in_session session (Reply inc act n q)) → r ≡ q
+  reply_now session inc act n r q is a b =
+      let log = sent_in s.now.rec.session s.now.sent in
+      h.now.agrees.facts.replies.one_reply inc act n r q (said_in_log log (in_session session (Reply inc act n r)) (among_in s.now.rec.session s.now.sent (in_session session (Reply inc act n r)) is a))
+      (said_in_log log (in_session session (Reply inc act n q)) (among_in s.now.rec.session s.now.sent (in_session session (Reply inc act n q)) is b))
+
+  one : (session inc act n : ℕ) (r q : Answer) → WasSent s.now (in_session session (Reply inc act n r)) → WasSent s.now (in_session session (Reply inc act n q)) → r ≡ q
+  one session inc act n r q a b = (let k = h.of_runs (in_session session (Reply inc act n r)) a in elim (which k.0 k.1) [
+    | inl g ↦ reply_past k.0 g session inc act n r q k.2 a b
+    | inr e ↦ reply_now session inc act n r q (k.2 ∙ ap (λ (x : Epoch). x.session) e) a b
+  ])
+
+  -- ---- what files give
+  given_saved : (file : File) (given : Given) → IsSaved file → IsReadAs (Some file.bytes) given → GivesSaved given
+  given_saved file given k read =
+      let of : IsFileOf file.bytes k.0 = record { denotes = k.1.denotes; holds = k.1.holds } in
+      subst GivesSaved (sym (files-give_theirs file.bytes k.0 given of read)) (k.0, refl)
+
+  given_here : (name : List ℕ) (file : File) (given : Given) → IsThere h.mine name file → IsReadAs (Some file.bytes) given → GivesCounted s commits given
+  given_here name file given there read = (
+    epoch_of s.now,
+    here,
+    subst (λ cs. GivesCommit cs given) commits_here ((safe_held (mirror s.now h.mine) h.now).opened name given (subst (λ (x : Option File). IsReadAs (file_bytes x) given) (sym there) read)),
+  )
+
+  given_there : (name : List ℕ) (file : File) (given : Given) (e : Epoch) → Among s.past e → IsThere (h.archive e.session) name file → IsReadAs (Some file.bytes) given → GivesCounted s commits given
+  given_there name file given e g there read = (
+    e,
+    old e g,
+    subst (λ cs. GivesCommit cs given) (commits_there e g)
+        (past_each s.now h.records h.archive 0 s.past h.past h.rising (λ x cs. IsThere (h.archive x.session) name file → GivesCommit cs given)
+        (λ x k at. (safe_held (mirror_of s.now x (h.records x.session) (h.archive x.session)) (h.past x k).holds).opened name given (subst (λ (y : Option File). IsReadAs (file_bytes y) given) (sym at) read)) e g there),
+  )
+
+  given_counted : (name : List ℕ) (file : File) (given : Given) → IsCounted s h.mine h.archive name file → IsReadAs (Some file.bytes) given → GivesCounted s commits given
+  given_counted name file given (inl there) read = given_here name file given there read
+  given_counted name file given (inr k) read = given_there name file given k.0 k.1 k.2 read
+
+  given_file : (name : List ℕ) (file : File) (given : Given) → IsFrom s h.mine h.archive name file → IsReadAs (Some file.bytes) given → Gives s commits name given
+  given_file name file given from read = elim (is_kept name s.kept) as (λ b. cond b (IsSaved file) (IsCounted s h.mine h.archive name file) → cond b (GivesSaved given) (GivesCounted s commits given)) [
+    | true ↦ (λ k. given_saved file given k read)
+    | false ↦ (λ k. given_counted name file given k read)
+  ] from
+
+  given_none : (name : List ℕ) → Gives s commits name Given.Missing
+  given_none name = elim (is_kept name s.kept) as (λ b. cond b (GivesSaved Given.Missing) (GivesCounted s commits Given.Missing)) [ true ↦ tt | false ↦ (epoch_of s.now, here, tt) ]
+
+  given : (name : List ℕ) (x : Option File) (told : Given) → find (is_file name) s.now.files ≡ x → IsReadAs (file_bytes x) told → Gives s commits name told
+  given name None Given.Missing f read = given_none name
+  given name None Given.Broken f read = absurd read
+  given name None (Given.Holding d) f read = absurd read
+  given name (Some file) told f read = given_file name file told (h.files name file f) read
+
+  -- ---- the session document
+  document_at : (d : Option (List ℕ)) → s.document ≡ d → DocumentStands s d → (e : Epoch) → Among (epochs s) e → 1 ≤ e.session → HasSession s e.session
+  document_at None is k e g from = elim (which e g) [
+    | inl p ↦ absurd (subst (λ es. Among es e) k.0 p)
+    | inr q ↦ (let zero : e.session ≡ 0 = ap (λ (x : Epoch). x.session) q ∙ k.1 in absurd (omega arith))
+  ]
+  document_at (Some name) is k e g from = record { name = name; named = is; bytes = k.bytes; file = k.file; saved = k.saved; is = k.is; above = k.above e g }
+
+  first_at : (d : Option (List ℕ)) (frame : Frame) (name : List ℕ) → DocumentStands s d → nth s.now.rec.frames 1 ≡ Some frame → d ≡ Some name → frame.name ≡ name
+  first_at None frame name k at is = cc
+  first_at (Some other) frame name k at is = (let same : other ≡ name = cc in (k.framed frame at).0 ∙ same)
+
+  pub safe_sound : SafeStory s
+  safe_sound = record {
+    rising = h.rising;
+    above = h.above;
+    of_runs = λ m a. (let r = h.of_runs m a in (r.0, r.1, r.2, subst (λ n. 1 ≤ n) (sym r.2) (from_one r.0.session r.3)));
+    numbered = within;
+    one_reply = one;
+    commits = commits;
+    runs = run;
+    now = subst (SafeNow s.now) commits_here (now_safe s.now h.mine (λ name file g. (h.mine_there name file g).0) h.now);
+    opened = λ name told read. given name (find (is_file name) s.now.files) told refl read;
+    fresh = document_at s.document refl h.document;
+    first = λ frame name at is. first_at s.document frame name h.document at is;
+    earlier = earlier_stays s;
+    forged = forged_stays s;
+    stopped = λ fs choice next im ok. is_stopped s fs choice next h.now.files.filed.names_apart im ok;
+  }

@@ -1,0 +1,12 @@
+//! The law of stories.
+
+ghost use Rattle.embed_core.specs.Kinds.{Kind};
+ghost use Rattle.std.specs.Prelude.{List, ℕ};
+ghost use Rattle.story_model.specs.SafeStory.{SafeStory};
+ghost use Rattle.story_model.specs.Story.{Story, Tells, empty_story};
+ghost use Rattle.story_model.specs.declared.moment.Moment.{Moment};
+
+/// Every story is safe, whatever happens in it, how often its container stops, and whatever messages are forged.
+pub fn every_story_is_safe()
+    ensures { (numbers : ℕ) (stock : List Kind) (moments : List Moment) (s : Story) → Tells (empty_story numbers stock) moments s → SafeStory s }
+{}

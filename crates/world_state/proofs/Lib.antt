@@ -1,0 +1,10 @@
+pub mod Choices
+pub mod Servers
+pub mod Lifts
+pub mod Joins
+pub mod Stocks
+pub mod Planning
+pub mod Serving
+pub mod Delivering
+pub mod OwnAccord
+pub mod Sessions

@@ -1,0 +1,3 @@
+pub mod View
+pub mod Plans
+pub mod Lives
