@@ -1,10 +1,11 @@
 -- What holds of every story, whatever happened in it.
-use Rattle.std.specs.Prelude.{◌≡◌, ◌≢◌, ◌<◌, ◌≤◌, ℕ, Bool, true, false, List, [], ◌∷◌, Some, Ok, cond, if◌then◌else◌, ⊤}
+use Rattle.std.specs.Prelude.{◌≡◌, ◌≢◌, ◌<◌, ◌≤◌, ◌++◌, ℕ, Bool, true, false, List, [], ◌∷◌, Some, Ok, cond, if◌then◌else◌, ⊤}
 use Rattle.std.specs.List.{flat_map}
 use Rattle.std.specs.Str.{bytes_eq}
 use Rattle.wire_msgs.specs.Found.{nth}
 use Rattle.wire_msgs.specs.declared.message.Message.{Message}
-use Rattle.wire_msgs.specs.declared.message.Said.TheVariants.{Reply}
+use Rattle.wire_msgs.specs.declared.message.Said.{Said}
+use Rattle.wire_msgs.specs.declared.message.Said.TheVariants.{Call, Reply, Write, Ask}
 use Rattle.wire_msgs.specs.declared.operation.Operation.{Operation}
 use Rattle.wire_msgs.specs.declared.answer.Answer.{Answer}
 use Rattle.stored_streams.specs.declared.stored.Stored.{Stored}
@@ -32,6 +33,28 @@ use Rattle.story_model.specs.Story.{AreImages, Chosen, Epoch, Story, as_of, epoc
 abbrev pub AreRising : ℕ → List Epoch → Type 0
 AreRising last [] = ⊤
 AreRising last (e ∷ es) = (last < e.session) × AreRising e.session es
+
+-- Its server was started in a run, where a message is a call to it, or its reply.
+abbrev pub IsOfServer : List Instance → Said → Type 0
+IsOfServer instances (Call inc act n op) = (i : Instance) × (nth instances inc ≡ Some i)
+IsOfServer instances (Reply inc act n answer) = (i : Instance) × (nth instances inc ≡ Some i)
+IsOfServer instances (Write inc act s number content) = ⊤
+IsOfServer instances (Ask inc act g) = ⊤
+
+-- A message of a run that has raised its session.
+pub record IsOfRun (s : Story) (m : Message) : Type 0 where
+  pub run : Epoch
+  pub known : Among (epochs s) run
+  pub session : m.session ≡ run.session
+  pub raised : 1 ≤ m.session
+  pub server : IsOfServer run.instances m.said
+
+-- A session was raised by a counted commit of frame 1, whose document bears it.
+pub record IsRaised (commits : List Commit) (session : ℕ) : Type 0 where
+  pub commit : Commit
+  pub counted : Among commits commit
+  pub first : commit.frame ≡ 1
+  pub bears : commit.session ≡ session
 
 -- A content that was taken in a session was sent in it, under the storage grant that its record then held open.
 pub record IsGrantedIn (w : World) (session : ℕ) (t : Taken) : Type 0 where
@@ -118,6 +141,11 @@ pub record IsSameRun (w after : World) : Type 0 where
   pub rec : after.rec ≡ w.rec
   pub epoch : epoch_of after ≡ epoch_of w
 
+-- The same, but that this server is hostile from then on.
+pub record IsSameButHostile (w : World) (inc : ℕ) (after : World) : Type 0 where
+  pub rec : after.rec ≡ w.rec
+  pub epoch : epoch_of after ≡ record (epoch_of w) { hostile = w.hostile ++ inc ∷ [] }
+
 -- A stop makes the image of each commit that the disk has kept the file under the name of that commit, and leaves every other
 -- file as it was.
 pub record IsStopped (s : Story) (fs : List ℕ) (next : Story) : Type 0 where
@@ -130,21 +158,28 @@ pub record SafeStory (s : Story) : Type 0 where
   pub rising : AreRising 0 s.past
   pub above : (e : Epoch) → Among s.past e → s.now.rec.session ≢ 0 → e.session < s.now.rec.session
   -- every message is of a run that has raised its session, and its numbers are at most the limit
-  pub of_runs : (m : Message) → WasSent s.now m → (e : Epoch) × Among (epochs s) e × (m.session ≡ e.session) × (1 ≤ m.session)
+  pub of_runs : (m : Message) → WasSent s.now m → IsOfRun s m
   pub numbered : (m : Message) → WasSent s.now m → IsWithin s.now.rec.numbers m
   -- a call has one answer, however often it is delivered
-  pub one_reply : (session inc act n : ℕ) (r q : Answer) → WasSent s.now (in_session session (Reply inc act n r)) → WasSent s.now (in_session session (Reply inc act n q)) → r ≡ q
+  pub one_reply : (session inc act n : ℕ) (r q : Answer) → WasSent s.now (in_session session (Reply inc act n r))
+      → WasSent s.now (in_session session (Reply inc act n q)) → r ≡ q
   -- the commits of each session
   pub commits : ℕ → List Commit
   pub runs : (e : Epoch) → Among (epochs s) e → SafeRun s.now e (commits e.session)
   pub now : SafeNow s.now (commits s.now.rec.session)
   -- any file, also one that is no frame's any more
   pub opened : (name : List ℕ) (given : Given) → IsReadAs (file_of s.now name) given → Gives s commits name given
+  -- each session was raised by a commit that was counted before
+  pub raised : (e : Epoch) → Among (epochs s) e → 1 ≤ e.session → IsRaised (commits e.session) e.session
   -- for each session that was raised there is a session document with at least that session, which each later run opens first
   pub fresh : (e : Epoch) → Among (epochs s) e → 1 ≤ e.session → HasSession s e.session
   pub first : (frame : Frame) (name : List ℕ) → nth s.now.rec.frames 1 ≡ Some frame → s.document ≡ Some name → frame.name ≡ name
-  -- a message of an earlier session changes neither the record nor a server of the present run, also one that was forged
-  pub earlier : (p : ℕ) (m : Message) (choice : Chosen) (next : Story) → nth (messages s.now.sent) p ≡ Some m → m.session ≢ s.now.rec.session → passed s choice (moment.Event (event.Deliver p)) ≡ Ok next → IsSameRun s.now next.now
-  pub forged : (inc : ℕ) (m : Message) (choice : Chosen) (next : Story) → m.session ≢ s.now.rec.session → passed s choice (moment.Event (event.Forge inc m)) ≡ Ok next → (next.now.rec ≡ s.now.rec) × (next.now.instances ≡ s.now.instances)
+  -- A message of an earlier session changes neither the record nor a server nor a log of the present run. One that was forged
+  -- makes its server hostile, and changes nothing else.
+  pub earlier : (p : ℕ) (m : Message) (choice : Chosen) (next : Story) → nth (messages s.now.sent) p ≡ Some m → m.session ≢ s.now.rec.session
+      → passed s choice (moment.Event (event.Deliver p)) ≡ Ok next → IsSameRun s.now next.now
+  pub forged : (inc : ℕ) (m : Message) (choice : Chosen) (next : Story) → m.session ≢ s.now.rec.session
+      → passed s choice (moment.Event (event.Forge inc m)) ≡ Ok next → IsSameButHostile s.now inc next.now
   -- and a stop keeps what the disk has kept
-  pub stopped : (fs : List ℕ) (choice : Chosen) (next : Story) → AreImages s choice (moment.Stop fs) → passed s choice (moment.Stop fs) ≡ Ok next → IsStopped s fs next
+  pub stopped : (fs : List ℕ) (choice : Chosen) (next : Story) → AreImages s choice (moment.Stop fs) → passed s choice (moment.Stop fs) ≡ Ok next
+      → IsStopped s fs next
