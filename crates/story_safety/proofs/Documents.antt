@@ -1,78 +1,49 @@
 -- The session document after an event of the present run, and that nothing is saved or made before a session is raised.
-use Rattle.std.proofs.Common.{◌≡◌, ◌≢◌, ◌++◌, ◌+◌, ◌≤◌, ℕ, suc, Bool, true, false, List, [], ◌∷◌, length, Option, Some, None, is_some, Result, Ok, Err, refl, sym, ap, ◌∙◌, inl, inr, arith, subst, if◌then◌else◌}
+use Rattle.std.proofs.Common.{◌≡◌, ◌≢◌, ◌++◌, ◌+◌, ◌≤◌, ℕ, suc, Bool, true, false, List, [], ◌∷◌, length, Option, Some, None, is_some, Ok, refl, sym, ap, ◌∙◌, inl, inr, arith, subst, if◌then◌else◌}
 use Rattle.std.proofs.lemmas.Bool.Decides.{eqb_tells}
 use Rattle.std.proofs.lemmas.Slice.Eq.{bytes_eq-Decides}
 use Rattle.wire_msgs.specs.Found.{find, nth, set_nth}
 use Rattle.document_model.specs.Documents.{Doc}
-use Rattle.container_frames.specs.Frames.{AreUnraised, Commits, FramesGo, FramesStay, StepsMoveFrames, frame_counted, frame_made, frame_opened, frames_stay}
+use Rattle.container_frames.specs.Frames.{AreUnraised, Commits, FramesGo, FramesStay, frame_counted, frame_made, frame_opened, frames_stay}
+use Rattle.container_frames.proofs.Steps.{steps_move_frames}
 use Rattle.container_laws.specs.OpenLaws.{IsFileOf}
 use Rattle.container_laws.proofs.OpensLaws.{files-give_theirs}
 use Rattle.container_model.specs.Commands.{new_frame}
 use Rattle.container_model.specs.Inputs.{Input, on_input}
 use Rattle.container_model.specs.Opens.{Given, IsReadAs, opened_frame}
 use Rattle.container_model.specs.Record.{Record, Took}
-use Rattle.container_model.specs.Saves.{commit_done, commit_made, committed_frame, document, image, image_at, resolve, session_after}
+use Rattle.container_model.specs.Saves.{commit_made, committed_frame, document, image_at, session_after}
 use Rattle.container_model.specs.declared.answer.FrameDocument.{FrameDocument}
 use Rattle.container_model.specs.declared.command.Command.{Command}
 use Rattle.container_model.specs.declared.command.Command.TheVariants as command
-use Rattle.container_model.specs.declared.fault.ContainerFault.{ContainerFault}
 use Rattle.container_model.specs.declared.record.Frame.{Frame}
 use Rattle.container_model.specs.declared.record.Phase.TheVariants.{Idle}
 use Rattle.container_numbers.specs.Sessions.{InSession, MayRaise}
+use Rattle.container_queues.proofs.SteadyLookups.{nth-set_other, nth-set_same}
 use Rattle.container_steady.proofs.Opening.{is_opened}
-use Rattle.container_steady.proofs.Settling.{done_commits, kept_commits, not_idle}
 use Rattle.world_model.specs.declared.event.Event.{Event}
 use Rattle.world_model.specs.declared.event.Event.TheVariants as event
-use Rattle.world_model.specs.declared.event.Stop.{Stop}
+use Rattle.world_model.specs.declared.logs.Document.{Document}
 use Rattle.world_model.specs.declared.logs.File.{File}
 use Rattle.world_model.specs.Safe.{Among}
-use Rattle.world_model.specs.World.{Choice, IsImage, IsImageOf, World, done_imaged, done_in, done_taken, file_bytes, file_of, happened, is_file, put_file}
-use Rattle.world_facts.proofs.Lookups.{among_join, among_new, among_old, nth_one, nth_set_apart}
+use Rattle.world_model.specs.World.{Choice, IsImage, IsImageOf, World, file_bytes, file_of, is_file, put_file}
+use Rattle.world_facts.proofs.Lookups.{among_join, among_new, among_old, nth_aligned, nth_old, nth_one, nth_set_apart}
 use Rattle.world_files.specs.Files.{Apart, Bears, MakesImage}
 use Rattle.story_model.specs.SafeStory.{AreOf}
 use Rattle.story_model.specs.Story.{Epoch, Story, committed_by, document_by, epoch_of, epochs, followed, is_it, kept_by, made_name, may_begin, may_command, may_open}
 use Rattle.story_safety.specs.Holding.{DocumentStands, HasDocument}
-use Rattle.story_safety.specs.Steps.{CommitHasImage, HasImage, IsInputOf, Steps, made_by, put_made, rec_stays, rec_steps}
-use Rattle.story_safety.proofs.StoryFiles.{bears_made, found_other, found_put, image_frame, image_session}
+use Rattle.story_safety.specs.Steps.{Counts, CountsBy, IsInputOf, KeepsFirst, Steps, made_by, put_committed, rec_stays, rec_steps}
+use Rattle.story_safety.proofs.StoryFiles.{bears_made, found_other, found_put, image_session}
 use Rattle.story_safety.proofs.Stopping.{among_one, document_above, first_there, raises}
 
--- ---- a commit that is counted is a step of the container
-abbrev pub CommitSteps : World → World → Event → Type 0
-CommitSteps w v (event.Done f) = (t : Took) × (commit_done w.rec f ≡ Ok t) × (v.rec ≡ t.rec)
-CommitSteps w v (event.Resolve f true) = (t : Took) × (resolve w.rec f true ≡ Ok t) × (v.rec ≡ t.rec)
-CommitSteps w v e = Unit {0}
+-- ---- a commit that is counted
+pub done_counts : (w v : World) (choice : Choice) (f : ℕ) → Steps w v choice (event.Done f) → Counts w v f
+done_counts w v choice f (rec_stays none rec keeps) = absurd none
+done_counts w v choice f (rec_steps x t input ok rec counts) = subst (CountsBy w v) input counts
 
-ok_is : (x y : World) → ◌≡◌ {A = Result World Stop} (Ok x) (Ok y) → x ≡ y
-ok_is x y e = cc
-
-taken_steps : (w : World) (f : ℕ) (bytes : List ℕ) (frame : Frame) (saved : FrameDocument) (told : Result Took ContainerFault) (v : World) → done_taken w f bytes frame saved told ≡ Ok v
-    → (t : Took) × (told ≡ Ok t) × (v.rec ≡ t.rec)
-taken_steps w f bytes frame saved (Err fault) v e = cc
-taken_steps w f bytes frame saved (Ok t) v e = (t, refl, ap (λ (u : World). u.rec) (sym (ok_is _ v e)))
-
-imaged_steps : (w : World) (f : ℕ) (bytes : List ℕ) (frame : Frame) (told : Result Took ContainerFault) (saved : Result FrameDocument ContainerFault) (v : World)
-    → done_imaged w f bytes frame told saved ≡ Ok v → (t : Took) × (told ≡ Ok t) × (v.rec ≡ t.rec)
-imaged_steps w f bytes frame told (Err fault) v e = cc
-imaged_steps w f bytes frame told (Ok saved) v e = taken_steps w f bytes frame saved told v e
-
-done_steps : (w : World) (f : ℕ) (bytes : List ℕ) (told : Result Took ContainerFault) (frame : Option Frame) (v : World) → done_in w f bytes told frame ≡ Ok v
-    → (t : Took) × (told ≡ Ok t) × (v.rec ≡ t.rec)
-done_steps w f bytes told None v e = cc
-done_steps w f bytes told (Some frame) v e = imaged_steps w f bytes frame told (image w.rec f) v e
-
-pub commit_steps : (w : World) (choice : Choice) (e : Event) (v : World) → happened w choice e ≡ Ok v → CommitSteps w v e
-commit_steps w choice (event.Command c) v e = tt
-commit_steps w choice (event.Deliver p) v e = tt
-commit_steps w choice (event.Forge inc m) v e = tt
-commit_steps w choice (event.Crash session inc) v e = tt
-commit_steps w choice (event.Reap inc) v e = tt
-commit_steps w choice (event.Done f) v e = done_steps w f choice.file (commit_done w.rec f) (nth w.rec.frames f) v e
-commit_steps w choice (event.Fail f) v e = tt
-commit_steps w choice (event.Resolve f true) v e = done_steps w f choice.file (resolve w.rec f true) (nth w.rec.frames f) v e
-commit_steps w choice (event.Resolve f false) v e = tt
-commit_steps w choice (event.Open name width height) v e = tt
-commit_steps w choice (event.Scribble session inc act) v e = tt
-commit_steps w choice (event.Ask session inc act) v e = tt
+pub kept_counts : (w v : World) (choice : Choice) (f : ℕ) → Steps w v choice (event.Resolve f true) → Counts w v f
+kept_counts w v choice f (rec_stays none rec keeps) = absurd none
+kept_counts w v choice f (rec_steps x t input ok rec counts) = subst (CountsBy w v) input counts
 
 -- ---- the document of a story whose present run goes on
 epoch_above : (s : Story) (v : World) (n : ℕ) → ((e : Epoch) → Among (epochs s) e → e.session ≤ n) → v.rec.session ≤ n → (e : Epoch) → Among (s.past ++ epoch_of v ∷ []) e → e.session ≤ n
@@ -84,19 +55,21 @@ epoch_above s v n h le e g = elim (among_join s.past (epoch_of v ∷ []) e g) [
 present_above : (s : Story) (n : ℕ) → ((e : Epoch) → Among (epochs s) e → e.session ≤ n) → s.now.rec.session ≤ n
 present_above s n h = h (epoch_of s.now) (among_new s.past (epoch_of s.now ∷ []) (epoch_of s.now) (inl refl))
 
--- where its file, frame 1 and the session stay
+-- where its file, frame 1, the session and what was counted of frame 1 stay
 stays_in : (s : Story) (v : World) (made : Option (List ℕ)) (kept : List (List ℕ)) (document : Option (List ℕ)) → DocumentStands s document → v.rec.session ≡ s.now.rec.session
-    → ((name : List ℕ) (h : HasDocument s name) → document ≡ Some name → file_of v name ≡ file_of s.now name)
+    → KeepsFirst s.now v → ((name : List ℕ) (h : HasDocument s name) → document ≡ Some name → file_of v name ≡ file_of s.now name)
     → ((name : List ℕ) (h : HasDocument s name) → document ≡ Some name → (frame : Frame) → nth v.rec.frames 1 ≡ Some frame → (frame.name ≡ name) × (frame.session ≡ h.saved.session))
     → DocumentStands (record { now = v; past = s.past; document = made; kept = kept }) document
-stays_in s v made kept None d session file framed = (d.0, session ∙ d.1)
-stays_in s v made kept (Some name) d session file framed = record {
+stays_in s v made kept None d session keeps file framed = (d.0, session ∙ d.1)
+stays_in s v made kept (Some name) d session keeps file framed = record {
   bytes = d.bytes;
   file = file name d refl ∙ d.file;
   saved = d.saved;
   is = d.is;
   above = epoch_above s v d.saved.session d.above (let le : s.now.rec.session ≤ d.saved.session = present_above s d.saved.session d.above in omega arith);
   framed = framed name d refl;
+  raised = λ there. (let r = d.raised (λ z. there (session ∙ z)) in
+      (r.0 ∙ sym session, record { document = r.1.document; first = keeps r.1.document r.1.first; bears = r.1.bears ∙ sym session }));
 }
 
 same_file : (w v : World) (name : List ℕ) → v.files ≡ w.files → file_of v name ≡ file_of w name
@@ -108,9 +81,9 @@ first_in r t frame e at = ap (λ (y : Record). nth y.frames 1) (sym e) ∙ at
 session_in : (r t : Record) → t ≡ r → t.session ≡ r.session
 session_in r t e = ap (λ (y : Record). y.session) e
 
-unchanged : (s : Story) (v : World) → DocumentStands s s.document → v.rec ≡ s.now.rec → v.files ≡ s.now.files → DocumentStands (record s { now = v }) s.document
-unchanged s v d rec files =
-    stays_in s v s.document s.kept s.document d (session_in s.now.rec v.rec rec) (λ name h is. same_file s.now v name files) (λ name h is frame at. h.framed frame (first_in s.now.rec v.rec frame rec at))
+unchanged : (s : Story) (v : World) → DocumentStands s s.document → v.rec ≡ s.now.rec → KeepsFirst s.now v → v.files ≡ s.now.files → DocumentStands (record s { now = v }) s.document
+unchanged s v d rec keeps files =
+    stays_in s v s.document s.kept s.document d (session_in s.now.rec v.rec rec) keeps (λ name h is. same_file s.now v name files) (λ name h is frame at. h.framed frame (first_in s.now.rec v.rec frame rec at))
 
 -- ---- steps that make and open no frame, and count none
 abbrev IsStill : Input → Type 0
@@ -140,18 +113,24 @@ still_stays r x t s (frame_opened name w h d q frames session) = absurd (subst I
 still_stays r x t s (frame_counted f frame c at busy made) = absurd (still_counts_none x f s c)
 
 stayed : (s : Story) (v : World) (t : Took) → DocumentStands s s.document → FramesStay s.now.rec.session s.now.rec.frames t.rec.frames → t.rec.session ≡ s.now.rec.session → v.rec ≡ t.rec
-    → v.files ≡ s.now.files → DocumentStands (record s { now = v }) s.document
-stayed s v t d stay session rec files =
-    stays_in s v s.document s.kept s.document d (session_in t.rec v.rec rec ∙ session) (λ name h is. same_file s.now v name files)
+    → KeepsFirst s.now v → v.files ≡ s.now.files → DocumentStands (record s { now = v }) s.document
+stayed s v t d stay session rec keeps files =
+    stays_in s v s.document s.kept s.document d (session_in t.rec v.rec rec ∙ session) keeps (λ name h is. same_file s.now v name files)
     (λ name h is frame at. (let p = stay.from 1 frame (first_in t.rec v.rec frame rec at) in
     let b = h.framed p.0 p.1 in
     (p.2.name ∙ b.0, p.2.session_same ∙ b.1)))
 
-still_step : (s : Story) (v : World) (choice : Choice) (e : Event) → DocumentStands s s.document → StepsMoveFrames → Steps s.now v choice e → ((x : Input) → IsInputOf x choice e → IsStill x)
+-- and keep what was counted of frame 1
+abbrev Still : World → World → Input → Type 0
+Still w v x = IsStill x × (CountsBy w v x → KeepsFirst w v)
+
+still_step : (s : Story) (v : World) (choice : Choice) (e : Event) → DocumentStands s s.document → Steps s.now v choice e → ((x : Input) → IsInputOf x choice e → Still s.now v x)
     → v.files ≡ s.now.files
     → DocumentStands (record s { now = v }) s.document
-still_step s v choice e d law (rec_stays rec same none) still files = unchanged s v d rec files
-still_step s v choice e d law (rec_steps x t input ok rec) still files = (let p = still_stays s.now.rec x t (still x input) (law s.now.rec x t ok) in stayed s v t d p.0 p.1 rec files)
+still_step s v choice e d (rec_stays none rec keeps) still files = unchanged s v d rec keeps files
+still_step s v choice e d (rec_steps x t input ok rec counts) still files = (let k = still x input in
+    let p = still_stays s.now.rec x t k.0 (steps_move_frames s.now.rec x t ok) in
+    stayed s v t d p.0 p.1 rec (k.1 counts) files)
 
 -- ---- a new frame
 none_first : (frames : List Frame) → 1 ≡ suc (length frames) → nth frames 1 ≡ None
@@ -164,27 +143,27 @@ made_first (Some x) document name may none there = cc
 made_first None None name may none there = cc
 made_first None (Some d) name may none there = cc
 
-command_goes : (s : Story) (v : World) (c : Command) (x : Input) (t : Took) → DocumentStands s s.document → x ≡ Input.Ordered c → v.rec ≡ t.rec → v.files ≡ s.now.files → may_command s c ≡ true
-    → FramesGo s.now.rec x t
-    → DocumentStands (record s { now = v }) s.document
-command_goes s v c x t d input rec files may (frames_stay stay session) = stayed s v t d stay session rec files
-command_goes s v c x t d input rec files may (frame_made name w h q frames session) =
+command_goes : (s : Story) (v : World) (c : Command) (x : Input) (t : Took) → DocumentStands s s.document → x ≡ Input.Ordered c → v.rec ≡ t.rec → KeepsFirst s.now v → v.files ≡ s.now.files
+    → may_command s c ≡ true → FramesGo s.now.rec x t → DocumentStands (record s { now = v }) s.document
+command_goes s v c x t d input rec keeps files may (frames_stay stay session) = stayed s v t d stay session rec keeps files
+command_goes s v c x t d input rec keeps files may (frame_made name w h q frames session) =
     let both : Input.Ordered c ≡ Input.Ordered (command.New name w h) = sym input ∙ q in
     let is : c ≡ command.New name w h = cc in
     let free : may_command s (command.New name w h) ≡ true = ap (may_command s) (sym is) ∙ may in
-    stays_in s v s.document s.kept s.document d (session_in t.rec v.rec rec ∙ session) (λ name h is. same_file s.now v name files)
+    stays_in s v s.document s.kept s.document d (session_in t.rec v.rec rec ∙ session) keeps (λ name h is. same_file s.now v name files)
     (λ other own there frame at. elim (nth_one s.now.rec.frames (new_frame name w h) 1 frame (ap (λ (fs : List Frame). nth fs 1) (sym frames) ∙ first_in t.rec v.rec frame rec at)) [
       | inl old ↦ own.framed frame old
       | inr new ↦ absurd (made_first (nth s.now.rec.frames 1) s.document other free (none_first s.now.rec.frames new.1) there)
     ])
-command_goes s v c x t d input rec files may (frame_opened name w h given q frames session) = (let both : Input.Ordered c ≡ Input.Opened name w h (Given.Holding given) = sym input ∙ q in cc)
-command_goes s v c x t d input rec files may (frame_counted f frame counts at busy made) = absurd (subst (λ (y : Input). Commits y f) input counts)
+command_goes s v c x t d input rec keeps files may (frame_opened name w h given q frames session) = (let both : Input.Ordered c ≡ Input.Opened name w h (Given.Holding given) = sym input ∙ q in cc)
+command_goes s v c x t d input rec keeps files may (frame_counted f frame counts at busy made) = absurd (subst (λ (y : Input). Commits y f) input counts)
 
-command_step : (s : Story) (v : World) (choice : Choice) (c : Command) → DocumentStands s s.document → StepsMoveFrames → Steps s.now v choice (event.Command c) → v.files ≡ s.now.files
+command_step : (s : Story) (v : World) (choice : Choice) (c : Command) → DocumentStands s s.document → Steps s.now v choice (event.Command c) → v.files ≡ s.now.files
     → may_command s c ≡ true
     → DocumentStands (record s { now = v }) s.document
-command_step s v choice c d law (rec_stays rec same none) files may = unchanged s v d rec files
-command_step s v choice c d law (rec_steps x t input ok rec) files may = command_goes s v c x t d input rec files may (law s.now.rec x t ok)
+command_step s v choice c d (rec_stays none rec keeps) files may = unchanged s v d rec keeps files
+command_step s v choice c d (rec_steps x t input ok rec counts) files may =
+    command_goes s v c x t d input rec (subst (CountsBy s.now v) input counts) files may (steps_move_frames s.now.rec x t ok)
 
 -- ---- a file that is opened
 opened_first : (frame : Option Frame) (document : Option (List ℕ)) (name own : List ℕ) → (if is_some frame then true else is_it name document) ≡ true → frame ≡ None → document ≡ Some own → own ≡ name
@@ -204,10 +183,10 @@ given_is w name bytes saved given d file of read holds =
 
 open_step : (s : Story) (v : World) (choice : Choice) (name : List ℕ) (width height : ℕ) → DocumentStands s s.document → Steps s.now v choice (event.Open name width height) → v.files ≡ s.now.files
     → IsImage s.now choice (event.Open name width height) → may_open s name ≡ true → DocumentStands (record s { now = v }) s.document
-open_step s v choice name width height d (rec_stays rec same none) files read may = unchanged s v d rec files
-open_step s v choice name width height d (rec_steps x t input ok rec) files read may =
+open_step s v choice name width height d (rec_stays none rec keeps) files read may = unchanged s v d rec keeps files
+open_step s v choice name width height d (rec_steps x t input ok rec counts) files read may =
     let o = is_opened s.now.rec name width height choice.given t (subst (λ (y : Input). on_input s.now.rec y ≡ Ok t) input ok) in
-    stays_in s v s.document s.kept s.document d (session_in t.rec v.rec rec ∙ sym (ap (λ (y : Took). y.rec.session) o.made)) (λ own h is. same_file s.now v own files)
+    stays_in s v s.document s.kept s.document d (session_in t.rec v.rec rec ∙ sym (ap (λ (y : Took). y.rec.session) o.made)) (subst (CountsBy s.now v) input counts) (λ own h is. same_file s.now v own files)
     (λ own h there frame at. elim (nth_one s.now.rec.frames (opened_frame name width height o.d.session) 1 frame (ap (λ (y : Took). nth y.rec.frames 1) o.made ∙ first_in t.rec v.rec frame rec at)) [
       | inl old ↦ h.framed frame old
       | inr new ↦ (let is : own ≡ name = opened_first (nth s.now.rec.frames 1) s.document name own may (none_first s.now.rec.frames new.1) there in (
@@ -225,88 +204,115 @@ session_other : (session f : ℕ) (frame : Frame) (raised : Option ℕ) → MayR
 session_other session f frame None h other = refl
 session_other session f frame (Some n) h other = absurd (other h.1)
 
-module _ (s : Story) (v : World) (bytes : List ℕ) (f : ℕ) (frame : Frame) (saved : FrameDocument) (d : DocumentStands s s.document) (apart : Apart s.now.rec.frames) (ses : InSession s.now.rec)
-    (at : nth s.now.rec.frames f ≡ Some frame) (im : image_at s.now.rec f (Some frame) ≡ Ok saved) (of : AreOf bytes saved) (rec : v.rec ≡ (commit_made s.now.rec f frame).rec)
-    (files : v.files ≡ put_file (made_name frame) bytes s.now.files) where
-  raised_session : v.rec.session ≡ session_after s.now.rec.session frame.raised
-  raised_session = session_in (commit_made s.now.rec f frame).rec v.rec rec
+-- what a session document was raised to, and the session that was there before
+session_raised : (session f : ℕ) (frame : Frame) (raised : Option ℕ) → MayRaise session f frame raised → (session ≢ 0 → frame.session ≡ session) → session_after session raised ≢ 0
+    → session_after frame.session raised ≡ session_after session raised
+session_raised session f frame None h same there = same there
+session_raised session f frame (Some n) h same there = refl
 
-  in_set : (new : Frame) → nth v.rec.frames 1 ≡ Some new → nth (set_nth s.now.rec.frames f (committed_frame frame)) 1 ≡ Some new
-  in_set new there = first_in (commit_made s.now.rec f frame).rec v.rec new rec there
+-- frame 1 is of the session of its run
+frame_session : (s : Story) (d : Option (List ℕ)) (frame : Frame) → DocumentStands s d → nth s.now.rec.frames 1 ≡ Some frame → s.now.rec.session ≢ 0 → frame.session ≡ s.now.rec.session
+frame_session s None frame d at there = absurd (there d.1)
+frame_session s (Some name) frame d at there = (d.framed frame at).1 ∙ (d.raised there).0
 
-  first_counted : f ≡ 1 → HasDocument (committed_by s f v) (made_name frame)
+module _ (s : Story) (v : World) (bytes : List ℕ) (f : ℕ) (d : DocumentStands s s.document) (apart : Apart s.now.rec.frames) (ses : InSession s.now.rec) (aligned : length s.now.counted ≡ length s.now.rec.frames)
+    (c : Counts s.now v f) (of : AreOf bytes c.saved) (files : v.files ≡ put_file (made_name c.frame) bytes s.now.files) where
+  abbrev frame : Frame
+  frame = c.frame
+
+  may_raise : MayRaise s.now.rec.session f c.frame c.frame.raised
+  may_raise = ses.raising f c.frame c.at
+
+  raised_session : v.rec.session ≡ session_after s.now.rec.session c.frame.raised
+  raised_session = session_in (commit_made s.now.rec f c.frame).rec v.rec c.rec
+
+  in_set : (new : Frame) → nth v.rec.frames 1 ≡ Some new → nth (set_nth s.now.rec.frames f (committed_frame c.frame)) 1 ≡ Some new
+  in_set new there = first_in (commit_made s.now.rec f c.frame).rec v.rec new c.rec there
+
+  counted_in : (x : Option Document) → nth (set_nth s.now.counted f (Some c.document)) 1 ≡ Some x → nth v.counted 1 ≡ Some x
+  counted_in x at = ap (λ xs. nth xs 1) c.counted ∙ nth_old (set_nth s.now.counted f (Some c.document)) c.more 1 x at
+
+  first_counted : f ≡ 1 → HasDocument (committed_by s f v) (made_name c.frame)
   first_counted one =
-      let first : nth s.now.rec.frames 1 ≡ Some frame = subst (λ (n : ℕ). nth s.now.rec.frames n ≡ Some frame) one at in
-      let session : saved.session ≡ session_after frame.session frame.raised = image_session s.now.rec f frame saved im in
-      let least : frame.session ≤ session_after frame.session frame.raised = raises s.now.rec.session f frame frame.raised (ses.raising f frame at) in
-      let before : (e : Epoch) → Among (epochs s) e → e.session ≤ frame.session = document_above s s.document frame d first in
-      let now : session_after s.now.rec.session frame.raised ≤ session_after frame.session frame.raised =
-      session_above s.now.rec.session frame.session frame.raised (present_above s frame.session before) in
+      let first : nth s.now.rec.frames 1 ≡ Some frame = subst (λ (n : ℕ). nth s.now.rec.frames n ≡ Some frame) one c.at in
+      let session : c.saved.session ≡ session_after c.frame.session c.frame.raised = image_session s.now.rec f c.frame c.saved c.imaged in
+      let least : c.frame.session ≤ session_after c.frame.session c.frame.raised = raises s.now.rec.session f c.frame c.frame.raised may_raise in
+      let before : (e : Epoch) → Among (epochs s) e → e.session ≤ c.frame.session = document_above s s.document c.frame d first in
+      let now : session_after s.now.rec.session c.frame.raised ≤ session_after c.frame.session c.frame.raised =
+      session_above s.now.rec.session c.frame.session c.frame.raised (present_above s c.frame.session before) in
       let own = raised_session in
+      let there = nth_aligned s.now.rec.frames s.now.counted f c.frame (sym aligned) c.at in
       record {
         bytes = bytes;
-        file = ap (λ (fs : List File). file_bytes (find (is_file (made_name frame)) fs)) files ∙ ap file_bytes (found_put (made_name frame) bytes s.now.files);
-        saved = saved;
+        file = ap (λ (fs : List File). file_bytes (find (is_file (made_name c.frame)) fs)) files ∙ ap file_bytes (found_put (made_name c.frame) bytes s.now.files);
+        saved = c.saved;
         is = of;
-        above = epoch_above s v saved.session (λ e g. (let le : e.session ≤ frame.session = before e g in omega arith)) (omega arith);
-        framed = λ new there. elim (nth_set_apart s.now.rec.frames f 1 (committed_frame frame) new (in_set new there)) [
+        above = epoch_above s v c.saved.session (λ e g. (let le : e.session ≤ c.frame.session = before e g in omega arith)) (omega arith);
+        framed = λ new there. elim (nth_set_apart s.now.rec.frames f 1 (committed_frame c.frame) new (in_set new there)) [
           | inl p ↦ (ap (λ (y : Frame). y.name) p.1, ap (λ (y : Frame). y.session) p.1 ∙ sym session)
           | inr p ↦ absurd (p.0 (sym one))
         ];
+        raised = λ ne. (let same : c.saved.session ≡ v.rec.session = session
+            ∙ (session_raised s.now.rec.session f c.frame c.frame.raised may_raise (frame_session s s.document c.frame d first) (λ z. ne (own ∙ z)) ∙ sym own) in
+            (same, record {
+              document = c.document;
+              first = counted_in (Some c.document) (subst (λ (n : ℕ). nth (set_nth s.now.counted f (Some c.document)) n ≡ Some (Some c.document)) one (nth-set_same s.now.counted f there.0 (Some c.document) there.1));
+              bears = c.bears ∙ same;
+            }));
       }
 
   other_counted : f ≢ 1 → DocumentStands (committed_by s f v) s.document
   other_counted other = stays_in s v (document_by f (nth s.now.rec.frames f) s.document) (kept_by (nth s.now.rec.frames f) s.kept) s.document d
-      (raised_session ∙ session_other s.now.rec.session f frame frame.raised (ses.raising f frame at) other)
-      (λ name h there. (let x = first_there s.now.rec.frames f frame at in
-      let free : name ≢ made_name frame = λ q. other (apart f 1 frame x.0 name at x.1 (subst (Bears frame) (sym q) (bears_made frame)) (inl (h.framed x.0 x.1).0)) in
-      ap (λ (fs : List File). file_bytes (find (is_file name) fs)) files ∙ ap file_bytes (found_other (made_name frame) name bytes s.now.files free)))
-      (λ name h there new found. elim (nth_set_apart s.now.rec.frames f 1 (committed_frame frame) new (in_set new found)) [
+      (raised_session ∙ session_other s.now.rec.session f c.frame c.frame.raised may_raise other)
+      (λ x at. counted_in (Some x) (nth-set_other s.now.counted f 1 (Some c.document) other ∙ at))
+      (λ name h there. (let x = first_there s.now.rec.frames f c.frame c.at in
+      let free : name ≢ made_name c.frame = λ q. other (apart f 1 c.frame x.0 name c.at x.1 (subst (Bears c.frame) (sym q) (bears_made c.frame)) (inl (h.framed x.0 x.1).0)) in
+      ap (λ (fs : List File). file_bytes (find (is_file name) fs)) files ∙ ap file_bytes (found_other (made_name c.frame) name bytes s.now.files free)))
+      (λ name h there new found. elim (nth_set_apart s.now.rec.frames f 1 (committed_frame c.frame) new (in_set new found)) [
         | inl p ↦ absurd (other (sym p.0))
         | inr p ↦ h.framed new p.1
       ])
 
   counted_document : DocumentStands (committed_by s f v) (document_by f (nth s.now.rec.frames f) s.document)
-  counted_document = subst (λ (found : Option Frame). DocumentStands (committed_by s f v) (document_by f found s.document)) (sym at) (elim (eqb_tells f 1) [
-    | inl one ↦ subst (λ (b : Bool). DocumentStands (committed_by s f v) (if b then Some (made_name frame) else s.document)) (sym one.0) (first_counted one.1)
-    | inr other ↦ subst (λ (b : Bool). DocumentStands (committed_by s f v) (if b then Some (made_name frame) else s.document)) (sym other.0) (other_counted other.1)
+  counted_document = subst (λ (found : Option Frame). DocumentStands (committed_by s f v) (document_by f found s.document)) (sym c.at) (elim (eqb_tells f 1) [
+    | inl one ↦ subst (λ (b : Bool). DocumentStands (committed_by s f v) (if b then Some (made_name c.frame) else s.document)) (sym one.0) (first_counted one.1)
+    | inr other ↦ subst (λ (b : Bool). DocumentStands (committed_by s f v) (if b then Some (made_name c.frame) else s.document)) (sym other.0) (other_counted other.1)
   ])
 
--- what a commit that is counted makes of the record
-made_of : (w v : World) (f : ℕ) (frame : Frame) (t : Took) → commit_made w.rec f frame ≡ t → v.rec ≡ t.rec → v.rec ≡ (commit_made w.rec f frame).rec
-made_of w v f frame t made rec = rec ∙ sym (ap (λ (y : Took). y.rec) made)
-
-commit_step : (s : Story) (v : World) (choice : Choice) (f : ℕ) → DocumentStands s s.document → Apart s.now.rec.frames → InSession s.now.rec → HasImage s.now f → IsImageOf s.now f choice.file
-    → ((frame : Frame) → nth s.now.rec.frames f ≡ Some frame → v.rec ≡ (commit_made s.now.rec f frame).rec) → v.files ≡ put_made choice.file (nth s.now.rec.frames f) s.now.files
+commit_step : (s : Story) (v : World) (choice : Choice) (f : ℕ) → DocumentStands s s.document → Apart s.now.rec.frames → InSession s.now.rec → length s.now.counted ≡ length s.now.rec.frames → Counts s.now v f
+    → IsImageOf s.now f choice.file → v.files ≡ put_committed choice.file (nth s.now.rec.frames f) s.now.files
     → DocumentStands (committed_by s f v) (document_by f (nth s.now.rec.frames f) s.document)
-commit_step s v choice f d apart ses image_of makes rec files =
-    let im = image_frame s.now.rec f (nth s.now.rec.frames f) image_of.0 refl image_of.1 in
-    let of = makes image_of.0 image_of.1 in
-    counted_document s v choice.file f im.0 image_of.0 d apart ses im.1 im.2 (record { denotes = of.0; holds = of.1 }) (rec im.0 im.1)
-    (files ∙ ap (λ (found : Option Frame). put_made choice.file found s.now.files) im.1)
+commit_step s v choice f d apart ses aligned c makes files =
+    let of = makes c.saved (ap (image_at s.now.rec f) c.at ∙ c.imaged) in
+    counted_document s v choice.file f d apart ses aligned c (record { denotes = of.0; holds = of.1 })
+    (files ∙ ap (λ (found : Option Frame). put_committed choice.file found s.now.files) c.at)
 
 -- ---- all events
-pub document_follows : (s : Story) (choice : Choice) (e : Event) (v : World) → DocumentStands s s.document → Apart s.now.rec.frames → InSession s.now.rec → AreUnraised s.now.rec
-    → StepsMoveFrames → Steps s.now v choice e → CommitSteps s.now v e
-    → v.files ≡ made_by s.now choice e s.now.files → CommitHasImage s.now e → MakesImage s.now choice e → IsImage s.now choice e → may_begin s e ≡ true
-    → DocumentStands (followed s e v) (followed s e v).document
-document_follows s choice (event.Command c) v d apart ses idle law st cs files has makes read may = command_step s v choice c d law st files may
-document_follows s choice (event.Deliver p) v d apart ses idle law st cs files has makes read may = still_step s v choice (event.Deliver p) d law st (λ x input. subst IsStill (sym input.2) tt) files
-document_follows s choice (event.Forge inc m) v d apart ses idle law st cs files has makes read may =
-    still_step s v choice (event.Forge inc m) d law st (λ x input. subst IsStill (sym input.1) tt) files
-document_follows s choice (event.Crash session inc) v d apart ses idle law st cs files has makes read may = still_step s v choice (event.Crash session inc) d law st (λ x input. absurd input) files
-document_follows s choice (event.Reap inc) v d apart ses idle law st cs files has makes read may = still_step s v choice (event.Reap inc) d law st (λ x input. subst IsStill (sym input) tt) files
-document_follows s choice (event.Done f) v d apart ses idle law st cs files has makes read may =
-    commit_step s v choice f d apart ses has makes (λ frame at. made_of s.now v f frame cs.0 (done_commits s.now.rec f frame at cs.0 cs.1).1 cs.2) files
-document_follows s choice (event.Fail f) v d apart ses idle law st cs files has makes read may = still_step s v choice (event.Fail f) d law st (λ x input. subst IsStill (sym input) tt) files
-document_follows s choice (event.Resolve f true) v d apart ses idle law st cs files has makes read may =
-    commit_step s v choice f d apart ses has makes (λ frame at. made_of s.now v f frame cs.0 (kept_commits s.now.rec f frame at cs.0 cs.1).1 cs.2) files
-document_follows s choice (event.Resolve f false) v d apart ses idle law st cs files has makes read may =
-    still_step s v choice (event.Resolve f false) d law st (λ x input. subst IsStill (sym input) tt) files
-document_follows s choice (event.Open name width height) v d apart ses idle law st cs files has makes read may = open_step s v choice name width height d st files read may
-document_follows s choice (event.Scribble session inc act) v d apart ses idle law st cs files has makes read may =
-    still_step s v choice (event.Scribble session inc act) d law st (λ x input. absurd input) files
-document_follows s choice (event.Ask session inc act) v d apart ses idle law st cs files has makes read may = still_step s v choice (event.Ask session inc act) d law st (λ x input. absurd input) files
+-- what is known of the story's record
+pub record Facts (s : Story) : Type 0 where
+  pub document : DocumentStands s s.document
+  pub apart : Apart s.now.rec.frames
+  pub in_session : InSession s.now.rec
+  pub aligned : length s.now.counted ≡ length s.now.rec.frames
+
+pub document_follows : (s : Story) (choice : Choice) (e : Event) (v : World) → Facts s → Steps s.now v choice e → v.files ≡ made_by s.now choice e s.now.files
+    → MakesImage s.now choice e → IsImage s.now choice e → may_begin s e ≡ true → DocumentStands (followed s e v) (followed s e v).document
+document_follows s choice (event.Command c) v k st files makes read may = command_step s v choice c k.document st files may
+document_follows s choice (event.Deliver p) v k st files makes read may = still_step s v choice (event.Deliver p) k.document st (λ x input. subst (Still s.now v) (sym input.2) (tt, λ c. c)) files
+document_follows s choice (event.Forge inc m) v k st files makes read may =
+    still_step s v choice (event.Forge inc m) k.document st (λ x input. subst (Still s.now v) (sym input.1) (tt, λ c. c)) files
+document_follows s choice (event.Crash session inc) v k st files makes read may = still_step s v choice (event.Crash session inc) k.document st (λ x input. absurd input) files
+document_follows s choice (event.Reap inc) v k st files makes read may = still_step s v choice (event.Reap inc) k.document st (λ x input. subst (Still s.now v) (sym input) (tt, λ c. c)) files
+document_follows s choice (event.Done f) v k st files makes read may = commit_step s v choice f k.document k.apart k.in_session k.aligned (done_counts s.now v choice f st) makes files
+document_follows s choice (event.Fail f) v k st files makes read may = still_step s v choice (event.Fail f) k.document st (λ x input. subst (Still s.now v) (sym input) (tt, λ c. c)) files
+document_follows s choice (event.Resolve f true) v k st files makes read may =
+    commit_step s v choice f k.document k.apart k.in_session k.aligned (kept_counts s.now v choice f st) makes files
+document_follows s choice (event.Resolve f false) v k st files makes read may =
+    still_step s v choice (event.Resolve f false) k.document st (λ x input. subst (Still s.now v) (sym input) (tt, λ c. c)) files
+document_follows s choice (event.Open name width height) v k st files makes read may = open_step s v choice name width height k.document st files read may
+document_follows s choice (event.Scribble session inc act) v k st files makes read may =
+    still_step s v choice (event.Scribble session inc act) k.document st (λ x input. absurd input) files
+document_follows s choice (event.Ask session inc act) v k st files makes read may = still_step s v choice (event.Ask session inc act) k.document st (λ x input. absurd input) files
 
 -- ---- before a session is raised
 none_before : (session f : ℕ) (frame : Frame) (raised : Option ℕ) → MayRaise session f frame raised → session_after session raised ≡ 0 → session ≡ 0
@@ -331,9 +337,9 @@ goes_unraised r x t idle ses (frame_counted g counted counts there busy made) f 
       | inr p ↦ idle f frame p.1 (none_before r.session g counted counted.raised (ses.raising g counted there) (ap (λ (y : Took). y.rec.session) made ∙ unraised)) none
     ]
 
-pub unraised_follows : (s : Story) (choice : Choice) (e : Event) (v : World) → AreUnraised s.now.rec → InSession s.now.rec → StepsMoveFrames → Steps s.now v choice e → AreUnraised v.rec
-unraised_follows s choice e v idle ses law (rec_stays rec same none) = subst AreUnraised (sym rec) idle
-unraised_follows s choice e v idle ses law (rec_steps x t input ok rec) = subst AreUnraised (sym rec) (goes_unraised s.now.rec x t idle ses (law s.now.rec x t ok))
+pub unraised_follows : (w v : World) (choice : Choice) (e : Event) → AreUnraised w.rec → InSession w.rec → Steps w v choice e → AreUnraised v.rec
+unraised_follows w v choice e idle ses (rec_stays none rec keeps) = subst AreUnraised (sym rec) idle
+unraised_follows w v choice e idle ses (rec_steps x t input ok rec counts) = subst AreUnraised (sym rec) (goes_unraised w.rec x t idle ses (steps_move_frames w.rec x t ok))
 
 goes_none : (r : Record) (x : Input) (t : Took) → InSession r → FramesGo r x t → t.rec.session ≡ 0 → r.session ≡ 0
 goes_none r x t ses (frames_stay stay session) unraised = sym session ∙ unraised
@@ -343,9 +349,10 @@ goes_none r x t ses (frame_counted g counted counts there busy made) unraised =
     none_before r.session g counted counted.raised (ses.raising g counted there) (ap (λ (y : Took). y.rec.session) made ∙ unraised)
 
 -- a session that there is stays
-pub none_follows : (s : Story) (choice : Choice) (e : Event) (v : World) → InSession s.now.rec → StepsMoveFrames → Steps s.now v choice e → v.rec.session ≡ 0 → s.now.rec.session ≡ 0
-none_follows s choice e v ses law (rec_stays rec same none) unraised = sym (session_in s.now.rec v.rec rec) ∙ unraised
-none_follows s choice e v ses law (rec_steps x t input ok rec) unraised = goes_none s.now.rec x t ses (law s.now.rec x t ok) (sym (session_in t.rec v.rec rec) ∙ unraised)
+none_follows : (w v : World) (choice : Choice) (e : Event) → InSession w.rec → Steps w v choice e → v.rec.session ≡ 0 → w.rec.session ≡ 0
+none_follows w v choice e ses (rec_stays none rec keeps) unraised = sym (session_in w.rec v.rec rec) ∙ unraised
+none_follows w v choice e ses (rec_steps x t input ok rec counts) unraised =
+    goes_none w.rec x t ses (steps_move_frames w.rec x t ok) (sym (session_in t.rec v.rec rec) ∙ unraised)
 
 raises_one : (r : Record) (f : ℕ) (frame : Frame) (raised : Option ℕ) → AreUnraised r → nth r.frames f ≡ Some frame → frame.raised ≡ raised → MayRaise r.session f frame raised
     → frame.phase ≢ Idle → session_after r.session raised ≡ 0 → ⊥
@@ -353,29 +360,24 @@ raises_one r f frame None idle at is may busy unraised = busy (idle f frame at u
 raises_one r f frame (Some n) idle at is may busy unraised = (let a : n ≡ frame.session + 1 = may.2 in let b : n ≡ 0 = unraised in omega arith)
 
 -- no commit is counted where there is no session after it
-none_counted : (r : Record) (f : ℕ) (frame : Frame) (t : Took) → AreUnraised r → InSession r → nth r.frames f ≡ Some frame → frame.phase ≢ Idle → commit_made r f frame ≡ t → t.rec.session ≡ 0 → ⊥
-none_counted r f frame t idle ses at busy made unraised = raises_one r f frame frame.raised idle at refl (ses.raising f frame at) busy (ap (λ (y : Took). y.rec.session) made ∙ unraised)
+none_counted : (w v : World) (f : ℕ) → AreUnraised w.rec → InSession w.rec → Counts w v f → v.rec.session ≡ 0 → ⊥
+none_counted w v f idle ses c unraised = raises_one w.rec f c.frame c.frame.raised idle c.at refl (ses.raising f c.frame c.at) c.busy
+    (sym (session_in (commit_made w.rec f c.frame).rec v.rec c.rec) ∙ unraised)
 
-put_none : (bytes : List ℕ) (found : Option Frame) (mine : List File) → mine ≡ [] → ((frame : Frame) → found ≡ Some frame → ⊥) → put_made bytes found mine ≡ []
-put_none bytes None mine none unlike = none
-put_none bytes (Some frame) mine none unlike = absurd (unlike frame refl)
-
-pub none_made_follows : (s : Story) (choice : Choice) (e : Event) (v : World) (mine : List File) → (s.now.rec.session ≡ 0 → mine ≡ []) → AreUnraised s.now.rec → InSession s.now.rec
-    → StepsMoveFrames → Steps s.now v choice e
-    → CommitSteps s.now v e → v.rec.session ≡ 0 → made_by s.now choice e mine ≡ []
-none_made_follows s choice (event.Command c) v mine none idle ses law st cs unraised = none (none_follows s choice (event.Command c) v ses law st unraised)
-none_made_follows s choice (event.Deliver p) v mine none idle ses law st cs unraised = none (none_follows s choice (event.Deliver p) v ses law st unraised)
-none_made_follows s choice (event.Forge inc m) v mine none idle ses law st cs unraised = none (none_follows s choice (event.Forge inc m) v ses law st unraised)
-none_made_follows s choice (event.Crash session inc) v mine none idle ses law st cs unraised = none (none_follows s choice (event.Crash session inc) v ses law st unraised)
-none_made_follows s choice (event.Reap inc) v mine none idle ses law st cs unraised = none (none_follows s choice (event.Reap inc) v ses law st unraised)
-none_made_follows s choice (event.Done f) v mine none idle ses law st cs unraised =
-    put_none choice.file (nth s.now.rec.frames f) mine (none (none_follows s choice (event.Done f) v ses law st unraised)) (λ frame at. (let c = done_commits s.now.rec f frame at cs.0 cs.1 in
-    none_counted s.now.rec f frame cs.0 idle ses at (not_idle frame.phase c.0) c.1 (sym (session_in cs.0.rec v.rec cs.2) ∙ unraised)))
-none_made_follows s choice (event.Fail f) v mine none idle ses law st cs unraised = none (none_follows s choice (event.Fail f) v ses law st unraised)
-none_made_follows s choice (event.Resolve f true) v mine none idle ses law st cs unraised =
-    put_none choice.file (nth s.now.rec.frames f) mine (none (none_follows s choice (event.Resolve f true) v ses law st unraised)) (λ frame at. (let c = kept_commits s.now.rec f frame at cs.0 cs.1 in
-    none_counted s.now.rec f frame cs.0 idle ses at (not_idle frame.phase c.0) c.1 (sym (session_in cs.0.rec v.rec cs.2) ∙ unraised)))
-none_made_follows s choice (event.Resolve f false) v mine none idle ses law st cs unraised = none (none_follows s choice (event.Resolve f false) v ses law st unraised)
-none_made_follows s choice (event.Open name width height) v mine none idle ses law st cs unraised = none (none_follows s choice (event.Open name width height) v ses law st unraised)
-none_made_follows s choice (event.Scribble session inc act) v mine none idle ses law st cs unraised = none (none_follows s choice (event.Scribble session inc act) v ses law st unraised)
-none_made_follows s choice (event.Ask session inc act) v mine none idle ses law st cs unraised = none (none_follows s choice (event.Ask session inc act) v ses law st unraised)
+pub none_made_follows : (w v : World) (choice : Choice) (e : Event) (mine : List File) → (w.rec.session ≡ 0 → mine ≡ []) → AreUnraised w.rec → InSession w.rec → Steps w v choice e
+    → v.rec.session ≡ 0 → made_by w choice e mine ≡ []
+none_made_follows w v choice e mine none idle ses st unraised = at e st (none (none_follows w v choice e ses st unraised))
+  where
+    at : (x : Event) → Steps w v choice x → mine ≡ [] → made_by w choice x mine ≡ []
+    at (event.Command c) st h = h
+    at (event.Deliver p) st h = h
+    at (event.Forge inc m) st h = h
+    at (event.Crash session inc) st h = h
+    at (event.Reap inc) st h = h
+    at (event.Done f) st h = absurd (none_counted w v f idle ses (done_counts w v choice f st) unraised)
+    at (event.Fail f) st h = h
+    at (event.Resolve f true) st h = absurd (none_counted w v f idle ses (kept_counts w v choice f st) unraised)
+    at (event.Resolve f false) st h = h
+    at (event.Open name width height) st h = h
+    at (event.Scribble session inc act) st h = h
+    at (event.Ask session inc act) st h = h

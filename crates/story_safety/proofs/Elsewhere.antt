@@ -24,52 +24,11 @@ use Rattle.world_safety.specs.Holding.{Holds}
 use Rattle.world_safety.proofs.Held.{empty_held}
 use Rattle.story_model.specs.SafeStory.{IsGrantedIn}
 use Rattle.story_model.specs.Story.{Epoch, begun, epoch_of}
-use Rattle.story_safety.specs.Holding.{HoldsPast, mirror, mirror_of, sent_in}
-use Rattle.story_safety.specs.Steps.{twin}
+use Rattle.story_safety.specs.Holding.{CountsSession, HoldsPast, mirror, mirror_of, sent_in}
+use Rattle.story_safety.specs.Steps.{quieted, twin}
+use Rattle.story_safety.proofs.Members.{in_apart, in_none, message_in}
 
--- ---- what was sent in a session
-abbrev message_in : Sent → Message
-message_in x = x.message
-
-pub sent_in_join : (s : ℕ) (xs ys : List Sent) → sent_in s (xs ++ ys) ≡ sent_in s xs ++ sent_in s ys
-sent_in_join s [] ys = refl
-sent_in_join s (x ∷ xs) ys =
-    elim (x.message.session == s) as (λ b. (if b then x ∷ sent_in s (xs ++ ys) else sent_in s (xs ++ ys)) ≡ (if b then x ∷ sent_in s xs else sent_in s xs) ++ sent_in s ys) [
-      | true ↦ ap (λ zs. x ∷ zs) (sent_in_join s xs ys)
-      | false ↦ sent_in_join s xs ys
-    ]
-
--- messages of other sessions aren't of this one
-pub sent_in_none : (s : ℕ) (xs : List Sent) → ((m : Message) → Among (messages xs) m → m.session ≢ s) → sent_in s xs ≡ []
-sent_in_none s [] apart = refl
-sent_in_none s (x ∷ xs) apart = elim (eqb_tells x.message.session s) [
-  | inl t ↦ absurd (apart x.message (inl refl) t.1)
-  | inr t ↦ ap (λ (b : Bool). if b then x ∷ sent_in s xs else sent_in s xs) t.0 ∙ sent_in_none s xs (λ m g. apart m (inr g))
-]
-
-pub sent_in_apart : (s : ℕ) (xs ys : List Sent) → ((m : Message) → Among (messages ys) m → m.session ≢ s) → sent_in s (xs ++ ys) ≡ sent_in s xs
-sent_in_apart s xs ys apart = sent_in_join s xs ys ∙ (ap (λ zs. sent_in s xs ++ zs) (sent_in_none s ys apart) ∙ append-nil (sent_in s xs))
-
--- a message of the session has its place among those of the session
-place_from : (s : ℕ) (xs : List Sent) (i : ℕ) (x : Sent) → slice_get xs i ≡ Some x → x.message.session ≡ s → (q : ℕ) × (slice_get (sent_in s xs) q ≡ Some x)
-place_from s [] i x e own = cc
-place_from s (y ∷ ys) zero x e own =
-    let is : y ≡ x = cc in
-    elim (eqb_tells y.message.session s) [
-      | inl t ↦ (0, ap (λ (b : Bool). slice_get (if b then y ∷ sent_in s ys else sent_in s ys) 0) t.0 ∙ e)
-      | inr t ↦ absurd (t.1 (ap (λ (z : Sent). z.message.session) is ∙ own))
-    ]
-place_from s (y ∷ ys) (suc i) x e own =
-    let k = place_from s ys i x e own in
-    elim (y.message.session == s) as (λ b. (q : ℕ) × (slice_get (if b then y ∷ sent_in s ys else sent_in s ys) q ≡ Some x)) [
-      | true ↦ (suc k.0, k.1)
-      | false ↦ (k.0, k.1)
-    ]
-
-pub place_in : (s : ℕ) (xs : List Sent) (p : ℕ) (x : Sent) → nth xs p ≡ Some x → x.message.session ≡ s → (q : ℕ) × (nth (sent_in s xs) q ≡ Some x)
-place_in s xs zero x e own = cc
-place_in s xs (suc i) x e own = (let k = place_from s xs i x e own in (suc k.0, k.1))
-
+-- ---- what was sent
 pub new_sent : (xs ys : List Sent) (m : Message) → Among (messages ys) m → Among (messages (xs ++ ys)) m
 new_sent xs ys m g = subst (λ ms. Among ms m) (sym (map-append message_in xs ys)) (among_new (messages xs) (messages ys) m g)
 
@@ -106,14 +65,17 @@ granted_grows w v more session t e h = (let g = h.granted in let s = g.sent in r
 })
 
 -- ---- what holds of a world holds whatever its stock is and whatever it answered, and where nothing was taken
-pub bare : (v : World) (stock : List Kind) → Holds v → Holds (record v { stock = stock; taken = []; answers = [] })
-bare v stock h = record {
+pub recast : (w : World) (stock : List Kind) → Holds w → Holds (record (quieted w) { stock = stock })
+recast w stock h = record {
   in_session = record { holds = h.in_session.holds; sent = h.in_session.sent; servers = h.in_session.servers };
   agrees = h.agrees;
   files = record { counted_bounded = h.files.counted_bounded; filed = h.files.filed; commits = h.files.commits };
   numbers = record { recorded = h.numbers.recorded; sent = h.numbers.sent; servers = h.numbers.servers };
   taken_held = λ t g honest. absurd g;
 }
+
+pub reset : (w : World) → Holds w → Holds (quieted w)
+reset w h = recast w w.stock h
 
 abbrev HoldsOf : Record → List Instance → List File → List Kind → List Sent → List ℕ → List Done → List ServerDone → List (Option Document) → List ℕ → Type 0
 HoldsOf rec instances files stock sent owners container_done server_done counted hostile = Holds (record {
@@ -135,7 +97,7 @@ HoldsOf rec instances files stock sent owners container_done server_done counted
 pub moved : (w v : World) (files : List File) (xs ys : List Sent) → v.rec ≡ w.rec → v.instances ≡ w.instances → v.owners ≡ w.owners → v.container_done ≡ w.container_done
     → v.server_done ≡ w.server_done → v.counted ≡ w.counted → v.hostile ≡ w.hostile → ys ≡ xs → Holds (twin w files xs) → Holds (twin v files ys)
 moved w v files xs ys er ei eo ec es ek eh ex h =
-    let a : HoldsOf w.rec w.instances files v.stock xs w.owners w.container_done w.server_done w.counted w.hostile = bare (twin w files xs) v.stock h in
+    let a : HoldsOf w.rec w.instances files v.stock xs w.owners w.container_done w.server_done w.counted w.hostile = recast (twin w files xs) v.stock h in
     let b = subst (λ z. HoldsOf z w.instances files v.stock xs w.owners w.container_done w.server_done w.counted w.hostile) (sym er) a in
     let c = subst (λ z. HoldsOf v.rec z files v.stock xs w.owners w.container_done w.server_done w.counted w.hostile) (sym ei) b in
     let d = subst (λ z. HoldsOf v.rec v.instances files v.stock z w.owners w.container_done w.server_done w.counted w.hostile) (sym ex) c in
@@ -151,29 +113,31 @@ pub elsewhere_now : (w v : World) (files : List File) (more : List Sent) → v.r
     → Holds (mirror w files) → Holds (mirror v files)
 elsewhere_now w v files more er ei eo ec es ek eh em apart h =
     let same : sent_in v.rec.session v.sent ≡ sent_in w.rec.session w.sent =
-    ap (λ (r : Record). sent_in r.session v.sent) er ∙ (ap (sent_in w.rec.session) em ∙ sent_in_apart w.rec.session w.sent more apart) in
+    ap (λ (r : Record). sent_in r.session v.sent) er ∙ (ap (sent_in w.rec.session) em ∙ in_apart w.rec.session w.sent more apart) in
     moved w v files (sent_in w.rec.session w.sent) (sent_in v.rec.session v.sent) er ei eo ec es ek eh same h
 
 pub elsewhere_past : (w v : World) (e : Epoch) (rec : Record) (files : List File) (more : List Sent) → v.rec.numbers ≡ w.rec.numbers → v.sent ≡ w.sent ++ more
     → ((m : Message) → Among (messages more) m → m.session ≢ e.session) → HoldsPast w e rec files → HoldsPast v e rec files
 elsewhere_past w v e rec files more en em apart h =
-    let same : sent_in e.session v.sent ≡ sent_in e.session w.sent = ap (sent_in e.session) em ∙ sent_in_apart e.session w.sent more apart in
+    let same : sent_in e.session v.sent ≡ sent_in e.session w.sent = ap (sent_in e.session) em ∙ in_apart e.session w.sent more apart in
     record {
       session = h.session;
       numbers = h.numbers ∙ sym en;
       raised = h.raised;
+      bears = h.bears;
       holds = moved (mirror_of w e rec files) (mirror_of v e rec files) files (sent_in e.session w.sent) (sent_in e.session v.sent) refl refl refl refl refl refl refl same h.holds;
     }
 
 -- ---- a run that begins, and one that is over
 pub begun_held : (numbers : ℕ) (w : World) → w.rec.numbers ≡ numbers → ((m : Message) → WasSent w m → m.session ≢ 0) → Holds (mirror (begun w) [])
-begun_held numbers w e raised = subst (λ xs. HoldsOf (empty w.rec.numbers) [] [] w.stock xs [] [] [] [] []) (sym (sent_in_none 0 w.sent raised)) (empty_held w.rec.numbers w.stock)
+begun_held numbers w e raised = subst (λ xs. HoldsOf (empty w.rec.numbers) [] [] w.stock xs [] [] [] [] []) (sym (in_none 0 w.sent raised)) (empty_held w.rec.numbers w.stock)
 
-pub archived : (w : World) (files : List File) → Holds (mirror w files) → w.rec.session ≢ 0 → (v : World)
+pub over : (w : World) (files : List File) → Holds (mirror w files) → w.rec.session ≢ 0 → CountsSession w.counted w.rec.session → (v : World)
     → v.sent ≡ w.sent → v.rec.numbers ≡ w.rec.numbers → HoldsPast v (epoch_of w) w.rec files
-archived w files h raised v es en = record {
+over w files h raised bears v es en = record {
   session = refl;
   numbers = sym en;
   raised = raised;
+  bears = bears;
   holds = moved w (mirror_of v (epoch_of w) w.rec files) files (sent_in w.rec.session w.sent) (sent_in w.rec.session v.sent) refl refl refl refl refl refl refl (ap (sent_in w.rec.session) es) h;
 }

@@ -25,11 +25,9 @@ use Rattle.world_model.specs.World.{is_of, link_of, scribble, served, spoken, sp
 use Rattle.world_model.proofs.InRun.{in_run_here}
 use Rattle.story_model.specs.Story.{called_again, delivered_again, session_at, session_of_call}
 use Rattle.story_safety.specs.Holding.{sent_in}
-use Rattle.story_safety.specs.Steps.{twin}
-use Rattle.story_safety.proofs.Elsewhere.{place_in}
-
-ok_is : (x y : World) → ◌≡◌ {A = Result World Stop} (Ok x) (Ok y) → x ≡ y
-ok_is x y e = cc
+use Rattle.story_safety.specs.Steps.{quieted, twin}
+use Rattle.story_safety.proofs.Members.{place_in}
+use Rattle.story_safety.proofs.Twins.{ok_is}
 
 same_number : (s : ℕ) → (s == s) ≡ true
 same_number s = elim (eqb_tells s s) [ inl t ↦ t.0 | inr t ↦ absurd (t.1 refl) ]
@@ -38,16 +36,13 @@ same_number s = elim (eqb_tells s s) [ inl t ↦ t.0 | inr t ↦ absurd (t.1 ref
 abbrev pub alone : World → Record → List File → List Sent → World
 alone a rec files sent = record a { rec = rec; files = files; sent = sent; taken = []; answers = [] }
 
-abbrev pub reset : World → World
-reset v = record v { taken = []; answers = [] }
-
 -- What a step makes of the run's world by itself, where it makes v of the story's: the same but for what stands in them.
 pub record Follows (a : World) (rec : Record) (files : List File) (sent : List Sent) (told : Result World Stop) (v : World) : Type 0 where
   pub more : List Sent
   pub grown : v.sent ≡ a.sent ++ more
   pub next : World
   pub is : told ≡ Ok next
-  pub alike : reset next ≡ twin (record v { rec = rec }) files (sent ++ more)
+  pub alike : quieted next ≡ twin (record v { rec = rec }) files (sent ++ more)
   pub owners : v.owners ≡ a.owners
   pub taken : v.taken ≡ a.taken
   pub container_done : v.container_done ≡ a.container_done

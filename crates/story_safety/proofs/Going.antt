@@ -19,7 +19,7 @@ use Rattle.container_model.specs.Commands.{on_command}
 use Rattle.container_model.specs.Inputs.{Input, on_input}
 use Rattle.container_model.specs.Messages.{is_on, on_message, on_reap, said_to}
 use Rattle.container_model.specs.Opens.{opened}
-use Rattle.container_model.specs.Saves.{commit_done, commit_failed, image, resolve}
+use Rattle.container_model.specs.Saves.{commit_done, commit_failed, image, image_at, resolve}
 use Rattle.container_model.specs.declared.answer.FrameDocument.{FrameDocument}
 use Rattle.container_model.specs.declared.command.Command.{Command}
 use Rattle.container_model.specs.declared.fault.ContainerFault.{ContainerFault}
@@ -29,6 +29,7 @@ use Rattle.container_numbers.specs.Sessions.{IsOf}
 use Rattle.container_numbers.specs.Sound.{IsNumbered}
 use Rattle.container_numbers.proofs.SoundInputs.{numbers_after}
 use Rattle.container_steady.specs.Steady.{Steady}
+use Rattle.container_steady.proofs.Settling.{IsCommitOf, done_commits, kept_commits, not_idle}
 use Rattle.world_model.specs.declared.event.Event.{Event}
 use Rattle.world_model.specs.declared.event.Event.TheVariants as event
 use Rattle.world_model.specs.declared.event.Stop.{Stop}
@@ -39,7 +40,7 @@ use Rattle.world_model.specs.declared.logs.EventAnswer.TheVariants as answered
 use Rattle.world_model.specs.declared.logs.File.{File}
 use Rattle.world_model.specs.declared.logs.Sent.{Sent}
 use Rattle.world_model.specs.declared.logs.Taken.{Taken}
-use Rattle.world_model.specs.World.{Choice, Instance, World, ask, called, called_in, called_wanting, commanded, crash, crashed, deliver, delivered, delivered_said, done_imaged, done_in, done_taken, ended, forge, forged, forged_on, happened, in_session, is_of, link_of, link_to, only_taken, reap, scribble, served, spoken, spoken_by, stocked, taken_at, taken_by, taken_said, took, with_taken}
+use Rattle.world_model.specs.World.{Choice, Instance, World, ask, called, called_in, called_wanting, commanded, crash, crashed, deliver, delivered, delivered_said, done_imaged, done_in, done_taken, ended, forge, forged, forged_on, happened, in_session, is_of, joined, link_of, link_to, only_taken, reap, scribble, served, spoken, spoken_by, stocked, taken_at, taken_by, taken_said, took, uncounted, with_taken}
 use Rattle.world_model.specs.Safe.{Among, BringsBy, IsGranted, IsHonest, WasSent, messages}
 use Rattle.world_model.proofs.InRun.{in_run_ok}
 use Rattle.world_facts.proofs.Honest.{honest_before}
@@ -51,8 +52,10 @@ use Rattle.world_safety.proofs.Held.{held_happened}
 use Rattle.story_model.specs.SafeStory.{IsGrantedIn}
 use Rattle.story_model.specs.Story.{session_at, session_of, session_of_call}
 use Rattle.story_safety.specs.Holding.{mirror, sent_in}
-use Rattle.story_safety.specs.Steps.{CommitHasImage, Goes, HasImage, IsInputOf, Steps, made_by, rec_stays, rec_steps, twin}
-use Rattle.story_safety.proofs.Twins.{Both, among_sent, landed, local_place, ok_is, reset, taken_placed, twins_ask, twins_commanded, twins_crash, twins_delivered, twins_done, twins_only, twins_reap, twins_run, twins_scribble, twins_took}
+use Rattle.story_safety.specs.Steps.{Counts, CountsBy, CountsNone, Goes, IsInputOf, KeepsFirst, Steps, made_by, rec_stays, rec_steps, twin}
+use Rattle.story_safety.proofs.Elsewhere.{reset}
+use Rattle.story_safety.proofs.Members.{place_in, sent_among}
+use Rattle.story_safety.proofs.Twins.{Both, landed, ok_is, taken_placed, twins_ask, twins_commanded, twins_crash, twins_delivered, twins_done, twins_only, twins_reap, twins_run, twins_scribble, twins_took}
 
 -- ---- the record and the files after an event
 
@@ -61,27 +64,31 @@ abbrev rec_after : Record → Result Took ContainerFault → Record
 rec_after r (Err fault) = r
 rec_after r (Ok t) = t.rec
 
--- the record is this one, and the files are as they were
+-- the record is this one, and what was counted of frame 1 stays
 record IsAfter (w v : World) (r : Record) : Type 0 where
   rec : v.rec ≡ r
-  files : v.files ≡ w.files
+  keeps : KeepsFirst w v
+
+-- a step of the container may count one more frame, without a document
+joined_keeps : (w : World) (t : Took) → KeepsFirst w (joined w t)
+joined_keeps w t d at = nth_old w.counted (uncounted t.answer.frame) 1 (Some d) at
 
 after_ok : (w a v : World) (r : Record) → ◌≡◌ {A = Result World Stop} (Ok a) (Ok v) → IsAfter w a r → IsAfter w v r
 after_ok w a v r e h = subst (λ y. IsAfter w y r) (ok_is a v e) h
 
 took_after : (w : World) (told : Result Took ContainerFault) → IsAfter w (took w told) (rec_after w.rec told)
-took_after w (Err fault) = record { rec = refl; files = refl }
-took_after w (Ok t) = record { rec = refl; files = refl }
+took_after w (Err fault) = record { rec = refl; keeps = λ d at. at }
+took_after w (Ok t) = record { rec = refl; keeps = joined_keeps w t }
 
 commanded_after : (w : World) (c : Command) (told : Result Took ContainerFault) → IsAfter w (commanded w c told) (rec_after w.rec told)
-commanded_after w c (Err fault) = record { rec = refl; files = refl }
-commanded_after w c (Ok t) = record { rec = refl; files = refl }
+commanded_after w c (Err fault) = record { rec = refl; keeps = λ d at. at }
+commanded_after w c (Ok t) = record { rec = refl; keeps = joined_keeps w t }
 
 -- servers leave both
 module _ (w : World) (s inc act n : ℕ) (op : Operation) where
   served_after : (i : Instance) (stock : List Kind) (told : Result Served ServerFault) → IsAfter w (served w s inc act n i stock told) w.rec
-  served_after i stock (Err fault) = record { rec = refl; files = refl }
-  served_after i stock (Ok a) = record { rec = refl; files = refl }
+  served_after i stock (Err fault) = record { rec = refl; keeps = λ d at. at }
+  served_after i stock (Ok a) = record { rec = refl; keeps = λ d at. at }
 
   stocked_after : (i : Instance) (class : List ℕ) (kind : Option Kind) (v : World) → stocked w s inc act n op i class kind ≡ Ok v → IsAfter w v w.rec
   stocked_after i class None v e = cc
@@ -93,16 +100,16 @@ module _ (w : World) (s inc act n : ℕ) (op : Operation) where
 
   called_in_after : (i : Instance) (life : Life) (v : World) → called_in w s inc act n op i life ≡ Ok v → IsAfter w v w.rec
   called_in_after i Running v e = wanting_after i (wanted i.core (in_session s (Call inc act n op))) v e
-  called_in_after i Ended v e = after_ok w _ v w.rec e (record { rec = refl; files = refl })
-  called_in_after i Reaped v e = after_ok w _ v w.rec e (record { rec = refl; files = refl })
+  called_in_after i Ended v e = after_ok w _ v w.rec e (record { rec = refl; keeps = λ d at. at })
+  called_in_after i Reaped v e = after_ok w _ v w.rec e (record { rec = refl; keeps = λ d at. at })
 
   called_after : (i : Option Instance) (v : World) → called w s inc act n op i ≡ Ok v → IsAfter w v w.rec
-  called_after None v e = after_ok w _ v w.rec e (record { rec = refl; files = refl })
+  called_after None v e = after_ok w _ v w.rec e (record { rec = refl; keeps = λ d at. at })
   called_after (Some i) v e = called_in_after i i.life v e
 
 module _ (w : World) (inc : ℕ) where
   crashed_after : (i : Instance) (life : Life) (v : World) → crashed w inc i life ≡ Ok v → IsAfter w v w.rec
-  crashed_after i Running v e = after_ok w _ v w.rec e (record { rec = refl; files = refl })
+  crashed_after i Running v e = after_ok w _ v w.rec e (record { rec = refl; keeps = λ d at. at })
   crashed_after i Ended v e = cc
   crashed_after i Reaped v e = cc
 
@@ -111,8 +118,8 @@ module _ (w : World) (inc : ℕ) where
   crash_after (Some i) v e = crashed_after i i.life v e
 
   spoken_by_after : (act : ℕ) (i : Instance) (told : Result Told ServerFault) → IsAfter w (spoken_by w inc act i told) w.rec
-  spoken_by_after act i (Err fault) = record { rec = refl; files = refl }
-  spoken_by_after act i (Ok t) = record { rec = refl; files = refl }
+  spoken_by_after act i (Err fault) = record { rec = refl; keeps = λ d at. at }
+  spoken_by_after act i (Ok t) = record { rec = refl; keeps = λ d at. at }
 
   spoken_after : (act : ℕ) (i : Instance) (life : Life) (told : Result Told ServerFault) (v : World) → spoken w inc act i life told ≡ Ok v → IsAfter w v w.rec
   spoken_after act i Running told v e = after_ok w _ v w.rec e (spoken_by_after act i told)
@@ -133,8 +140,8 @@ module _ (w : World) (inc : ℕ) where
   ended_after i Ended v e = after_ok w _ v (rec_after w.rec (on_reap w.rec inc)) e (at (set_nth w.instances inc (record i { life = Reaped })) (on_reap w.rec inc))
     where
       at : (instances : List Instance) (told : Result Took ContainerFault) → IsAfter w (took (record w { instances = instances }) told) (rec_after w.rec told)
-      at instances (Err fault) = record { rec = refl; files = refl }
-      at instances (Ok t) = record { rec = refl; files = refl }
+      at instances (Err fault) = record { rec = refl; keeps = λ d g. g }
+      at instances (Ok t) = record { rec = refl; keeps = joined_keeps w t }
   ended_after i Reaped v e = cc
 
   reap_after : (i : Option Instance) (v : World) → reap w inc i ≡ Ok v → IsAfter w v (rec_after w.rec (on_reap w.rec inc))
@@ -143,32 +150,33 @@ module _ (w : World) (inc : ℕ) where
 
 -- ---- steps
 
--- where the files stay, by what the container is told
-module _ (w : World) (choice : Choice) (e : Event) (made : made_by w choice e w.files ≡ w.files) (v : World) where
+-- where no commit is counted, by what the container is told
+module _ (w : World) (choice : Choice) (e : Event) (none : CountsNone e) (v : World) where
   same_steps : IsAfter w v w.rec → Steps w v choice e
-  same_steps h = rec_stays h.rec h.files made
+  same_steps h = rec_stays none h.rec h.keeps
 
-  told_steps : (x : Input) (told : Result Took ContainerFault) → IsInputOf x choice e → on_input w.rec x ≡ told → IsAfter w v (rec_after w.rec told) → Steps w v choice e
-  told_steps x (Err fault) is q h = rec_stays h.rec h.files made
-  told_steps x (Ok t) is q h = rec_steps x t is q h.rec
+  told_steps : (x : Input) (told : Result Took ContainerFault) → IsInputOf x choice e → (KeepsFirst w v → CountsBy w v x) → on_input w.rec x ≡ told
+      → IsAfter w v (rec_after w.rec told) → Steps w v choice e
+  told_steps x (Err fault) is counts q h = rec_stays none h.rec h.keeps
+  told_steps x (Ok t) is counts q h = rec_steps x t is q h.rec (counts h.keeps)
 
 -- a message
 module _ (w : World) (choice : Choice) (p : ℕ) where
   message_steps : (m : Message) (v : World) → ◌≡◌ {A = Result World Stop} (Ok (took w (on_message w.rec (link_of m) m))) (Ok v) → Steps w v choice (event.Deliver p)
   message_steps m v e =
       let told = on_message w.rec (link_of m) m in
-      told_steps w choice (event.Deliver p) refl v (Input.Told (link_of m) m) told (link_of m, m, refl) refl (after_ok w _ v _ e (took_after w told))
+      told_steps w choice (event.Deliver p) tt v (Input.Told (link_of m) m) told (link_of m, m, refl) (λ k. k) refl (after_ok w _ v _ e (took_after w told))
 
   said_steps : (m : Message) (x : Said) (v : World) → delivered_said w m x ≡ Ok v → Steps w v choice (event.Deliver p)
-  said_steps m (Call inc act n op) v e = same_steps w choice (event.Deliver p) refl v (called_after w m.session inc act n op (nth w.instances inc) v e)
+  said_steps m (Call inc act n op) v e = same_steps w choice (event.Deliver p) tt v (called_after w m.session inc act n op (nth w.instances inc) v e)
   said_steps m (Reply inc act n answer) v e = message_steps m v e
   said_steps m (Write inc act s n content) v e = message_steps m v e
   said_steps m (Ask inc act g) v e = message_steps m v e
 
   -- what is taken is logged besides
   logged_same : (a : World) (more : List Taken) → Steps w a choice (event.Deliver p) → Steps w (record a { taken = more }) choice (event.Deliver p)
-  logged_same a more (rec_stays r f made) = rec_stays r f made
-  logged_same a more (rec_steps x t is q r) = rec_steps x t is q r
+  logged_same a more (rec_stays none r k) = rec_stays none r k
+  logged_same a more (rec_steps x t is q r c) = rec_steps x t is q r (subst (λ y. CountsBy w a y → CountsBy w (record a { taken = more }) y) (sym is.2) (λ k. k) c)
 
   logged_steps : (more : List Taken) (told : Result World Stop) (v : World) → ((a : World) → told ≡ Ok a → Steps w a choice (event.Deliver p)) → with_taken w more told ≡ Ok v
       → Steps w v choice (event.Deliver p)
@@ -191,88 +199,83 @@ module _ (w : World) (inc : ℕ) (m : Message) where
   forge_is (Some i) v e = forged_is i.life v e
 
   forged_after : (told : Result Took ContainerFault) (taken : List Taken) (hostile : List ℕ) → IsAfter w (record (took w told) { taken = taken; hostile = hostile }) (rec_after w.rec told)
-  forged_after (Err fault) taken hostile = record { rec = refl; files = refl }
-  forged_after (Ok t) taken hostile = record { rec = refl; files = refl }
+  forged_after (Err fault) taken hostile = record { rec = refl; keeps = λ d at. at }
+  forged_after (Ok t) taken hostile = record { rec = refl; keeps = joined_keeps w t }
 
   forge_after : (i : Option Instance) (v : World) → forge w inc m i ≡ Ok v → IsAfter w v (rec_after w.rec (on_message w.rec (link_to w inc) m))
   forge_after i v e = (let told = on_message w.rec (link_to w inc) m in
       subst (λ y. IsAfter w y (rec_after w.rec told)) (sym (forge_is i v e)) (forged_after told (w.taken ++ taken_at w.rec None (link_to w inc) m) (w.hostile ++ inc ∷ [])))
 
--- a step of the container that happens only where it is taken, and a commit
-module _ (w : World) (choice : Choice) (e : Event) (x : Input) (is : IsInputOf x choice e) where
-  only_steps : (told : Result Took ContainerFault) (v : World) → on_input w.rec x ≡ told → only_taken w told ≡ Ok v → Steps w v choice e
-  only_steps (Err fault) v q ok = cc
-  only_steps (Ok t) v q ok = rec_steps x t is q (ap (λ (y : World). y.rec) (sym (ok_is _ v ok)))
+-- a step of the container that happens only where it is taken
+only_steps : (w : World) (choice : Choice) (e : Event) (x : Input) (told : Result Took ContainerFault) (v : World) → IsInputOf x choice e → (KeepsFirst w v → CountsBy w v x)
+    → on_input w.rec x ≡ told → only_taken w told ≡ Ok v → Steps w v choice e
+only_steps w choice e x (Err fault) v is counts q ok = cc
+only_steps w choice e x (Ok t) v is counts q ok =
+    (let same = ok_is _ v ok in rec_steps x t is q (ap (λ (y : World). y.rec) (sym same)) (counts (subst (KeepsFirst w) same (joined_keeps w t))))
 
-  module _ (f : ℕ) (bytes : List ℕ) where
-    kept_steps : (frame : Frame) (saved : FrameDocument) (told : Result Took ContainerFault) (v : World) → on_input w.rec x ≡ told → done_taken w f bytes frame saved told ≡ Ok v → Steps w v choice e
-    kept_steps frame saved (Err fault) v q ok = cc
-    kept_steps frame saved (Ok t) v q ok = rec_steps x t is q (ap (λ (y : World). y.rec) (sym (ok_is _ v ok)))
+-- a commit that is counted
+module _ (w : World) (f : ℕ) (bytes : List ℕ) (told : Result Took ContainerFault) (commits : (frame : Frame) → nth w.rec.frames f ≡ Some frame → IsCommitOf w.rec f frame told) where
+  abbrev Made : World → Type 0
+  Made v = (t : Took) × (told ≡ Ok t) × (v.rec ≡ t.rec) × Counts w v f
 
-    imaged_steps : (frame : Frame) (counted : Result Took ContainerFault) (told : Result FrameDocument ContainerFault) (v : World) → on_input w.rec x ≡ counted
-        → done_imaged w f bytes frame counted told ≡ Ok v → Steps w v choice e
-    imaged_steps frame counted (Err fault) v q ok = cc
-    imaged_steps frame counted (Ok saved) v q ok = kept_steps frame saved counted v q ok
+  made_taken : (frame : Frame) (saved : FrameDocument) (r : Result Took ContainerFault) (v : World) → nth w.rec.frames f ≡ Some frame → image_at w.rec f (Some frame) ≡ Ok saved → told ≡ r
+      → done_taken w f bytes frame saved r ≡ Ok v → Made v
+  made_taken frame saved (Err fault) v at im is ok = cc
+  made_taken frame saved (Ok t) v at im is ok = (let c = commits frame at t is in subst Made (ok_is _ v ok) (t, is, refl, record {
+    frame = frame;
+    at = at;
+    busy = not_idle frame.phase c.0;
+    rec = sym (ap (λ (y : Took). y.rec) c.1);
+    saved = saved;
+    imaged = im;
+    document = record { k = frame.k; session = saved.session; parts = saved.parts };
+    bears = refl;
+    more = uncounted t.answer.frame;
+    counted = refl;
+  }))
 
-    done_steps : (counted : Result Took ContainerFault) (frame : Option Frame) (v : World) → on_input w.rec x ≡ counted → done_in w f bytes counted frame ≡ Ok v → Steps w v choice e
-    done_steps counted None v q ok = cc
-    done_steps counted (Some frame) v q ok = imaged_steps frame counted (image w.rec f) v q ok
+  made_imaged : (frame : Frame) (saved : Result FrameDocument ContainerFault) (v : World) → nth w.rec.frames f ≡ Some frame → image_at w.rec f (Some frame) ≡ saved
+      → done_imaged w f bytes frame told saved ≡ Ok v → Made v
+  made_imaged frame (Err fault) v at im ok = cc
+  made_imaged frame (Ok saved) v at im ok = made_taken frame saved told v at im refl ok
+
+  made_in : (found : Option Frame) (v : World) → nth w.rec.frames f ≡ found → done_in w f bytes told found ≡ Ok v → Made v
+  made_in None v at ok = cc
+  made_in (Some frame) v at ok = made_imaged frame (image w.rec f) v at (ap (image_at w.rec f) (sym at)) ok
+
+pub done_made : (w : World) (f : ℕ) (bytes : List ℕ) (v : World) → done_in w f bytes (commit_done w.rec f) (nth w.rec.frames f) ≡ Ok v → Made w f bytes (commit_done w.rec f) (done_commits w.rec f) v
+done_made w f bytes v ok = made_in w f bytes (commit_done w.rec f) (done_commits w.rec f) (nth w.rec.frames f) v refl ok
+
+pub kept_made : (w : World) (f : ℕ) (bytes : List ℕ) (v : World) → done_in w f bytes (resolve w.rec f true) (nth w.rec.frames f) ≡ Ok v → Made w f bytes (resolve w.rec f true) (kept_commits w.rec f) v
+kept_made w f bytes v ok = made_in w f bytes (resolve w.rec f true) (kept_commits w.rec f) (nth w.rec.frames f) v refl ok
 
 -- of the record each event makes what the container does, if it is an input of it
-happened_steps : (w : World) (choice : Choice) (e : Event) (v : World) → happened w choice e ≡ Ok v → Steps w v choice e
-happened_steps w choice (event.Command c) v ok =
-    told_steps w choice (event.Command c) refl v (Input.Ordered c) (on_command w.rec c) refl refl (after_ok w _ v _ ok (commanded_after w c (on_command w.rec c)))
-happened_steps w choice (event.Deliver p) v ok = deliver_steps w choice p (nth w.sent p) v ok
-happened_steps w choice (event.Forge inc m) v ok =
-    told_steps w choice (event.Forge inc m) refl v (Input.Told (link_to w inc) m) (on_message w.rec (link_to w inc) m) (link_to w inc, refl) refl (forge_after w inc m (nth w.instances inc) v ok)
-happened_steps w choice (event.Crash s inc) v ok = same_steps w choice (event.Crash s inc) refl v (crash_after w inc (nth w.instances inc) v (in_run_ok w s (crash w inc (nth w.instances inc)) v ok))
-happened_steps w choice (event.Reap inc) v ok = told_steps w choice (event.Reap inc) refl v (Input.Reaped inc) (on_reap w.rec inc) refl refl (reap_after w inc (nth w.instances inc) v ok)
-happened_steps w choice (event.Done f) v ok = done_steps w choice (event.Done f) (Input.Committed f) refl f choice.file (commit_done w.rec f) (nth w.rec.frames f) v refl ok
-happened_steps w choice (event.Fail f) v ok = only_steps w choice (event.Fail f) (Input.Failed f) refl (commit_failed w.rec f) v refl ok
-happened_steps w choice (event.Resolve f true) v ok = done_steps w choice (event.Resolve f true) (Input.Resolved f true) refl f choice.file (resolve w.rec f true) (nth w.rec.frames f) v refl ok
-happened_steps w choice (event.Resolve f false) v ok = only_steps w choice (event.Resolve f false) (Input.Resolved f false) refl (resolve w.rec f false) v refl ok
-happened_steps w choice (event.Open name x y) v ok =
-    let told = opened w.rec name x y choice.given in
-    told_steps w choice (event.Open name x y) refl v (Input.Opened name x y choice.given) told refl refl (after_ok w _ v _ ok (took_after w told))
-happened_steps w choice (event.Scribble s inc act) v ok =
-    same_steps w choice (event.Scribble s inc act) refl v (scribble_after w inc act (nth w.instances inc) v (in_run_ok w s (scribble w inc act (nth w.instances inc)) v ok))
-happened_steps w choice (event.Ask s inc act) v ok =
-    same_steps w choice (event.Ask s inc act) refl v (ask_after w inc act (nth w.instances inc) v (in_run_ok w s (ask w inc act (nth w.instances inc)) v ok))
-
-pub steps : (w : World) (choice : Choice) (e : Event) (v : World) → session_of w e ≡ w.rec.session → happened w choice e ≡ Ok v → Steps w v choice e
-steps w choice e v here ok = happened_steps w choice e v ok
-
--- ---- a commit that is counted has an image
-
-module _ (w : World) (f : ℕ) (bytes : List ℕ) where
-  has_image : (frame : Frame) (counted : Result Took ContainerFault) (told : Result FrameDocument ContainerFault) (v : World) → image w.rec f ≡ told → done_imaged w f bytes frame counted told ≡ Ok v
-      → HasImage w f
-  has_image frame counted (Err fault) v q e = cc
-  has_image frame counted (Ok saved) v q e = (saved, q)
-
-  done_image : (counted : Result Took ContainerFault) (frame : Option Frame) (v : World) → done_in w f bytes counted frame ≡ Ok v → HasImage w f
-  done_image counted None v e = cc
-  done_image counted (Some frame) v e = has_image frame counted (image w.rec f) v refl e
-
-pub commit_imaged : (w : World) (choice : Choice) (e : Event) (v : World) → happened w choice e ≡ Ok v → CommitHasImage w e
-commit_imaged w choice (event.Command c) v ok = tt
-commit_imaged w choice (event.Deliver p) v ok = tt
-commit_imaged w choice (event.Forge inc m) v ok = tt
-commit_imaged w choice (event.Crash s inc) v ok = tt
-commit_imaged w choice (event.Reap inc) v ok = tt
-commit_imaged w choice (event.Done f) v ok = done_image w f choice.file (commit_done w.rec f) (nth w.rec.frames f) v ok
-commit_imaged w choice (event.Fail f) v ok = tt
-commit_imaged w choice (event.Resolve f true) v ok = done_image w f choice.file (resolve w.rec f true) (nth w.rec.frames f) v ok
-commit_imaged w choice (event.Resolve f false) v ok = tt
-commit_imaged w choice (event.Open name x y) v ok = tt
-commit_imaged w choice (event.Scribble s inc act) v ok = tt
-commit_imaged w choice (event.Ask s inc act) v ok = tt
+pub steps : (w : World) (choice : Choice) (e : Event) (v : World) → happened w choice e ≡ Ok v → Steps w v choice e
+steps w choice (event.Command c) v ok =
+    told_steps w choice (event.Command c) tt v (Input.Ordered c) (on_command w.rec c) refl (λ k. k) refl (after_ok w _ v _ ok (commanded_after w c (on_command w.rec c)))
+steps w choice (event.Deliver p) v ok = deliver_steps w choice p (nth w.sent p) v ok
+steps w choice (event.Forge inc m) v ok = (let told = on_message w.rec (link_to w inc) m in
+    told_steps w choice (event.Forge inc m) tt v (Input.Told (link_to w inc) m) told (link_to w inc, refl) (λ k. k) refl (forge_after w inc m (nth w.instances inc) v ok))
+steps w choice (event.Crash s inc) v ok =
+    same_steps w choice (event.Crash s inc) tt v (crash_after w inc (nth w.instances inc) v (in_run_ok w s (crash w inc (nth w.instances inc)) v ok))
+steps w choice (event.Reap inc) v ok =
+    told_steps w choice (event.Reap inc) tt v (Input.Reaped inc) (on_reap w.rec inc) refl (λ k. k) refl (reap_after w inc (nth w.instances inc) v ok)
+steps w choice (event.Done f) v ok = (let k = done_made w f choice.file v ok in rec_steps (Input.Committed f) k.0 refl k.1 k.2 k.3)
+steps w choice (event.Fail f) v ok = only_steps w choice (event.Fail f) (Input.Failed f) (commit_failed w.rec f) v refl (λ k. k) refl ok
+steps w choice (event.Resolve f true) v ok = (let k = kept_made w f choice.file v ok in rec_steps (Input.Resolved f true) k.0 refl k.1 k.2 k.3)
+steps w choice (event.Resolve f false) v ok = only_steps w choice (event.Resolve f false) (Input.Resolved f false) (resolve w.rec f false) v refl (λ k. k) refl ok
+steps w choice (event.Open name x y) v ok = (let told = opened w.rec name x y choice.given in
+    told_steps w choice (event.Open name x y) tt v (Input.Opened name x y choice.given) told refl (λ k. k) refl (after_ok w _ v _ ok (took_after w told)))
+steps w choice (event.Scribble s inc act) v ok =
+    same_steps w choice (event.Scribble s inc act) tt v (scribble_after w inc act (nth w.instances inc) v (in_run_ok w s (scribble w inc act (nth w.instances inc)) v ok))
+steps w choice (event.Ask s inc act) v ok =
+    same_steps w choice (event.Ask s inc act) tt v (ask_after w inc act (nth w.instances inc) v (in_run_ok w s (ask w inc act (nth w.instances inc)) v ok))
 
 -- ---- the greatest number stays
 
 numbers_by : (w : World) (choice : Choice) (e : Event) (v : World) → Steady w.rec → IsNumbered w.rec.numbers w.rec → Steps w v choice e → v.rec.numbers ≡ w.rec.numbers
-numbers_by w choice e v s n (rec_stays r f made) = ap (λ (y : Record). y.numbers) r
-numbers_by w choice e v s n (rec_steps x t is q r) = ap (λ (y : Record). y.numbers) r ∙ (numbers_after w.rec.numbers w.rec x t s n q).limit
+numbers_by w choice e v s n (rec_stays none r keeps) = ap (λ (y : Record). y.numbers) r
+numbers_by w choice e v s n (rec_steps x t is q r counts) = ap (λ (y : Record). y.numbers) r ∙ (numbers_after w.rec.numbers w.rec x t s n q).limit
 
 -- ---- what was granted in the run by itself was granted among the others
 
@@ -367,7 +370,7 @@ module _ (w : World) (mine : List File) (choice : Choice) (h : Holds (mirror w m
 
   -- what has sent xs and then more, and what has sent all that was sent before, and then the same
   over_all : (more : List Sent) (y : Sent) → Among (xs ++ more) y → Among (w.sent ++ more) y
-  over_all more y a = elim (among_join xs more y a) [ inl old ↦ among_old w.sent more y (among_sent w.rec.session w.sent y old).0 | inr new ↦ among_new w.sent more y new ]
+  over_all more y a = elim (among_join xs more y a) [ inl old ↦ among_old w.sent more y (sent_among w.rec.session w.sent y old) | inr new ↦ among_new w.sent more y new ]
 
   module _ (p : ℕ) (x : Sent) (at : nth w.sent p ≡ Some x) where
     abbrev taken_here : Option ℕ → List Taken
@@ -424,7 +427,7 @@ module _ (w : World) (mine : List File) (choice : Choice) (h : Holds (mirror w m
     here_goes : (v : World) → x.message.session ≡ w.rec.session → with_taken w (taken_here (Some p)) (delivered w x.message) ≡ Ok v → v.rec.numbers ≡ w.rec.numbers
         → Goes w v mine choice (event.Deliver p)
     here_goes v is ok n =
-        let there = local_place w.rec.session w.sent p x at is in
+        let there = place_in w.rec.session w.sent p x at is in
         let own : IsOf w.rec.session x.message.session = h.in_session.sent x.message (sent_place xs there.0 x there.1) in
         let k = logged_is w (taken_here (Some p)) (delivered w x.message) v ok in
         let b = twins_delivered w mine xs x.message x.message.said k.0 h.in_session.holds own k.1 in
@@ -529,4 +532,4 @@ module _ (w : World) (mine : List File) (choice : Choice) (h : Holds (mirror w m
 -- An event of the present run goes on as in the run by itself.
 pub goes : (w : World) (mine : List File) (choice : Choice) (e : Event) (v : World) → Holds (mirror w mine) → MakesImage w choice e → session_of w e ≡ w.rec.session → happened w choice e ≡ Ok v
     → Goes w v mine choice e
-goes w mine choice e v h im is ok = all_go w mine choice h e v im is ok (numbers_by w choice e v h.agrees.steady h.numbers.recorded (happened_steps w choice e v ok))
+goes w mine choice e v h im is ok = all_go w mine choice h e v im is ok (numbers_by w choice e v h.agrees.steady h.numbers.recorded (steps w choice e v ok))

@@ -14,8 +14,8 @@ use Rattle.world_safety.specs.Holding.{Holds}
 use Rattle.world_safety.proofs.Held.{held_happened}
 use Rattle.story_model.specs.Story.{Epoch, as_of, goes_on, session_of}
 use Rattle.story_safety.specs.Holding.{mirror_of, sent_in}
-use Rattle.story_safety.specs.Steps.{GoesOn, twin}
-use Rattle.story_safety.proofs.Elsewhere.{bare, new_sent}
+use Rattle.story_safety.specs.Steps.{HasGoneOn, twin}
+use Rattle.story_safety.proofs.Elsewhere.{new_sent, reset}
 use Rattle.story_safety.proofs.Following.{Follows, alone, follows_ask, follows_crash, follows_delivered, follows_here, follows_scribble, own_at}
 
 -- the event of the run by itself
@@ -63,11 +63,11 @@ module _ (w : World) (e : Epoch) (rec : Record) (files : List File) (v : World) 
     follows = follows_here (as_of w e) rec files own (ask u inc act (nth e.instances inc)) v (follows_ask (as_of w e) rec files own inc act (nth e.instances inc) v ok);
   }
 
-  goes : rec.session ≡ e.session → Holds (mirror_of w e rec files) → Followed → GoesOn w e v rec files
+  goes : rec.session ≡ e.session → Holds (mirror_of w e rec files) → Followed → HasGoneOn w e v rec files
   goes same h k =
       let f = k.follows in
       let next : Holds f.next = held_happened (mirror_of w e rec files) no_choice k.event f.next h k.image f.is in
-      let held : Holds (twin (record v { rec = rec }) files (own ++ f.more)) = subst Holds f.alike (bare f.next f.next.stock next) in
+      let held : Holds (twin (record v { rec = rec }) files (own ++ f.more)) = subst Holds f.alike (reset f.next next) in
       record {
         more = f.more;
         sent = f.grown;
@@ -81,5 +81,5 @@ module _ (w : World) (e : Epoch) (rec : Record) (files : List File) (v : World) 
       }
 
 pub goes_on_held : (w : World) (e : Epoch) (x : Event) (rec : Record) (files : List File) (v : World) → rec.session ≡ e.session
-    → Holds (mirror_of w e rec files) → session_of w x ≡ e.session → e.session ≢ w.rec.session → goes_on (as_of w e) x ≡ Ok v → GoesOn w e v rec files
+    → Holds (mirror_of w e rec files) → session_of w x ≡ e.session → e.session ≢ w.rec.session → goes_on (as_of w e) x ≡ Ok v → HasGoneOn w e v rec files
 goes_on_held w e x rec files v same h is apart ok = goes w e rec files v same h (followed w e rec files v x is ok)

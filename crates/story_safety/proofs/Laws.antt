@@ -18,7 +18,7 @@ use Rattle.world_model.specs.declared.logs.Sent.{Sent}
 use Rattle.world_model.specs.Safe.{messages}
 use Rattle.world_model.specs.World.{Instance, World, deliver, delivered_said, forge, forged, forged_on, link_of, link_to, taken_at, taken_by, taken_said, took, with_taken}
 use Rattle.story_model.specs.declared.moment.Moment.TheVariants as moment
-use Rattle.story_model.specs.SafeStory.{IsSameRun}
+use Rattle.story_model.specs.SafeStory.{IsSameButHostile, IsSameRun}
 use Rattle.story_model.specs.Story.{Chosen, Epoch, Story, as_of, earlier, epoch_of, follow, goes_on, is_session, left_by, passed, present, session_at, session_of_call}
 
 -- ---- what isn't of the container's session is refused
@@ -98,28 +98,43 @@ pub earlier_stays : (s : Story) (p : ℕ) (m : Message) (choice : Chosen) (next 
 earlier_stays s p m choice next at apart e = (let x = sent_at s.now.sent p m at in delivered_stays s choice p x.0 next x.1 (λ q. apart (ap (λ (y : Message). y.session) (sym x.2) ∙ q)) e)
 
 -- ---- a forged message
-abbrev Stays : World → World → Type 0
-Stays w v = (v.rec ≡ w.rec) × (v.instances ≡ w.instances)
+-- a refused message brings nothing, whatever it says
+none_said : (r : Record) (p : Option ℕ) (link : ServerLink) (m : Message) (x : Said) (fault : ContainerFault) → on_message r link m ≡ Err fault → taken_said r p link m x ≡ []
+none_said r p link m (Call inc act n op) fault e = refl
+none_said r p link m (Reply inc act n answer) fault e = none_taken r p inc act (on_message r link m) fault e
+none_said r p link m (Write inc act g number content) fault e = none_taken r p inc act (on_message r link m) fault e
+none_said r p link m (Ask inc act g) fault e = none_taken r p inc act (on_message r link m) fault e
 
-forged_world : (w : World) (inc : ℕ) (m : Message) → m.session ≢ w.rec.session → Stays w (forged_on w inc m)
-forged_world w inc m apart = (let f = refused_off w.rec (link_to w inc) m apart in
-    subst (λ told. Stays w (record (took w told) { taken = w.taken ++ taken_at w.rec None (link_to w inc) m; hostile = w.hostile ++ inc ∷ [] })) (sym f.1) (refl, refl))
+forged_world : (w : World) (inc : ℕ) (m : Message) → m.session ≢ w.rec.session → IsSameButHostile w inc (forged_on w inc m)
+forged_world w inc m apart =
+    let f = refused_off w.rec (link_to w inc) m apart in
+    let none : taken_at w.rec None (link_to w inc) m ≡ [] = none_said w.rec None (link_to w inc) m m.said f.0 f.1 in
+    let hostile = w.hostile ++ inc ∷ [] in
+    subst (λ told. IsSameButHostile w inc (record (took w told) { taken = w.taken ++ taken_at w.rec None (link_to w inc) m; hostile = hostile })) (sym f.1)
+    (record { rec = refl; epoch = ap (λ ts. record (epoch_of w) { taken = ts; hostile = hostile }) (ap (λ ts. w.taken ++ ts) none ∙ append-nil w.taken) })
 
-forged_life : (s : Story) (inc : ℕ) (m : Message) (life : Life) (next : Story) → m.session ≢ s.now.rec.session → follow s (event.Forge inc m) (forged s.now inc m life) ≡ Ok next → Stays s.now next.now
-forged_life s inc m Running next apart e = (let same : record s { now = forged_on s.now inc m } ≡ next = cc in subst (λ (x : Story). Stays s.now x.now) same (forged_world s.now inc m apart))
-forged_life s inc m Ended next apart e = (let same : record s { now = forged_on s.now inc m } ≡ next = cc in subst (λ (x : Story). Stays s.now x.now) same (forged_world s.now inc m apart))
+forged_life : (s : Story) (inc : ℕ) (m : Message) (life : Life) (next : Story) → m.session ≢ s.now.rec.session → follow s (event.Forge inc m) (forged s.now inc m life) ≡ Ok next
+    → IsSameButHostile s.now inc next.now
+forged_life s inc m Running next apart e = (let same : record s { now = forged_on s.now inc m } ≡ next = cc in
+    subst (λ (x : Story). IsSameButHostile s.now inc x.now) same (forged_world s.now inc m apart))
+forged_life s inc m Ended next apart e = (let same : record s { now = forged_on s.now inc m } ≡ next = cc in
+    subst (λ (x : Story). IsSameButHostile s.now inc x.now) same (forged_world s.now inc m apart))
 forged_life s inc m Reaped next apart e = cc
 
-forged_at : (s : Story) (inc : ℕ) (m : Message) (i : Option Instance) (next : Story) → m.session ≢ s.now.rec.session → follow s (event.Forge inc m) (forge s.now inc m i) ≡ Ok next → Stays s.now next.now
+forged_at : (s : Story) (inc : ℕ) (m : Message) (i : Option Instance) (next : Story) → m.session ≢ s.now.rec.session → follow s (event.Forge inc m) (forge s.now inc m i) ≡ Ok next
+    → IsSameButHostile s.now inc next.now
 forged_at s inc m None next apart e = cc
 forged_at s inc m (Some i) next apart e = forged_life s inc m i.life next apart e
 
-no_earlier : (s : Story) (inc : ℕ) (m : Message) (e : Option Epoch) (next : Story) → earlier s (event.Forge inc m) e ≡ Ok next → Stays s.now next.now
+no_earlier : (s : Story) (inc : ℕ) (m : Message) (e : Option Epoch) (next : Story) → earlier s (event.Forge inc m) e ≡ Ok next → IsSameButHostile s.now inc next.now
 no_earlier s inc m None next is = cc
 no_earlier s inc m (Some e) next is = cc
 
-pub forged_stays : (s : Story) (inc : ℕ) (m : Message) (choice : Chosen) (next : Story) → m.session ≢ s.now.rec.session → passed s choice (moment.Event (event.Forge inc m)) ≡ Ok next → (next.now.rec ≡ s.now.rec) × (next.now.instances ≡ s.now.instances)
-forged_stays s inc m choice next apart e = elim (s.now.rec.session == s.now.rec.session) as (λ b. (if b then follow s (event.Forge inc m) (forge s.now inc m (nth s.now.instances inc)) else earlier s (event.Forge inc m) (find (is_session s.now.rec.session) s.past)) ≡ Ok next → Stays s.now next.now) [
+pub forged_stays : (s : Story) (inc : ℕ) (m : Message) (choice : Chosen) (next : Story) → m.session ≢ s.now.rec.session
+    → passed s choice (moment.Event (event.Forge inc m)) ≡ Ok next → IsSameButHostile s.now inc next.now
+forged_stays s inc m choice next apart e = elim (s.now.rec.session == s.now.rec.session) as (λ b.
+    (if b then follow s (event.Forge inc m) (forge s.now inc m (nth s.now.instances inc)) else earlier s (event.Forge inc m) (find (is_session s.now.rec.session) s.past)) ≡ Ok next
+    → IsSameButHostile s.now inc next.now) [
   | true ↦ (λ g. forged_at s inc m (nth s.now.instances inc) next apart g)
   | false ↦ (λ g. no_earlier s inc m (find (is_session s.now.rec.session) s.past) next g)
 ] e

@@ -27,41 +27,51 @@ use Rattle.story_model.specs.declared.moment.Moment.{Moment}
 use Rattle.story_model.specs.declared.moment.Moment.TheVariants as moment
 use Rattle.story_model.specs.SafeStory.{AreOf, AreRising, IsGrantedIn, is_kept}
 use Rattle.story_model.specs.Story.{AreImages, Chosen, Epoch, Story, Tells, as_of, begun, committed_by, document_by, earlier, empty_story, epoch_of, epochs, follow, followed, goes_on, is_among, is_session, kept_by, left_by, made_name, may_begin, may_stop, pass, passed, past_by, present, rested, session_of, stopped, within, without}
-use Rattle.story_safety.specs.Holding.{DocumentStands, HasDocument, HoldsPast, IsCounted, IsFrom, IsSaved, IsThere, Sound, mirror, mirror_of, sent_in}
-use Rattle.story_safety.specs.Steps.{Goes, GoesOn, HasImage, Steps, made_by, put_made, rec_stays, rec_steps, twin}
-use Rattle.story_safety.proofs.Documents.{commit_steps, document_follows, none_made_follows, unraised_follows}
-use Rattle.story_safety.proofs.Elsewhere.{archived, begun_held, elsewhere_now, elsewhere_past, granted_grows, sent_grows}
-use Rattle.story_safety.proofs.Going.{commit_imaged, goes, steps}
+use Rattle.story_safety.specs.Holding.{CountsSession, DocumentStands, HasDocument, HoldsPast, IsFrom, IsOfRuns, IsSaved, IsThere, Sound, mirror, mirror_of, sent_in}
+use Rattle.story_safety.specs.Steps.{Counts, Goes, HasGoneOn, Steps, made_by, put_committed, rec_stays, rec_steps, twin}
+use Rattle.story_safety.proofs.Documents.{document_follows, done_counts, kept_counts, none_made_follows, unraised_follows}
+use Rattle.story_safety.proofs.Elsewhere.{begun_held, elsewhere_now, elsewhere_past, granted_grows, over, sent_grows}
+use Rattle.story_safety.proofs.Going.{goes, steps}
 use Rattle.story_safety.proofs.GoingOn.{goes_on_held}
 use Rattle.story_safety.proofs.Lists.{found_session, none_sent, placed_among, put_keeps, put_members, put_rises, put_there, rising_more}
 use Rattle.story_safety.proofs.Members.{in_all, in_append, in_none}
 use Rattle.story_safety.proofs.SafeRuns.{rising_above}
-use Rattle.story_safety.proofs.StoryFiles.{ComeFrom, MineThere, files_made, image_frame, past_more, past_present, stop_files}
+use Rattle.story_safety.proofs.StoryFiles.{ComeFrom, MineThere, files_made, past_more, past_present, stop_files}
 use Rattle.story_safety.proofs.Stopping.{stop_document}
 use Rattle.container_frames.proofs.Steps.{steps_move_frames}
 
 -- ---- what holds of any story that is sound
 module _ (s : Story) (h : Sound s) where
-  which : (e : Epoch) → Among (epochs s) e → Among s.past e ⊎ (e ≡ epoch_of s.now)
+  -- each run is an earlier one, or the present one
+  pub which : (e : Epoch) → Among (epochs s) e → Among s.past e ⊎ (e ≡ epoch_of s.now)
   which e g = elim (among_join s.past (epoch_of s.now ∷ []) e g) [ inl k ↦ inl k | inr k ↦ last k ]
     where
       last : Among (epoch_of s.now ∷ []) e → Among s.past e ⊎ (e ≡ epoch_of s.now)
       last (inl q) = inr q
       last (inr z) = absurd z
 
-  old : (e : Epoch) → Among s.past e → Among (epochs s) e
+  pub old : (e : Epoch) → Among s.past e → Among (epochs s) e
   old e g = among_old s.past (epoch_of s.now ∷ []) e g
 
-  here : Among (epochs s) (epoch_of s.now)
+  pub here : Among (epochs s) (epoch_of s.now)
   here = among_new s.past (epoch_of s.now ∷ []) (epoch_of s.now) (inl refl)
 
-  other : (e : Epoch) → Among s.past e → e.session ≢ s.now.rec.session
+  -- earlier sessions are others
+  pub other : (e : Epoch) → Among s.past e → e.session ≢ s.now.rec.session
   other e g same =
       let from : 0 < e.session = rising_above 0 s.past e h.rising g in
       elim (eqb_tells s.now.rec.session 0) [
         | inl t ↦ (let zero : s.now.rec.session ≡ 0 = t.1 in absurd (omega arith))
         | inr t ↦ (let lt : e.session < s.now.rec.session = h.above e g t.1 in absurd (omega arith))
       ]
+
+  -- where the present one has raised its session, a commit that was counted bears it
+  pub bears_now : s.now.rec.session ≢ 0 → CountsSession s.now.counted s.now.rec.session
+  bears_now there = at s.document h.document
+    where
+      at : (d : Option (List ℕ)) → DocumentStands s d → CountsSession s.now.counted s.now.rec.session
+      at None k = absurd (there k.1)
+      at (Some name) k = (k.raised there).1
 
   -- nothing was sent in session 0
   unsent : (m : Message) → WasSent s.now m → m.session ≢ 0
@@ -99,8 +109,8 @@ module _ (s : Story) (h : Sound s) (v : World) where
       counted_session f frame frame.raised at (h.now.in_session.holds.raising f frame at) (ap (λ (r : Record). r.session) is ∙ ap (λ (u : Took). u.rec.session) (sym made))
 
   session_follows : (choice : Choice) (e : Event) → Steps s.now v choice e → Session s v
-  session_follows choice e (rec_stays is files made) = session_stays (ap (λ (r : Record). r.session) is)
-  session_follows choice e (rec_steps x t input ok is) = moved_session x t is (steps_move_frames s.now.rec x t ok)
+  session_follows choice e (rec_stays none is keeps) = session_stays (ap (λ (r : Record). r.session) is)
+  session_follows choice e (rec_steps x t input ok is counts) = moved_session x t is (steps_move_frames s.now.rec x t ok)
 
 -- ---- an event of the present run
 module _ (s : Story) (h : Sound s) (choice : Choice) (e : Event) (v : World) (k : Goes s.now v h.mine choice e) (moves : Session s v) where
@@ -221,13 +231,13 @@ module _ (s : Story) (h : Sound s) (choice : Choice) (e : Event) (v : World) (k 
       stands
 
   -- and one that makes the file of a frame
-  pub made_sound : (f : ℕ) (frame : Frame) (document : Option (List ℕ)) → nth s.now.rec.frames f ≡ Some frame → ((fs : List File) → made_by s.now choice e fs ≡ put_made choice.file (nth s.now.rec.frames f) fs)
+  pub made_sound : (f : ℕ) (frame : Frame) (document : Option (List ℕ)) → nth s.now.rec.frames f ≡ Some frame → ((fs : List File) → made_by s.now choice e fs ≡ put_committed choice.file (nth s.now.rec.frames f) fs)
       → DocumentStands (record { now = v; past = s.past; document = document; kept = kept_by (nth s.now.rec.frames f) s.kept }) document
       → Sound (record { now = v; past = s.past; document = document; kept = kept_by (nth s.now.rec.frames f) s.kept })
   made_sound f frame document at shape stands =
       let name = made_name frame in
       let bytes = choice.file in
-      let made : (fs : List File) → made_by s.now choice e fs ≡ put_file (made_name frame) choice.file fs = (λ fs. shape fs ∙ ap (λ x. put_made choice.file x fs) at) in
+      let made : (fs : List File) → made_by s.now choice e fs ≡ put_file (made_name frame) choice.file fs = (λ fs. shape fs ∙ ap (λ x. put_committed choice.file x fs) at) in
       let without_it : kept_by (nth s.now.rec.frames f) s.kept ≡ without (made_name frame) s.kept = ap (λ x. kept_by x s.kept) at in
       let facts = files_made h.mine s.now.files s.kept s.past h.archive name bytes h.mine_there h.files in
       let there : MineThere (made_by s.now choice e h.mine) v.files (kept_by (nth s.now.rec.frames f) s.kept) =
@@ -253,42 +263,47 @@ module _ (s : Story) (h : Sound s) (choice : Choice) (v : World) where
   went e k = goes s.now h.mine choice e v h.now (images_make s.now choice e k.image) k.here k.ok
 
   stepped : (e : Event) → Known e → Steps s.now v choice e
-  stepped e k = steps s.now choice e v k.here k.ok
+  stepped e k = steps s.now choice e v k.ok
 
   unraised_now : (e : Event) → Known e → AreUnraised v.rec
-  unraised_now e k = unraised_follows s choice e v h.unraised h.now.in_session.holds steps_move_frames (stepped e k)
+  unraised_now e k = unraised_follows s.now v choice e h.unraised h.now.in_session.holds (stepped e k)
 
   none_now : (e : Event) → Known e → v.rec.session ≡ 0 → made_by s.now choice e h.mine ≡ []
-  none_now e k = none_made_follows s choice e v h.mine h.none_made h.unraised h.now.in_session.holds steps_move_frames (stepped e k) (commit_steps s.now choice e v k.ok)
+  none_now e k = none_made_follows s.now v choice e h.mine h.none_made h.unraised h.now.in_session.holds (stepped e k)
 
   stands_now : (e : Event) → Known e → DocumentStands (followed s e v) (followed s e v).document
-  stands_now e k = document_follows s choice e v h.document h.now.files.filed.names_apart h.now.in_session.holds h.unraised steps_move_frames (stepped e k) (commit_steps s.now choice e v k.ok) (went e k).files
-      (commit_imaged s.now choice e v k.ok) (images_make s.now choice e k.image) k.image k.begins
+  stands_now e k =
+      let f = h.now.files.filed in
+      document_follows s choice e v (record { document = h.document; apart = f.names_apart; in_session = h.now.in_session.holds; aligned = f.aligned })
+      (stepped e k) (went e k).files (images_make s.now choice e k.image) k.image k.begins
 
-  quiet : (e : Event) → Known e → made_by s.now choice e h.mine ≡ h.mine → v.files ≡ s.now.files → DocumentStands (record s { now = v }) s.document → Sound (record s { now = v })
-  quiet e k mine files stands = quiet_sound s h choice e v (went e k) (session_follows s h v choice e (stepped e k)) (unraised_now e k) (none_now e k) mine files stands
+  quiet : (e : Event) → Known e → ((fs : List File) → made_by s.now choice e fs ≡ fs) → followed s e v ≡ record s { now = v } → Sound (record s { now = v })
+  quiet e k made same = quiet_sound s h choice e v (went e k) (session_follows s h v choice e (stepped e k)) (unraised_now e k) (none_now e k)
+      (made h.mine) ((went e k).files ∙ made s.now.files) (subst (λ (x : Story). DocumentStands x x.document) same (stands_now e k))
 
-  commits : (e : Event) → Known e → (f : ℕ) → HasImage s.now f → ((fs : List File) → made_by s.now choice e fs ≡ put_made choice.file (nth s.now.rec.frames f) fs)
+  commits : (e : Event) → Known e → (f : ℕ) → Counts s.now v f → ((fs : List File) → made_by s.now choice e fs ≡ put_committed choice.file (nth s.now.rec.frames f) fs)
       → DocumentStands (committed_by s f v) (committed_by s f v).document → Sound (committed_by s f v)
-  commits e k f has shape stands = (let im = image_frame s.now.rec f (nth s.now.rec.frames f) has.0 refl has.1 in
-      made_sound s h choice e v (went e k) (session_follows s h v choice e (stepped e k)) (unraised_now e k) (none_now e k) f im.0 (document_by f (nth s.now.rec.frames f) s.document) im.1 shape stands)
+  commits e k f c shape stands = made_sound s h choice e v (went e k) (session_follows s h v choice e (stepped e k)) (unraised_now e k) (none_now e k)
+      f c.frame (document_by f (nth s.now.rec.frames f) s.document) c.at shape stands
 
   pub event_sound : (e : Event) → Known e → Sound (followed s e v)
-  event_sound (event.Command c) k = quiet (event.Command c) k refl (went (event.Command c) k).files (stands_now (event.Command c) k)
-  event_sound (event.Deliver p) k = quiet (event.Deliver p) k refl (went (event.Deliver p) k).files (stands_now (event.Deliver p) k)
-  event_sound (event.Forge inc m) k = quiet (event.Forge inc m) k refl (went (event.Forge inc m) k).files (stands_now (event.Forge inc m) k)
-  event_sound (event.Crash session inc) k = quiet (event.Crash session inc) k refl (went (event.Crash session inc) k).files (stands_now (event.Crash session inc) k)
-  event_sound (event.Reap inc) k = quiet (event.Reap inc) k refl (went (event.Reap inc) k).files (stands_now (event.Reap inc) k)
-  event_sound (event.Done f) k = commits (event.Done f) k f (commit_imaged s.now choice (event.Done f) v k.ok) (λ fs. refl) (stands_now (event.Done f) k)
-  event_sound (event.Fail f) k = quiet (event.Fail f) k refl (went (event.Fail f) k).files (stands_now (event.Fail f) k)
-  event_sound (event.Resolve f true) k = commits (event.Resolve f true) k f (commit_imaged s.now choice (event.Resolve f true) v k.ok) (λ fs. refl) (stands_now (event.Resolve f true) k)
-  event_sound (event.Resolve f false) k = quiet (event.Resolve f false) k refl (went (event.Resolve f false) k).files (stands_now (event.Resolve f false) k)
-  event_sound (event.Open name width height) k = quiet (event.Open name width height) k refl (went (event.Open name width height) k).files (stands_now (event.Open name width height) k)
-  event_sound (event.Scribble session inc act) k = quiet (event.Scribble session inc act) k refl (went (event.Scribble session inc act) k).files (stands_now (event.Scribble session inc act) k)
-  event_sound (event.Ask session inc act) k = quiet (event.Ask session inc act) k refl (went (event.Ask session inc act) k).files (stands_now (event.Ask session inc act) k)
+  event_sound (event.Command c) k = quiet (event.Command c) k (λ fs. refl) refl
+  event_sound (event.Deliver p) k = quiet (event.Deliver p) k (λ fs. refl) refl
+  event_sound (event.Forge inc m) k = quiet (event.Forge inc m) k (λ fs. refl) refl
+  event_sound (event.Crash session inc) k = quiet (event.Crash session inc) k (λ fs. refl) refl
+  event_sound (event.Reap inc) k = quiet (event.Reap inc) k (λ fs. refl) refl
+  event_sound (event.Done f) k =
+      commits (event.Done f) k f (done_counts s.now v choice f (stepped (event.Done f) k)) (λ fs. refl) (stands_now (event.Done f) k)
+  event_sound (event.Fail f) k = quiet (event.Fail f) k (λ fs. refl) refl
+  event_sound (event.Resolve f true) k =
+      commits (event.Resolve f true) k f (kept_counts s.now v choice f (stepped (event.Resolve f true) k)) (λ fs. refl) (stands_now (event.Resolve f true) k)
+  event_sound (event.Resolve f false) k = quiet (event.Resolve f false) k (λ fs. refl) refl
+  event_sound (event.Open name width height) k = quiet (event.Open name width height) k (λ fs. refl) refl
+  event_sound (event.Scribble session inc act) k = quiet (event.Scribble session inc act) k (λ fs. refl) refl
+  event_sound (event.Ask session inc act) k = quiet (event.Ask session inc act) k (λ fs. refl) refl
 
 -- ---- an event at a server of an earlier run
-module _ (s : Story) (h : Sound s) (e : Epoch) (v : World) (g : Among s.past e) (found : find (is_session e.session) s.past ≡ Some e) (k : GoesOn s.now e v (h.records e.session) (h.archive e.session)) where
+module _ (s : Story) (h : Sound s) (e : Epoch) (v : World) (g : Among s.past e) (found : find (is_session e.session) s.past ≡ Some e) (k : HasGoneOn s.now e v (h.records e.session) (h.archive e.session)) where
   abbrev after : Epoch
   after = record (epoch_of v) { session = e.session }
 
@@ -309,6 +324,7 @@ module _ (s : Story) (h : Sound s) (e : Epoch) (v : World) (g : Among s.past e) 
     session = p.session;
     numbers = p.numbers;
     raised = p.raised;
+    bears = subst (λ ds. CountsSession ds e.session) (sym k.counted) p.bears;
     holds = subst (λ xs. Holds (twin (record v { rec = h.records e.session }) (h.archive e.session) xs)) (sym log) k.holds;
   })
     where
@@ -367,12 +383,12 @@ module _ (s : Story) (h : Sound s) (e : Epoch) (v : World) (g : Among s.past e) 
       of_now (inl q) = subst (λ (y : Epoch). Among y.taken t → IsHonest y.hostile t.inc → IsGrantedIn now y.session t) (sym q) (granted_in (epoch_of s.now) t (here s h)) b honest
       of_now (inr z) = absurd z
 
-  from_past : (name : List ℕ) (file : File) → IsCounted s h.mine h.archive name file → IsCounted next h.mine h.archive name file
+  from_past : (name : List ℕ) (file : File) → IsOfRuns h.mine s.past h.archive name file → IsOfRuns h.mine past h.archive name file
   from_past name file (inl own) = inl own
   from_past name file (inr p) = (let q = put_keeps e.session after s.past p.0 refl p.1 in inr (q.0, q.1, subst (λ n. IsThere (h.archive n) name file) (sym q.2) p.2))
 
   from_still : (name : List ℕ) (file : File) → IsFrom s h.mine h.archive name file → IsFrom next h.mine h.archive name file
-  from_still name file is = elim (is_kept name s.kept) as (λ b. cond b (IsSaved file) (IsCounted s h.mine h.archive name file) → cond b (IsSaved file) (IsCounted next h.mine h.archive name file)) [
+  from_still name file is = elim (is_kept name s.kept) as (λ b. cond b (IsSaved file) (IsOfRuns h.mine s.past h.archive name file) → cond b (IsSaved file) (IsOfRuns h.mine past h.archive name file)) [
     | true ↦ (λ x. x)
     | false ↦ from_past name file
   ] is
@@ -389,6 +405,7 @@ module _ (s : Story) (h : Sound s) (e : Epoch) (v : World) (g : Among s.past e) 
     is = k.is;
     above = λ x a. (let y = was x a in subst (λ n. n ≤ k.saved.session) y.2 (k.above y.0 y.1));
     framed = k.framed;
+    raised = k.raised;
   }
 
   above_still : (x : Epoch) → Among past x → s.now.rec.session ≢ 0 → x.session < s.now.rec.session
@@ -449,7 +466,7 @@ module _ (s : Story) (h : Sound s) (images : ℕ → List ℕ) (fs : List ℕ) (
   held_new : s.now.rec.session ≢ 0 → HoldsPast rests (epoch_of s.now) (records s.now.rec.session) (archive s.now.rec.session)
   held_new there = elim (eqb_tells s.now.rec.session s.now.rec.session) [
     | inl t ↦ subst (λ b. HoldsPast rests (epoch_of s.now) (if b then s.now.rec else h.records s.now.rec.session) (if b then h.mine else h.archive s.now.rec.session)) (sym t.0)
-        (archived s.now h.mine h.now there rests refl refl)
+        (over s.now h.mine h.now there (bears_now s h there) rests refl refl)
     | inr t ↦ absurd (t.1 refl)
   ]
 
@@ -540,11 +557,11 @@ none_earlier : (s : Story) (e : Event) (after : Story) → earlier s e None ≡ 
 none_earlier s e after q = cc
 
 earlier_done : (s : Story) (h : Sound s) (x : Epoch) (v : World) (after : Story) → Among s.past x → find (is_session x.session) s.past ≡ Some x
-    → GoesOn s.now x v (h.records x.session) (h.archive x.session) → left_by s x (Ok v) ≡ Ok after → Sound after
+    → HasGoneOn s.now x v (h.records x.session) (h.archive x.session) → left_by s x (Ok v) ≡ Ok after → Sound after
 earlier_done s h x v after a there k q = subst Sound (left_is s x v after q) (earlier_sound s h x v a there k)
 
 earlier_went : (s : Story) (h : Sound s) (x : Epoch) (r : Result World Stop) (after : Story) → Among s.past x → find (is_session x.session) s.past ≡ Some x
-    → ((v : World) → r ≡ Ok v → GoesOn s.now x v (h.records x.session) (h.archive x.session)) → left_by s x r ≡ Ok after → Sound after
+    → ((v : World) → r ≡ Ok v → HasGoneOn s.now x v (h.records x.session) (h.archive x.session)) → left_by s x r ≡ Ok after → Sound after
 earlier_went s h x (Err stop) after a there k q = absurd (none_left s x stop after q)
 earlier_went s h x (Ok v) after a there k q = earlier_done s h x v after a there (k v refl) q
 

@@ -147,6 +147,7 @@ module _ (s : Story) (fs : List ℕ) (images : ℕ → List ℕ) where
         is = k.4;
         above = above_stopped k.0.session (λ e g. (let le : e.session ≤ im.0.session = document_above s s.document im.0 d im.1 e g in omega arith));
         framed = λ x there. none_framed x there;
+        raised = λ there. absurd (there refl);
       }
 
   -- else the document stays, as its file does: its name is that of frame 1
@@ -162,6 +163,7 @@ module _ (s : Story) (fs : List ℕ) (images : ℕ → List ℕ) where
     is = d.is;
     above = above_stopped d.saved.session d.above;
     framed = λ x there. none_framed x there;
+    raised = λ there. absurd (there refl);
   }
 
   kept_first : DocumentStands s s.document → Apart s.now.rec.frames → InSession s.now.rec → may_stop s.now.rec fs ≡ true → ((f : ℕ) → is_among fs f ≡ true → IsImageOf s.now f (images f))

@@ -16,7 +16,7 @@ use Rattle.world_files.specs.Files.{Bears}
 use Rattle.world_files.proofs.Kept.{image_is_at}
 use Rattle.story_model.specs.SafeStory.{AreOf, is_kept}
 use Rattle.story_model.specs.Story.{Epoch, epoch_of, has_image, is_among, made_name, may_stop, names_kept, past_by, put_kept, without}
-use Rattle.story_safety.specs.Holding.{IsSaved, IsThere}
+use Rattle.story_safety.specs.Holding.{IsOfRuns, IsSaved, IsThere}
 
 -- ---- files and names
 pub names_tell : (a b : List ℕ) → (a ≡ b) ⊎ (a ≢ b)
@@ -71,9 +71,6 @@ kept_later name other kept ne = rw (not_equal name other ne) refl
 -- ---- where files are from, and that those of the present run are there, over lists: what `Sound` says of a story
 abbrev pub MineThere : List File → List File → List (List ℕ) → Type 0
 MineThere mine files kept = (name : List ℕ) (file : File) → IsThere mine name file → IsThere files name file × (is_kept name kept ≡ false)
-
-abbrev pub IsOfRuns : List File → List Epoch → (ℕ → List File) → List ℕ → File → Type 0
-IsOfRuns mine past archive name file = IsThere mine name file ⊎ ((e : Epoch) × Among past e × IsThere (archive e.session) name file)
 
 -- each file that a stop has kept was saved, and of each other one this holds
 abbrev pub AreFrom : (List ℕ → File → Type 0) → List File → List (List ℕ) → Type 0

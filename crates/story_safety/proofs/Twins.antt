@@ -43,104 +43,10 @@ use Rattle.world_safety.specs.Holding.{Holds}
 use Rattle.world_safety.proofs.Speaking.{IsTelling, asking_is, writing_is}
 use Rattle.story_model.specs.Story.{made_name}
 use Rattle.story_safety.specs.Holding.{sent_in}
-use Rattle.story_safety.specs.Steps.{put_made, twin}
+use Rattle.story_safety.specs.Steps.{put_committed, quieted, twin}
 
 pub ok_is : (x y : World) → ◌≡◌ {A = Result World Stop} (Ok x) (Ok y) → x ≡ y
 ok_is x y e = cc
-
--- ---- what a world holds doesn't look at its stock, and at what was taken and answered
-
-pub recast : (v : World) (stock : List Kind) (answers : List EventAnswer) → Holds v → Holds (record v { stock = stock; taken = []; answers = answers })
-recast v stock answers h = record {
-  in_session = record { holds = h.in_session.holds; sent = h.in_session.sent; servers = h.in_session.servers };
-  agrees = h.agrees;
-  files = record { counted_bounded = h.files.counted_bounded; filed = h.files.filed; commits = h.files.commits };
-  numbers = record { recorded = h.numbers.recorded; sent = h.numbers.sent; servers = h.numbers.servers };
-  taken_held = λ t a. absurd a;
-}
-
-abbrev pub quieted : World → World
-quieted v = record v { taken = []; answers = [] }
-
-pub reset : (v : World) → Holds v → Holds (quieted v)
-reset v h = recast v v.stock [] h
-
--- ---- what was sent in a session
-
-abbrev message_in : Sent → Message
-message_in x = x.message
-
-abbrev session_in : Sent → ℕ
-session_in x = x.message.session
-
-pub sent_append : (s : ℕ) (xs ys : List Sent) → sent_in s (xs ++ ys) ≡ sent_in s xs ++ sent_in s ys
-sent_append s [] ys = refl
-sent_append s (x ∷ xs) ys = (let r = sent_append s xs ys in
-    elim (x.message.session == s) as (λ b. (if b then x ∷ sent_in s (xs ++ ys) else sent_in s (xs ++ ys)) ≡ (if b then x ∷ sent_in s xs else sent_in s xs) ++ sent_in s ys) [
-      | true ↦ ap (λ zs. x ∷ zs) r
-      | false ↦ r
-    ])
-
--- each of them was sent, in the session
-first_sent : (s : ℕ) (y : Sent) (ys zs : List Sent) (x : Sent) → y.message.session ≡ s → (Among zs x → Among ys x × (x.message.session ≡ s)) → Among (y ∷ zs) x
-    → Among (y ∷ ys) x × (x.message.session ≡ s)
-first_sent s y ys zs x is later (inl e) = (inl e, ap session_in e ∙ is)
-first_sent s y ys zs x is later (inr g) = (let k = later g in (inr k.0, k.1))
-
-pub among_sent : (s : ℕ) (xs : List Sent) (x : Sent) → Among (sent_in s xs) x → Among xs x × (x.message.session ≡ s)
-among_sent s [] x h = absurd h
-among_sent s (y ∷ ys) x h =
-    elim (y.message.session == s) as (λ b. (y.message.session == s) ≡ b → Among (if b then y ∷ sent_in s ys else sent_in s ys) x → Among (y ∷ ys) x × (x.message.session ≡ s)) [
-      | true ↦ (λ t g. first_sent s y ys (sent_in s ys) x (eqb-true y.message.session s t) (λ k. among_sent s ys x k) g)
-      | false ↦ (λ t g. let k = among_sent s ys x g in (inr k.0, k.1))
-    ] refl h
-
-pub message_sent : (s : ℕ) (xs : List Sent) (m : Message) → Among (messages (sent_in s xs)) m → Among (messages xs) m × (m.session ≡ s)
-message_sent s xs m h = (let k = among_mapped message_in (sent_in s xs) m h in
-    let g = among_sent s xs k.0 k.1 in
-    (subst (Among (messages xs)) (sym k.2) (among_map message_in xs k.0 g.0), ap (λ (y : Message). y.session) k.2 ∙ g.1))
-
--- and what was sent in the session is one of them
-pub among_local : (s : ℕ) (xs : List Sent) (x : Sent) → Among xs x → x.message.session ≡ s → Among (sent_in s xs) x
-among_local s [] x h is = absurd h
-among_local s (y ∷ ys) x (inl e) is =
-    let t : (y.message.session == s) ≡ true = eq-eqb y.message.session s (ap session_in (sym e) ∙ is) in
-    subst (λ b. Among (if b then y ∷ sent_in s ys else sent_in s ys) x) (sym t) (inl e)
-among_local s (y ∷ ys) x (inr g) is = (let r = among_local s ys x g is in
-    elim (y.message.session == s) as (λ b. Among (if b then y ∷ sent_in s ys else sent_in s ys) x) [ true ↦ inr r | false ↦ r ])
-
-pub message_local : (s : ℕ) (xs : List Sent) (m : Message) → Among (messages xs) m → m.session ≡ s → Among (messages (sent_in s xs)) m
-message_local s xs m h is = (let k = among_mapped message_in xs m h in
-    subst (Among (messages (sent_in s xs))) (sym k.2) (among_map message_in (sent_in s xs) k.0 (among_local s xs k.0 k.1 (ap (λ (y : Message). y.session) (sym k.2) ∙ is))))
-
--- at its place
-local_slice : (s : ℕ) (xs : List Sent) (i : ℕ) (x : Sent) → slice_get xs i ≡ Some x → x.message.session ≡ s → (j : ℕ) × (slice_get (sent_in s xs) j ≡ Some x)
-local_slice s [] i x e is = cc
-local_slice s (y ∷ ys) zero x e is =
-    let q : y ≡ x = cc in
-    let t : (y.message.session == s) ≡ true = eq-eqb y.message.session s (ap session_in q ∙ is) in
-    (0, subst (λ b. slice_get (if b then y ∷ sent_in s ys else sent_in s ys) 0 ≡ Some x) (sym t) e)
-local_slice s (y ∷ ys) (suc i) x e is = (let r = local_slice s ys i x e is in
-    elim (y.message.session == s) as (λ b. (j : ℕ) × (slice_get (if b then y ∷ sent_in s ys else sent_in s ys) j ≡ Some x)) [ true ↦ (suc r.0, r.1) | false ↦ r ])
-
-pub local_place : (s : ℕ) (xs : List Sent) (p : ℕ) (x : Sent) → nth xs p ≡ Some x → x.message.session ≡ s → (q : ℕ) × (nth (sent_in s xs) q ≡ Some x)
-local_place s xs zero x e is = cc
-local_place s xs (suc i) x e is = (let r = local_slice s xs i x e is in (suc r.0, r.1))
-
--- all are of the session, or none is
-pub sent_all : (s : ℕ) (xs : List Sent) → ((m : Message) → Among (messages xs) m → m.session ≡ s) → sent_in s xs ≡ xs
-sent_all s [] h = refl
-sent_all s (y ∷ ys) h =
-    let t : (y.message.session == s) ≡ true = eq-eqb y.message.session s (h y.message (inl refl)) in
-    subst (λ b. (if b then y ∷ sent_in s ys else sent_in s ys) ≡ y ∷ ys) (sym t) (ap (λ zs. y ∷ zs) (sent_all s ys (λ m g. h m (inr g))))
-
-pub sent_none : (s : ℕ) (xs : List Sent) → ((m : Message) → Among (messages xs) m → m.session ≢ s) → sent_in s xs ≡ []
-sent_none s [] h = refl
-sent_none s (y ∷ ys) h = (let r = sent_none s ys (λ m g. h m (inr g)) in
-    elim (y.message.session == s) as (λ b. (y.message.session == s) ≡ b → (if b then y ∷ sent_in s ys else sent_in s ys) ≡ []) [
-      | true ↦ (λ t. absurd (h y.message (inl refl) (eqb-true y.message.session s t)))
-      | false ↦ (λ t. r)
-    ] refl)
 
 -- ---- what is taken is the same wherever its message stands, but for the place
 
@@ -261,7 +167,7 @@ module _ (w : World) (mine : List File) (xs : List Sent) where
       twins_imaged frame counted (Ok saved) v q e = twins_kept frame saved counted v q e
 
       pub twins_done : (counted : Result Took ContainerFault) (frame : Option Frame) (v : World) → on_input w.rec x ≡ counted → done_in w f bytes counted frame ≡ Ok v
-          → Both w xs (put_made bytes frame mine) (put_made bytes frame w.files) v (done_in other f bytes counted frame)
+          → Both w xs (put_committed bytes frame mine) (put_committed bytes frame w.files) v (done_in other f bytes counted frame)
       twins_done counted None v q e = cc
       twins_done counted (Some frame) v q e = twins_imaged frame counted (image w.rec f) v q e
 

@@ -6,6 +6,7 @@ use Rattle.container_frames.specs.Frames.{AreUnraised}
 use Rattle.container_model.specs.Record.{Record}
 use Rattle.container_model.specs.declared.answer.FrameDocument.{FrameDocument}
 use Rattle.container_model.specs.declared.record.Frame.{Frame}
+use Rattle.world_model.specs.declared.logs.Document.{Document}
 use Rattle.world_model.specs.declared.logs.File.{File}
 use Rattle.world_model.specs.declared.logs.Sent.{Sent}
 use Rattle.world_model.specs.declared.logs.Taken.{Taken}
@@ -28,29 +29,34 @@ mirror w files = record w { files = files; sent = sent_in w.rec.session w.sent; 
 abbrev pub mirror_of : World → Epoch → Record → List File → World
 mirror_of w e rec files = record (as_of w e) { rec = rec; files = files; sent = sent_in e.session w.sent; taken = []; answers = [] }
 
+-- the last document that was counted for frame 1 is of this session
+pub record CountsSession (counted : List (Option Document)) (session : ℕ) : Type 0 where
+  pub document : Document
+  pub first : nth counted 1 ≡ Some (Some document)
+  pub bears : document.session ≡ session
+
 pub record HoldsPast (w : World) (e : Epoch) (rec : Record) (files : List File) : Type 0 where
   pub session : rec.session ≡ e.session
   pub numbers : rec.numbers ≡ w.rec.numbers
   pub raised : e.session ≢ 0
+  pub bears : CountsSession e.counted e.session
   pub holds : Holds (mirror_of w e rec files)
 
 -- where a file is from: a commit of the present run, or of an earlier one
 abbrev pub IsThere : List File → List ℕ → File → Type 0
 IsThere files name file = find (is_file name) files ≡ Some file
 
-abbrev pub IsEarlier : Story → (ℕ → List File) → List ℕ → File → Type 0
-IsEarlier s archive name file = (e : Epoch) × Among s.past e × IsThere (archive e.session) name file
-
-abbrev pub IsCounted : Story → List File → (ℕ → List File) → List ℕ → File → Type 0
-IsCounted s mine archive name file = IsThere mine name file ⊎ IsEarlier s archive name file
+abbrev pub IsOfRuns : List File → List Epoch → (ℕ → List File) → List ℕ → File → Type 0
+IsOfRuns mine past archive name file = IsThere mine name file ⊎ ((e : Epoch) × Among past e × IsThere (archive e.session) name file)
 
 abbrev pub IsSaved : File → Type 0
 IsSaved file = (saved : FrameDocument) × AreOf file.bytes saved
 
 abbrev pub IsFrom : Story → List File → (ℕ → List File) → List ℕ → File → Type 0
-IsFrom s mine archive name file = cond (is_kept name s.kept) (IsSaved file) (IsCounted s mine archive name file)
+IsFrom s mine archive name file = cond (is_kept name s.kept) (IsSaved file) (IsOfRuns mine s.past archive name file)
 
--- The session document is at least of each session that was raised. Frame 1 bears its name, and has its session.
+-- The session document is at least of each session that was raised. Frame 1 bears its name, and has its session. Where the
+-- present run has raised its own, that is the document's, and a commit that was counted bears it.
 pub record HasDocument (s : Story) (name : List ℕ) : Type 0 where
   pub bytes : List ℕ
   pub file : file_of s.now name ≡ Some bytes
@@ -58,6 +64,7 @@ pub record HasDocument (s : Story) (name : List ℕ) : Type 0 where
   pub is : AreOf bytes saved
   pub above : (e : Epoch) → Among (epochs s) e → e.session ≤ saved.session
   pub framed : (frame : Frame) → nth s.now.rec.frames 1 ≡ Some frame → (frame.name ≡ name) × (frame.session ≡ saved.session)
+  pub raised : s.now.rec.session ≢ 0 → (saved.session ≡ s.now.rec.session) × CountsSession s.now.counted s.now.rec.session
 
 abbrev pub DocumentStands : Story → Option (List ℕ) → Type 0
 DocumentStands s None = (s.past ≡ []) × (s.now.rec.session ≡ 0)
