@@ -15,7 +15,7 @@ use Rattle.world_model.specs.declared.logs.Sent.{Sent}
 use Rattle.world_model.specs.World.{Choice, IsImage, MOST_EVENTS, World, ask, crash, deliver, delivered_said, happened, link_of, limited, quiet_outcome, scribble, taken_at, with_taken}
 use Rattle.story_model.specs.declared.moment.Moment.{Moment}
 use Rattle.story_model.specs.declared.moment.Moment.TheVariants as moment
-use Rattle.story_model.specs.Story.{AreImages, Chosen, Epoch, Story, Tells, as_of, called_again, delivered_again, earlier, follow, followed, goes_on, is_session, left_by, may_begin, may_stop, passed, present, session_of, stopped, within}
+use Rattle.story_model.specs.Story.{AreImages, Chosen, Epoch, Story, Tells, as_of, earlier, follow, followed, goes_on, is_session, left_by, may_begin, may_stop, passed, present, session_of, stopped, within}
 
 abbrev Few : World → Type 0
 Few w = length w.answers ≤ MOST_EVENTS
@@ -44,22 +44,9 @@ in_run_few w choice e r v under image told is =
     happened_few w choice e v under image
     (told ∙ ap (λ b. if b then r else Err NotEnabled) (eq-eqb w.rec.session w.rec.session refl) ∙ is)
 
-called_same : (w : World) (m : Message) (said : Said) (v : World) → called_again w m said ≡ Ok v → delivered_said w m said ≡ Ok v
-called_same w m (Call inc act n op) v is = is
-called_same w m (Reply inc act n answer) v is = absurd (cc)
-called_same w m (Write inc act s number content) v is = absurd (cc)
-called_same w m (Ask inc act g) v is = absurd (cc)
-
-delivered_few : (w : World) (choice : Choice) (p : ℕ) (sent : Option Sent) (v : World) → IsOpen w → nth w.sent p ≡ sent → delivered_again w sent ≡ Ok v → Few v
-delivered_few w choice p None v under at is = absurd (cc)
-delivered_few w choice p (Some x) v under at is =
-    let more = taken_at w.rec (Some p) (link_of x.message) x.message in
-    happened_few w choice (event.Deliver p) (record v { taken = w.taken ++ more }) under tt
-    (ap (deliver w p) at ∙ ap (with_taken w more) (called_same w x.message x.message.said v is))
-
 goes_on_few : (w : World) (choice : Choice) (e : Event) (v : World) → IsOpen w → goes_on w e ≡ Ok v → Few v
 goes_on_few w choice (event.Command c) v under is = absurd (cc)
-goes_on_few w choice (event.Deliver p) v under is = delivered_few w choice p (nth w.sent p) v under refl is
+goes_on_few w choice (event.Deliver p) v under is = happened_few w choice (event.Deliver p) v under tt is
 goes_on_few w choice (event.Forge inc m) v under is = absurd (cc)
 goes_on_few w choice (event.Crash session inc) v under is = in_run_few w choice (event.Crash w.rec.session inc) (crash w inc (nth w.instances inc)) v under tt refl is
 goes_on_few w choice (event.Reap inc) v under is = absurd (cc)

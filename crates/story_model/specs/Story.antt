@@ -24,7 +24,7 @@ use Rattle.world_model.specs.declared.logs.File.{File}
 use Rattle.world_model.specs.declared.logs.Sent.{Sent}
 use Rattle.world_model.specs.declared.logs.ServerDone.{ServerDone}
 use Rattle.world_model.specs.declared.logs.Taken.{Taken}
-use Rattle.world_model.specs.World.{Choice, Instance, IsImage, IsImageOf, MOST_EVENTS, World, ask, called, crash, empty_world, happened, put_file, quiet_outcome, scribble}
+use Rattle.world_model.specs.World.{Choice, Instance, IsImage, IsImageOf, MOST_EVENTS, World, ask, crash, deliver, empty_world, happened, put_file, quiet_outcome, scribble}
 use Rattle.story_model.specs.declared.moment.Moment.{Moment}
 use Rattle.story_model.specs.declared.moment.Moment.TheVariants as moment
 
@@ -101,21 +101,11 @@ left_by s e (Ok v) = Ok (record s {
   past = put (is_session e.session) (record (epoch_of v) { session = e.session }) s.past;
 })
 
--- a call that comes again or late
-abbrev pub called_again : World → Message → Said → Result World Stop
-called_again w m (Call inc act n op) = called w m.session inc act n op (nth w.instances inc)
-called_again w m (Reply inc act n answer) = Err NotEnabled
-called_again w m (Write inc act s number content) = Err NotEnabled
-called_again w m (Ask inc act g) = Err NotEnabled
-
-abbrev pub delivered_again : World → Option Sent → Result World Stop
-delivered_again w None = Err NotEnabled
-delivered_again w (Some x) = called_again w x.message x.message.said
-
--- Servers of earlier runs act on calls, crash, write and ask; nothing else happens at them.
+-- Servers of earlier runs act on calls, crash, write and ask; nothing else happens at them. What is delivered to one is a call,
+-- as no other message is of an earlier session here.
 abbrev pub goes_on : World → Event → Result World Stop
 goes_on w (event.Command c) = Err NotEnabled
-goes_on w (event.Deliver p) = delivered_again w (nth w.sent p)
+goes_on w (event.Deliver p) = deliver w p (nth w.sent p)
 goes_on w (event.Forge inc m) = Err NotEnabled
 goes_on w (event.Crash session inc) = crash w inc (nth w.instances inc)
 goes_on w (event.Reap inc) = Err NotEnabled

@@ -27,14 +27,15 @@ use Rattle.world_model.specs.declared.logs.Document.{Document}
 use Rattle.world_model.specs.declared.logs.File.{File}
 use Rattle.world_model.specs.Safe.{Among}
 use Rattle.world_model.specs.World.{Choice, IsImage, IsImageOf, World, file_bytes, file_of, is_file, put_file}
-use Rattle.world_facts.proofs.Lookups.{among_join, among_new, among_old, nth_aligned, nth_old, nth_one, nth_set_apart}
+use Rattle.world_facts.proofs.Lookups.{among_new, among_old, nth_aligned, nth_old, nth_one, nth_set_apart}
 use Rattle.world_files.specs.Files.{Apart, Bears, MakesImage}
 use Rattle.story_model.specs.SafeStory.{AreOf}
 use Rattle.story_model.specs.Story.{Epoch, Story, committed_by, document_by, epoch_of, epochs, followed, is_it, kept_by, made_name, may_begin, may_command, may_open}
 use Rattle.story_safety.specs.Holding.{DocumentStands, HasDocument}
 use Rattle.story_safety.specs.Steps.{Counts, CountsBy, IsInputOf, KeepsFirst, Steps, made_by, put_committed, rec_stays, rec_steps}
+use Rattle.story_safety.proofs.Lists.{each_run}
 use Rattle.story_safety.proofs.StoryFiles.{bears_made, found_other, found_put, image_session}
-use Rattle.story_safety.proofs.Stopping.{among_one, document_above, first_there, raises}
+use Rattle.story_safety.proofs.Stopping.{document_above, first_there, raises}
 
 -- ---- a commit that is counted
 pub done_counts : (w v : World) (choice : Choice) (f : ℕ) → Steps w v choice (event.Done f) → Counts w v f
@@ -47,10 +48,7 @@ kept_counts w v choice f (rec_steps x t input ok rec counts) = subst (CountsBy w
 
 -- ---- the document of a story whose present run goes on
 epoch_above : (s : Story) (v : World) (n : ℕ) → ((e : Epoch) → Among (epochs s) e → e.session ≤ n) → v.rec.session ≤ n → (e : Epoch) → Among (s.past ++ epoch_of v ∷ []) e → e.session ≤ n
-epoch_above s v n h le e g = elim (among_join s.past (epoch_of v ∷ []) e g) [
-  | inl old ↦ h e (among_old s.past (epoch_of s.now ∷ []) e old)
-  | inr new ↦ (let z : e.session ≡ v.rec.session = ap (λ (x : Epoch). x.session) (among_one (epoch_of v) e new) in omega arith)
-]
+epoch_above s v n h le = each_run (λ x. x.session ≤ n) s.past (epoch_of v) (λ x old. h x (among_old s.past (epoch_of s.now ∷ []) x old)) le
 
 present_above : (s : Story) (n : ℕ) → ((e : Epoch) → Among (epochs s) e → e.session ≤ n) → s.now.rec.session ≤ n
 present_above s n h = h (epoch_of s.now) (among_new s.past (epoch_of s.now ∷ []) (epoch_of s.now) (inl refl))

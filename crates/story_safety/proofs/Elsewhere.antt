@@ -11,11 +11,8 @@ use Rattle.wire_msgs.specs.declared.answer.Answer.TheVariants as told
 use Rattle.object_state.specs.declared.operations.CloseOption.TheVariants.{SaveIfDirty}
 use Rattle.embed_core.specs.Kinds.{Kind}
 use Rattle.container_model.specs.Record.{Record, empty}
-use Rattle.container_model.specs.declared.answer.Done.{Done}
-use Rattle.world_model.specs.declared.logs.Document.{Document}
 use Rattle.world_model.specs.declared.logs.File.{File}
 use Rattle.world_model.specs.declared.logs.Sent.{Sent}
-use Rattle.world_model.specs.declared.logs.ServerDone.{ServerDone}
 use Rattle.world_model.specs.declared.logs.Taken.{Taken}
 use Rattle.world_model.specs.Safe.{Among, BringsBy, WasSent, messages}
 use Rattle.world_model.specs.World.{Instance, World, in_session}
@@ -77,60 +74,34 @@ recast w stock h = record {
 pub reset : (w : World) → Holds w → Holds (quieted w)
 reset w h = recast w w.stock h
 
-abbrev HoldsOf : Record → List Instance → List File → List Kind → List Sent → List ℕ → List Done → List ServerDone → List (Option Document) → List ℕ → Type 0
-HoldsOf rec instances files stock sent owners container_done server_done counted hostile = Holds (record {
-  rec = rec;
-  instances = instances;
-  files = files;
-  stock = stock;
-  sent = sent;
-  owners = owners;
-  answers = [];
-  taken = [];
-  container_done = container_done;
-  server_done = server_done;
-  counted = counted;
-  hostile = hostile;
-})
+-- A run by itself, without its files, its stock and what was sent, taken and answered in it.
+abbrev pub alone : World → World
+alone w = record w { files = []; stock = []; sent = []; taken = []; answers = [] }
 
--- the same in each of these
-pub moved : (w v : World) (files : List File) (xs ys : List Sent) → v.rec ≡ w.rec → v.instances ≡ w.instances → v.owners ≡ w.owners → v.container_done ≡ w.container_done
-    → v.server_done ≡ w.server_done → v.counted ≡ w.counted → v.hostile ≡ w.hostile → ys ≡ xs → Holds (twin w files xs) → Holds (twin v files ys)
-moved w v files xs ys er ei eo ec es ek eh ex h =
-    let a : HoldsOf w.rec w.instances files v.stock xs w.owners w.container_done w.server_done w.counted w.hostile = recast (twin w files xs) v.stock h in
-    let b = subst (λ z. HoldsOf z w.instances files v.stock xs w.owners w.container_done w.server_done w.counted w.hostile) (sym er) a in
-    let c = subst (λ z. HoldsOf v.rec z files v.stock xs w.owners w.container_done w.server_done w.counted w.hostile) (sym ei) b in
-    let d = subst (λ z. HoldsOf v.rec v.instances files v.stock z w.owners w.container_done w.server_done w.counted w.hostile) (sym ex) c in
-    let f = subst (λ z. HoldsOf v.rec v.instances files v.stock ys z w.container_done w.server_done w.counted w.hostile) (sym eo) d in
-    let g = subst (λ z. HoldsOf v.rec v.instances files v.stock ys v.owners z w.server_done w.counted w.hostile) (sym ec) f in
-    let i = subst (λ z. HoldsOf v.rec v.instances files v.stock ys v.owners v.container_done z w.counted w.hostile) (sym es) g in
-    let j = subst (λ z. HoldsOf v.rec v.instances files v.stock ys v.owners v.container_done v.server_done z w.hostile) (sym ek) i in
-    subst (λ z. HoldsOf v.rec v.instances files v.stock ys v.owners v.container_done v.server_done v.counted z) (sym eh) j
+pub moved : (w v : World) (files : List File) (xs ys : List Sent) → alone v ≡ alone w → ys ≡ xs → Holds (twin w files xs) → Holds (twin v files ys)
+moved w v files xs ys same ex h = subst (λ a. Holds (record a { files = files; stock = v.stock; sent = ys })) (sym same)
+    (subst (λ zs. Holds (record (alone w) { files = files; stock = v.stock; sent = zs })) (sym ex) (recast (twin w files xs) v.stock h))
 
 -- ---- what happens elsewhere
-pub elsewhere_now : (w v : World) (files : List File) (more : List Sent) → v.rec ≡ w.rec → v.instances ≡ w.instances → v.owners ≡ w.owners → v.container_done ≡ w.container_done
-    → v.server_done ≡ w.server_done → v.counted ≡ w.counted → v.hostile ≡ w.hostile → v.sent ≡ w.sent ++ more → ((m : Message) → Among (messages more) m → m.session ≢ w.rec.session)
-    → Holds (mirror w files) → Holds (mirror v files)
-elsewhere_now w v files more er ei eo ec es ek eh em apart h =
-    let same : sent_in v.rec.session v.sent ≡ sent_in w.rec.session w.sent =
-    ap (λ (r : Record). sent_in r.session v.sent) er ∙ (ap (sent_in w.rec.session) em ∙ in_apart w.rec.session w.sent more apart) in
-    moved w v files (sent_in w.rec.session w.sent) (sent_in v.rec.session v.sent) er ei eo ec es ek eh same h
+pub elsewhere_now : (w v : World) (files : List File) (more : List Sent) → alone v ≡ alone w → v.sent ≡ w.sent ++ more
+    → ((m : Message) → Among (messages more) m → m.session ≢ w.rec.session) → Holds (mirror w files) → Holds (mirror v files)
+elsewhere_now w v files more same em apart h = moved w v files (sent_in w.rec.session w.sent) (sent_in v.rec.session v.sent) same
+    (ap (λ (y : World). sent_in y.rec.session v.sent) same ∙ (ap (sent_in w.rec.session) em ∙ in_apart w.rec.session w.sent more apart)) h
 
 pub elsewhere_past : (w v : World) (e : Epoch) (rec : Record) (files : List File) (more : List Sent) → v.rec.numbers ≡ w.rec.numbers → v.sent ≡ w.sent ++ more
     → ((m : Message) → Among (messages more) m → m.session ≢ e.session) → HoldsPast w e rec files → HoldsPast v e rec files
-elsewhere_past w v e rec files more en em apart h =
-    let same : sent_in e.session v.sent ≡ sent_in e.session w.sent = ap (sent_in e.session) em ∙ in_apart e.session w.sent more apart in
-    record {
-      session = h.session;
-      numbers = h.numbers ∙ sym en;
-      raised = h.raised;
-      bears = h.bears;
-      holds = moved (mirror_of w e rec files) (mirror_of v e rec files) files (sent_in e.session w.sent) (sent_in e.session v.sent) refl refl refl refl refl refl refl same h.holds;
-    }
+elsewhere_past w v e rec files more en em apart h = record {
+  session = h.session;
+  numbers = h.numbers ∙ sym en;
+  raised = h.raised;
+  bears = h.bears;
+  holds = moved (mirror_of w e rec files) (mirror_of v e rec files) files (sent_in e.session w.sent) (sent_in e.session v.sent) refl
+      (ap (sent_in e.session) em ∙ in_apart e.session w.sent more apart) h.holds;
+}
 
 -- ---- a run that begins, and one that is over
-pub begun_held : (numbers : ℕ) (w : World) → w.rec.numbers ≡ numbers → ((m : Message) → WasSent w m → m.session ≢ 0) → Holds (mirror (begun w) [])
-begun_held numbers w e raised = subst (λ xs. HoldsOf (empty w.rec.numbers) [] [] w.stock xs [] [] [] [] []) (sym (in_none 0 w.sent raised)) (empty_held w.rec.numbers w.stock)
+pub begun_held : (w : World) → ((m : Message) → WasSent w m → m.session ≢ 0) → Holds (mirror (begun w) [])
+begun_held w raised = subst (λ xs. Holds (twin (begun w) [] xs)) (sym (in_none 0 w.sent raised)) (empty_held w.rec.numbers w.stock)
 
 pub over : (w : World) (files : List File) → Holds (mirror w files) → w.rec.session ≢ 0 → CountsSession w.counted w.rec.session → (v : World)
     → v.sent ≡ w.sent → v.rec.numbers ≡ w.rec.numbers → HoldsPast v (epoch_of w) w.rec files
@@ -139,5 +110,5 @@ over w files h raised bears v es en = record {
   numbers = sym en;
   raised = raised;
   bears = bears;
-  holds = moved w (mirror_of v (epoch_of w) w.rec files) files (sent_in w.rec.session w.sent) (sent_in w.rec.session v.sent) refl refl refl refl refl refl refl (ap (sent_in w.rec.session) es) h;
+  holds = moved w (mirror_of v (epoch_of w) w.rec files) files (sent_in w.rec.session w.sent) (sent_in w.rec.session v.sent) refl (ap (sent_in w.rec.session) es) h;
 }

@@ -1,5 +1,5 @@
 -- The step of an earlier run's world that a step of the story's is, with that run's own record, files and messages.
-use Rattle.std.proofs.Common.{◌≡◌, ◌==◌, ℕ, true, List, [], ◌∷◌, ◌++◌, Option, Some, None, Result, Ok, Err, refl, sym, ap, subst, inl, inr}
+use Rattle.std.proofs.Common.{◌≡◌, ◌≢◌, ◌==◌, ℕ, true, List, [], ◌∷◌, ◌++◌, Option, Some, None, Result, Ok, Err, refl, sym, ap, subst, inl, inr}
 use Rattle.std.proofs.lemmas.List.{append-nil}
 use Rattle.std.proofs.lemmas.Bool.Decides.{eqb_tells}
 use Rattle.wire_msgs.specs.Found.{find, nth, set_nth}
@@ -23,18 +23,16 @@ use Rattle.world_model.specs.declared.logs.ServerDone.{ServerDone}
 use Rattle.world_model.specs.World.{Instance, World, ask, called, called_in, called_wanting, counted_by, crash, crashed, deliver, delivered_said, in_run, in_session}
 use Rattle.world_model.specs.World.{is_of, link_of, scribble, served, spoken, spoken_by, stocked, taken_said, view_in, with_taken}
 use Rattle.world_model.proofs.InRun.{in_run_here}
-use Rattle.story_model.specs.Story.{called_again, delivered_again, session_at, session_of_call}
-use Rattle.story_safety.specs.Holding.{sent_in}
-use Rattle.story_safety.specs.Steps.{quieted, twin}
-use Rattle.story_safety.proofs.Members.{place_in}
-use Rattle.story_safety.proofs.Twins.{ok_is}
+use Rattle.story_model.specs.Story.{session_at, session_of_call}
+use Rattle.story_safety.specs.Steps.{left_of, quieted, twin}
+use Rattle.story_safety.proofs.Twins.{logged_is, ok_is}
 
 same_number : (s : ℕ) → (s == s) ≡ true
 same_number s = elim (eqb_tells s s) [ inl t ↦ t.0 | inr t ↦ absurd (t.1 refl) ]
 
--- a run's world with its own record, files and messages, and a world where nothing was taken and answered
-abbrev pub alone : World → Record → List File → List Sent → World
-alone a rec files sent = record a { rec = rec; files = files; sent = sent; taken = []; answers = [] }
+-- a run's world with its own record, files and messages
+abbrev pub by_itself : World → Record → List File → List Sent → World
+by_itself a rec files sent = record a { rec = rec; files = files; sent = sent; taken = []; answers = [] }
 
 -- What a step makes of the run's world by itself, where it makes v of the story's: the same but for what stands in them.
 pub record Follows (a : World) (rec : Record) (files : List File) (sent : List Sent) (told : Result World Stop) (v : World) : Type 0 where
@@ -43,15 +41,11 @@ pub record Follows (a : World) (rec : Record) (files : List File) (sent : List S
   pub next : World
   pub is : told ≡ Ok next
   pub alike : quieted next ≡ twin (record v { rec = rec }) files (sent ++ more)
-  pub owners : v.owners ≡ a.owners
-  pub taken : v.taken ≡ a.taken
-  pub container_done : v.container_done ≡ a.container_done
-  pub counted : v.counted ≡ a.counted
-  pub hostile : v.hostile ≡ a.hostile
+  pub stays : left_of a v ≡ v
 
 module _ (a : World) (rec : Record) (files : List File) (sent : List Sent) where
   abbrev u : World
-  u = alone a rec files sent
+  u = by_itself a rec files sent
 
   -- nothing is sent
   silent : (instances : List Instance) (here there : List EventAnswer)
@@ -62,11 +56,7 @@ module _ (a : World) (rec : Record) (files : List File) (sent : List Sent) where
     next = record u { instances = instances; answers = here };
     is = refl;
     alike = ap (twin (record a { rec = rec; instances = instances }) files) (sym (append-nil sent));
-    owners = refl;
-    taken = refl;
-    container_done = refl;
-    counted = refl;
-    hostile = refl;
+    stays = refl;
   }
 
   -- one message is sent
@@ -79,11 +69,7 @@ module _ (a : World) (rec : Record) (files : List File) (sent : List Sent) where
     next = record u { instances = instances; stock = stock; sent = sent ++ x ∷ []; answers = here; server_done = own };
     is = refl;
     alike = ap (λ d. twin (record a { rec = rec; instances = instances; stock = stock; server_done = d }) files (sent ++ x ∷ [])) e;
-    owners = refl;
-    taken = refl;
-    container_done = refl;
-    counted = refl;
-    hostile = refl;
+    stays = refl;
   }
 
   counted_same : (inc : ℕ) (c : Option Counted) → counted_by u inc c ≡ counted_by a inc c
@@ -118,30 +104,32 @@ module _ (a : World) (rec : Record) (files : List File) (sent : List Sent) where
     follows_called None v e = subst (Follows a rec files sent (called u s inc act n op None)) (ok_is _ v e) (silent a.instances _ _)
     follows_called (Some i) v e = follows_called_in i i.life v e
 
-  -- A delivery. The message has another place among those of the run.
-  follows_taken : (told : Result World Stop) (v : World) → Follows a rec files sent told v → Follows a rec files sent (with_taken u [] told) v
+  -- A delivery of a call. It has another place among the messages of the run.
+  follows_taken : (told : Result World Stop) (v : World) → Follows a rec files sent told v → Follows a rec files sent (with_taken u [] told) (record v { taken = a.taken ++ [] })
   follows_taken told v f = record {
     more = f.more;
     grown = f.grown;
     next = record f.next { taken = [] };
     is = ap (with_taken u []) f.is;
     alike = f.alike;
-    owners = f.owners;
-    taken = f.taken;
-    container_done = f.container_done;
-    counted = f.counted;
-    hostile = f.hostile;
+    stays = ap (λ ts. record (left_of a v) { taken = ts }) (sym (append-nil a.taken)) ∙ ap (λ (y : World). record y { taken = a.taken ++ [] }) f.stays;
   }
 
-  follows_again : (q : ℕ) (m : Message) (said : Said) (v : World) → called_again a m said ≡ Ok v
+  follows_said : (p q : ℕ) (m : Message) (said : Said) (v : World) → session_of_call a.rec.session m said ≢ a.rec.session
+      → with_taken a (taken_said a.rec (Some p) (link_of m) m said) (delivered_said a m said) ≡ Ok v
       → Follows a rec files sent (with_taken u (taken_said rec (Some q) (link_of m) m said) (delivered_said u m said)) v
-  follows_again q m (Call inc act n op) v e = follows_taken (called u m.session inc act n op (nth a.instances inc)) v (follows_called m.session inc act n op (nth a.instances inc) v e)
-  follows_again q m (Reply inc act n answer) v e = cc
-  follows_again q m (Write inc act s number content) v e = cc
-  follows_again q m (Ask inc act g) v e = cc
+  follows_said p q m (Call inc act n op) v apart e =
+      let i = nth a.instances inc in
+      let k = logged_is a [] (called a m.session inc act n op i) v e in
+      subst (Follows a rec files sent (with_taken u [] (called u m.session inc act n op i))) k.2
+      (follows_taken (called u m.session inc act n op i) k.0 (follows_called m.session inc act n op i k.0 k.1))
+  follows_said p q m (Reply inc act n answer) v apart e = absurd (apart refl)
+  follows_said p q m (Write inc act s number content) v apart e = absurd (apart refl)
+  follows_said p q m (Ask inc act g) v apart e = absurd (apart refl)
 
-  pub follows_delivered : (q : ℕ) (x : Sent) (v : World) → nth sent q ≡ Some x → called_again a x.message x.message.said ≡ Ok v → Follows a rec files sent (deliver u q (nth sent q)) v
-  follows_delivered q x v at e = subst (λ y. Follows a rec files sent (deliver u q y) v) (sym at) (follows_again q x.message x.message.said v e)
+  pub follows_delivered : (p q : ℕ) (x : Sent) (v : World) → nth sent q ≡ Some x → session_at a.rec.session (Some x) ≢ a.rec.session → deliver a p (Some x) ≡ Ok v
+      → Follows a rec files sent (deliver u q (nth sent q)) v
+  follows_delivered p q x v at apart e = subst (λ y. Follows a rec files sent (deliver u q y) v) (sym at) (follows_said p q x.message x.message.said v apart e)
 
   -- a server crashes
   follows_crashed : (inc : ℕ) (i : Instance) (life : Life) (v : World) → crashed a inc i life ≡ Ok v → Follows a rec files sent (crashed u inc i life) v
@@ -176,21 +164,9 @@ module _ (a : World) (rec : Record) (files : List File) (sent : List Sent) where
   pub follows_here : (told : Result World Stop) (v : World) → Follows a rec files sent told v → Follows a rec files sent (in_run u rec.session told) v
   follows_here told v f = subst (λ r. Follows a rec files sent r v) (sym (in_run_here u rec.session told (same_number rec.session))) f
 
--- only calls are delivered
-own_call : (a : World) (present s : ℕ) (m : Message) (said : Said) (v : World) → session_of_call present m said ≡ s → called_again a m said ≡ Ok v → m.session ≡ s
-own_call a present s m (Call inc act n op) v own e = own
-own_call a present s m (Reply inc act n answer) v own e = cc
-own_call a present s m (Write inc act k number content) v own e = cc
-own_call a present s m (Ask inc act g) v own e = cc
-
--- a call of a session, at its place among the messages of the session
-pub record IsOwnCall (a : World) (s : ℕ) (sent : List Sent) (v : World) : Type 0 where
-  pub place : ℕ
-  pub entry : Sent
-  pub at : nth (sent_in s sent) place ≡ Some entry
-  pub made : called_again a entry.message entry.message.said ≡ Ok v
-
-pub own_at : (a : World) (present s : ℕ) (sent : List Sent) (p : ℕ) (x : Option Sent) (v : World) → nth sent p ≡ x
-    → session_at present x ≡ s → delivered_again a x ≡ Ok v → IsOwnCall a s sent v
-own_at a present s sent p None v at own e = cc
-own_at a present s sent p (Some x) v at own e = (let k = place_in s sent p x at (own_call a present s x.message x.message.said v own e) in record { place = k.0; entry = x; at = k.1; made = e })
+-- what is of another session than the present one is a call of that session
+pub own_call : (present s : ℕ) (m : Message) (said : Said) → session_of_call present m said ≡ s → s ≢ present → m.session ≡ s
+own_call present s m (Call inc act n op) own apart = own
+own_call present s m (Reply inc act n answer) own apart = absurd (apart (sym own))
+own_call present s m (Write inc act k number content) own apart = absurd (apart (sym own))
+own_call present s m (Ask inc act g) own apart = absurd (apart (sym own))

@@ -55,7 +55,7 @@ use Rattle.story_safety.specs.Holding.{mirror, sent_in}
 use Rattle.story_safety.specs.Steps.{Counts, CountsBy, CountsNone, Goes, IsInputOf, KeepsFirst, Steps, made_by, rec_stays, rec_steps, twin}
 use Rattle.story_safety.proofs.Elsewhere.{reset}
 use Rattle.story_safety.proofs.Members.{place_in, sent_among}
-use Rattle.story_safety.proofs.Twins.{Both, landed, ok_is, taken_placed, twins_ask, twins_commanded, twins_crash, twins_delivered, twins_done, twins_only, twins_reap, twins_run, twins_scribble, twins_took}
+use Rattle.story_safety.proofs.Twins.{Both, landed, logged_is, ok_is, taken_placed, twins_ask, twins_commanded, twins_crash, twins_delivered, twins_done, twins_only, twins_reap, twins_run, twins_scribble, twins_took}
 
 -- ---- the record and the files after an event
 
@@ -340,11 +340,7 @@ stale_is w p m (Reply inc act n answer) v apart is ok = (let k = stale w.rec m a
 stale_is w p m (Write inc act s n content) v apart is ok = (let k = stale w.rec m apart in (k.0, refused_is w p inc act (on_message w.rec (link_of m) m) k.0 v k.1 ok))
 stale_is w p m (Ask inc act g) v apart is ok = (let k = stale w.rec m apart in (k.0, refused_is w p inc act (on_message w.rec (link_of m) m) k.0 v k.1 ok))
 
--- ---- what is made of a message, and the log of what was taken with it
-logged_is : (w : World) (more : List Taken) (told : Result World Stop) (v : World) → with_taken w more told ≡ Ok v → (a : World) × (told ≡ Ok a) × (record a { taken = w.taken ++ more } ≡ v)
-logged_is w more (Err stop) v ok = cc
-logged_is w more (Ok a) v ok = (a, refl, ok_is _ v ok)
-
+-- ---- what is made of a message
 deliver_is : (w : World) (p : ℕ) (x : Option Sent) (v : World) → deliver w p x ≡ Ok v
     → (y : Sent) × (x ≡ Some y) × (with_taken w (taken_at w.rec (Some p) (link_of y.message) y.message) (delivered w y.message) ≡ Ok v)
 deliver_is w p None v ok = cc

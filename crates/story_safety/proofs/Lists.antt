@@ -2,12 +2,21 @@
 use Rattle.std.proofs.Common.{◌≡◌, ◌≢◌, ◌<◌, ◌≤◌, ◌==◌, ◌⊎◌, ◌++◌, ℕ, zero, suc, Bool, true, false, List, [], ◌∷◌, Option, Some, None, refl, sym, ap, ◌∙◌, subst, inl, inr, arith, if◌then◌else◌, slice_get}
 use Rattle.std.proofs.lemmas.Bool.Decides.{eqb_tells}
 use Rattle.wire_msgs.specs.Found.{find, nth, put}
+use Rattle.world_facts.proofs.Lookups.{among_join}
 use Rattle.wire_msgs.specs.declared.message.Message.{Message}
 use Rattle.world_model.specs.declared.logs.Sent.{Sent}
 use Rattle.world_model.specs.Safe.{Among, messages}
 use Rattle.story_model.specs.SafeStory.{AreRising}
 use Rattle.story_model.specs.Story.{Epoch, is_session}
 use Rattle.story_safety.proofs.SafeRuns.{rising_above}
+
+-- one of these, or the last one
+pub each_run : (P : Epoch → Type 0) (past : List Epoch) (now : Epoch) → ((x : Epoch) → Among past x → P x) → P now → (x : Epoch) → Among (past ++ now ∷ []) x → P x
+each_run P past now before here x g = elim (among_join past (now ∷ []) x g) [ inl old ↦ before x old | inr new ↦ last new ]
+  where
+    last : Among (now ∷ []) x → P x
+    last (inl q) = subst P (sym q) here
+    last (inr z) = absurd z
 
 -- the one that is found
 pub found_session : (n : ℕ) (es : List Epoch) (e : Epoch) → find (is_session n) es ≡ Some e → Among es e × (e.session ≡ n)
@@ -29,12 +38,16 @@ put_later : (n : ℕ) (a x : Epoch) (es : List Epoch) (e : Epoch) → x.session 
 put_later n a x es e apart rest (inl q) = inr (inl q, λ same. apart (ap (λ (y : Epoch). y.session) (sym q) ∙ same))
 put_later n a x es e apart rest (inr k) = elim (rest k) [ inl q ↦ inl q | inr p ↦ inr (inr p.0, p.1) ]
 
-pub put_members : (n last : ℕ) (a : Epoch) (es : List Epoch) (e : Epoch) → AreRising last es → Among (put (is_session n) a es) e → (e ≡ a) ⊎ (Among es e × (e.session ≢ n))
+put_members : (n last : ℕ) (a : Epoch) (es : List Epoch) (e : Epoch) → AreRising last es → Among (put (is_session n) a es) e → (e ≡ a) ⊎ (Among es e × (e.session ≢ n))
 put_members n last a [] e r g = absurd g
 put_members n last a (x ∷ es) e r g = elim (eqb_tells x.session n) [
   | inl t ↦ put_first n last a x es e r t.1 (subst (λ b. Among (Put n a x es b) e) t.0 g)
   | inr t ↦ put_later n a x es e t.1 (λ k. put_members n x.session a es e r.1 k) (subst (λ b. Among (Put n a x es b) e) t.0 g)
 ]
+
+pub put_each : (P : Epoch → Type 0) (n last : ℕ) (a : Epoch) (es : List Epoch) → AreRising last es → P a → ((x : Epoch) → Among es x → x.session ≢ n → P x)
+    → (x : Epoch) → Among (put (is_session n) a es) x → P x
+put_each P n last a es r here others x g = elim (put_members n last a es x r g) [ inl q ↦ subst P (sym q) here | inr q ↦ others x q.0 q.1 ]
 
 -- the sessions are as they were
 pub put_rises : (n last : ℕ) (a : Epoch) (es : List Epoch) → a.session ≡ n → AreRising last es → AreRising last (put (is_session n) a es)

@@ -59,11 +59,11 @@ module _ (s : Story) (h : Sound s) where
   ]
 
   run_here : SafeRun s.now (epoch_of s.now) commits_now
-  run_here = run_safe s.now (epoch_of s.now) s.now.rec h.mine refl h.now (λ t g honest. h.granted (epoch_of s.now) t (here s h) g honest)
+  run_here = run_safe s.now (epoch_of s.now) s.now.rec h.mine refl h.now (h.granted (epoch_of s.now) (here s h))
 
   run_there : (e : Epoch) → Among s.past e → SafeRun s.now e (earlier_commits e.session)
   run_there e g = past_each s.now h.records h.archive 0 s.past h.past h.rising (λ x cs. SafeRun s.now x cs)
-      (λ x k. run_safe s.now x (h.records x.session) (h.archive x.session) (h.past x k).session (h.past x k).holds (λ t a honest. h.granted x t (old s h x k) a honest)) e g
+      (λ x k. run_safe s.now x (h.records x.session) (h.archive x.session) (h.past x k).session (h.past x k).holds (h.granted x (old s h x k))) e g
 
   run : (e : Epoch) → Among (epochs s) e → SafeRun s.now e (commits e.session)
   run e g = elim (which s h e g) [

@@ -9,7 +9,7 @@ use Rattle.container_model.specs.Record.{Record, Took, empty}
 use Rattle.container_model.specs.Saves.{commit_made, session_after}
 use Rattle.container_model.specs.declared.record.Frame.{Frame}
 use Rattle.container_numbers.specs.Sessions.{InSession, MayRaise}
-use Rattle.world_facts.proofs.Lookups.{among_join, among_new, among_old}
+use Rattle.world_facts.proofs.Lookups.{among_new, among_old}
 use Rattle.world_files.specs.Files.{MakesImage}
 use Rattle.world_files.proofs.Kept.{images_make}
 use Rattle.world_model.specs.declared.event.Event.{Event}
@@ -27,13 +27,13 @@ use Rattle.story_model.specs.declared.moment.Moment.{Moment}
 use Rattle.story_model.specs.declared.moment.Moment.TheVariants as moment
 use Rattle.story_model.specs.SafeStory.{AreOf, AreRising, IsGrantedIn, is_kept}
 use Rattle.story_model.specs.Story.{AreImages, Chosen, Epoch, Story, Tells, as_of, begun, committed_by, document_by, earlier, empty_story, epoch_of, epochs, follow, followed, goes_on, is_among, is_session, kept_by, left_by, made_name, may_begin, may_stop, pass, passed, past_by, present, rested, session_of, stopped, within, without}
-use Rattle.story_safety.specs.Holding.{CountsSession, DocumentStands, HasDocument, HoldsPast, IsFrom, IsOfRuns, IsSaved, IsThere, Sound, mirror, mirror_of, sent_in}
+use Rattle.story_safety.specs.Holding.{AreGranted, CountsSession, DocumentStands, HasDocument, HoldsPast, IsFrom, IsOfRuns, IsSaved, IsThere, Sound, mirror, mirror_of, sent_in}
 use Rattle.story_safety.specs.Steps.{Counts, Goes, HasGoneOn, Steps, made_by, put_committed, rec_stays, rec_steps, twin}
 use Rattle.story_safety.proofs.Documents.{document_follows, done_counts, kept_counts, none_made_follows, unraised_follows}
 use Rattle.story_safety.proofs.Elsewhere.{begun_held, elsewhere_now, elsewhere_past, granted_grows, over, sent_grows}
 use Rattle.story_safety.proofs.Going.{goes, steps}
 use Rattle.story_safety.proofs.GoingOn.{goes_on_held}
-use Rattle.story_safety.proofs.Lists.{found_session, none_sent, placed_among, put_keeps, put_members, put_rises, put_there, rising_more}
+use Rattle.story_safety.proofs.Lists.{each_run, found_session, none_sent, placed_among, put_each, put_keeps, put_rises, put_there, rising_more}
 use Rattle.story_safety.proofs.Members.{in_all, in_append, in_none}
 use Rattle.story_safety.proofs.SafeRuns.{rising_above}
 use Rattle.story_safety.proofs.StoryFiles.{ComeFrom, MineThere, files_made, past_more, past_present, stop_files}
@@ -44,11 +44,7 @@ use Rattle.container_frames.proofs.Steps.{steps_move_frames}
 module _ (s : Story) (h : Sound s) where
   -- each run is an earlier one, or the present one
   pub which : (e : Epoch) → Among (epochs s) e → Among s.past e ⊎ (e ≡ epoch_of s.now)
-  which e g = elim (among_join s.past (epoch_of s.now ∷ []) e g) [ inl k ↦ inl k | inr k ↦ last k ]
-    where
-      last : Among (epoch_of s.now ∷ []) e → Among s.past e ⊎ (e ≡ epoch_of s.now)
-      last (inl q) = inr q
-      last (inr z) = absurd z
+  which = each_run (λ x. Among s.past x ⊎ (x ≡ epoch_of s.now)) s.past (epoch_of s.now) (λ x k. inl k) (inr refl)
 
   pub old : (e : Epoch) → Among s.past e → Among (epochs s) e
   old e g = among_old s.past (epoch_of s.now ∷ []) e g
@@ -172,7 +168,7 @@ module _ (s : Story) (h : Sound s) (choice : Choice) (e : Event) (v : World) (k 
 
   granted_now : (t : Taken) → Among v.taken t → IsHonest v.hostile t.inc → IsGrantedIn v s.now.rec.session t
   granted_now t a honest = elim (k.granted t a honest) [
-    | inl o ↦ granted_grows s.now v k.more s.now.rec.session t k.sent (h.granted (epoch_of s.now) t (here s h) o.0 o.1)
+    | inl o ↦ granted_grows s.now v k.more s.now.rec.session t k.sent (h.granted (epoch_of s.now) (here s h) t o.0 o.1)
     | inr new ↦ new
   ]
 
@@ -190,15 +186,9 @@ module _ (s : Story) (h : Sound s) (choice : Choice) (e : Event) (v : World) (k 
             | inr new ↦ (k.of g.granted.message new).1 nil
           ]
 
-  granted_at : (x : Epoch) (t : Taken) → Among (s.past ++ epoch_of v ∷ []) x → Among x.taken t → IsHonest x.hostile t.inc → IsGrantedIn v x.session t
-  granted_at x t g a honest = elim (among_join s.past (epoch_of v ∷ []) x g) [
-    | inl p ↦ granted_grows s.now v k.more x.session t k.sent (h.granted x t (old s h x p) a honest)
-    | inr q ↦ last q
-  ]
-    where
-      last : Among (epoch_of v ∷ []) x → IsGrantedIn v x.session t
-      last (inl q) = subst (λ (y : Epoch). Among y.taken t → IsHonest y.hostile t.inc → IsGrantedIn v y.session t) (sym q) (λ b clean. granted_later t (granted_now t b clean)) a honest
-      last (inr z) = absurd z
+  granted_at : (x : Epoch) → Among (s.past ++ epoch_of v ∷ []) x → AreGranted v x
+  granted_at = each_run (AreGranted v) s.past (epoch_of v) (λ x p t a honest. granted_grows s.now v k.more x.session t k.sent (h.granted x (old s h x p) t a honest))
+      (λ t a honest. granted_later t (granted_now t a honest))
 
   pub goes_sound : (document : Option (List ℕ)) (kept : List (List ℕ)) → AreUnraised v.rec → (v.rec.session ≡ 0 → made_by s.now choice e h.mine ≡ [])
       → ((name : List ℕ) (file : File) → IsThere (made_by s.now choice e h.mine) name file → IsThere v.files name file × (is_kept name kept ≡ false))
@@ -324,7 +314,7 @@ module _ (s : Story) (h : Sound s) (e : Epoch) (v : World) (g : Among s.past e) 
     session = p.session;
     numbers = p.numbers;
     raised = p.raised;
-    bears = subst (λ ds. CountsSession ds e.session) (sym k.counted) p.bears;
+    bears = subst (λ (y : World). CountsSession y.counted e.session) k.stays p.bears;
     holds = subst (λ xs. Holds (twin (record v { rec = h.records e.session }) (h.archive e.session) xs)) (sym log) k.holds;
   })
     where
@@ -332,10 +322,8 @@ module _ (s : Story) (h : Sound s) (e : Epoch) (v : World) (g : Among s.past e) 
       log = ap (sent_in e.session) k.sent ∙ (in_append e.session s.now.sent k.more ∙ ap (λ xs. sent_in e.session s.now.sent ++ xs) (in_all e.session k.more k.of))
 
   held_past : (x : Epoch) → Among past x → HoldsPast now x (h.records x.session) (h.archive x.session)
-  held_past x a = elim (put_members e.session 0 after s.past x h.rising a) [
-    | inl q ↦ subst (λ (y : Epoch). HoldsPast now y (h.records y.session) (h.archive y.session)) (sym q) held_after
-    | inr p ↦ elsewhere_past s.now now x (h.records x.session) (h.archive x.session) k.more refl k.sent (λ m b same. p.1 (sym same ∙ k.of m b)) (h.past x p.0)
-  ]
+  held_past = put_each (λ x. HoldsPast now x (h.records x.session) (h.archive x.session)) e.session 0 after s.past h.rising held_after
+      (λ x a apart. elsewhere_past s.now now x (h.records x.session) (h.archive x.session) k.more refl k.sent (λ m b same. apart (sym same ∙ k.of m b)) (h.past x a))
 
   -- a run stays, as far as its session goes
   still : (x : Epoch) → Among (epochs s) x → (y : Epoch) × Among (past ++ epoch_of now ∷ []) y × (y.session ≡ x.session)
@@ -345,18 +333,11 @@ module _ (s : Story) (h : Sound s) (e : Epoch) (v : World) (g : Among s.past e) 
   ]
 
   -- and was one
-  was : (x : Epoch) → Among (past ++ epoch_of now ∷ []) x → (y : Epoch) × Among (epochs s) y × (y.session ≡ x.session)
-  was x a = elim (among_join past (epoch_of now ∷ []) x a) [ inl p ↦ of_past p | inr q ↦ of_now q ]
-    where
-      of_past : Among past x → (y : Epoch) × Among (epochs s) y × (y.session ≡ x.session)
-      of_past p = elim (put_members e.session 0 after s.past x h.rising p) [
-        | inl q ↦ (e, old s h e g, ap (λ (y : Epoch). y.session) (sym q))
-        | inr q ↦ (x, old s h x q.0, refl)
-      ]
+  abbrev Was : Epoch → Type 0
+  Was x = (y : Epoch) × Among (epochs s) y × (y.session ≡ x.session)
 
-      of_now : Among (epoch_of now ∷ []) x → (y : Epoch) × Among (epochs s) y × (y.session ≡ x.session)
-      of_now (inl q) = (epoch_of s.now, here s h, ap (λ (y : Epoch). y.session) (sym q))
-      of_now (inr z) = absurd z
+  was : (x : Epoch) → Among (past ++ epoch_of now ∷ []) x → Was x
+  was = each_run Was past (epoch_of now) (put_each Was e.session 0 after s.past h.rising (e, old s h e g, refl) (λ x a apart. (x, old s h x a, refl))) (epoch_of s.now, here s h, refl)
 
   run_of : (m : Message) → WasSent now m → (x : Epoch) × Among (past ++ epoch_of now ∷ []) x × (m.session ≡ x.session) × (x.session ≢ 0)
   run_of m a = elim (sent_grows s.now now k.more k.sent m a) [
@@ -364,24 +345,16 @@ module _ (s : Story) (h : Sound s) (e : Epoch) (v : World) (g : Among s.past e) 
     | inr n ↦ (after, among_old past (epoch_of now ∷ []) after (put_there e.session after s.past e found), k.of m n, (h.past e g).raised)
   ]
 
-  granted_in : (x : Epoch) (t : Taken) → Among (epochs s) x → Among x.taken t → IsHonest x.hostile t.inc → IsGrantedIn now x.session t
-  granted_in x t a b honest = granted_grows s.now now k.more x.session t k.sent (h.granted x t a b honest)
+  granted_in : (x : Epoch) → Among (epochs s) x → AreGranted now x
+  granted_in x a t b honest = granted_grows s.now now k.more x.session t k.sent (h.granted x a t b honest)
 
-  granted_after : (t : Taken) → Among v.taken t → IsHonest v.hostile t.inc → IsGrantedIn now e.session t
-  granted_after t b honest = granted_in e t (old s h e g) (subst (λ ts. Among ts t) k.taken b) (subst (λ hs. IsHonest hs t.inc) k.hostile honest)
+  granted_after : AreGranted now after
+  granted_after t b honest =
+      granted_in e (old s h e g) t (subst (λ (y : World). Among y.taken t) (sym k.stays) b) (subst (λ (y : World). IsHonest y.hostile t.inc) (sym k.stays) honest)
 
-  granted_past : (x : Epoch) (t : Taken) → Among (past ++ epoch_of now ∷ []) x → Among x.taken t → IsHonest x.hostile t.inc → IsGrantedIn now x.session t
-  granted_past x t a b honest = elim (among_join past (epoch_of now ∷ []) x a) [ inl p ↦ of_past p | inr q ↦ of_now q ]
-    where
-      of_past : Among past x → IsGrantedIn now x.session t
-      of_past p = elim (put_members e.session 0 after s.past x h.rising p) [
-        | inl q ↦ subst (λ (y : Epoch). Among y.taken t → IsHonest y.hostile t.inc → IsGrantedIn now y.session t) (sym q) (granted_after t) b honest
-        | inr q ↦ granted_in x t (old s h x q.0) b honest
-      ]
-
-      of_now : Among (epoch_of now ∷ []) x → IsGrantedIn now x.session t
-      of_now (inl q) = subst (λ (y : Epoch). Among y.taken t → IsHonest y.hostile t.inc → IsGrantedIn now y.session t) (sym q) (granted_in (epoch_of s.now) t (here s h)) b honest
-      of_now (inr z) = absurd z
+  granted_past : (x : Epoch) → Among (past ++ epoch_of now ∷ []) x → AreGranted now x
+  granted_past = each_run (AreGranted now) past (epoch_of now) (put_each (AreGranted now) e.session 0 after s.past h.rising granted_after (λ x a apart. granted_in x (old s h x a)))
+      (granted_in (epoch_of s.now) (here s h))
 
   from_past : (name : List ℕ) (file : File) → IsOfRuns h.mine s.past h.archive name file → IsOfRuns h.mine past h.archive name file
   from_past name file (inl own) = inl own
@@ -409,17 +382,14 @@ module _ (s : Story) (h : Sound s) (e : Epoch) (v : World) (g : Among s.past e) 
   }
 
   above_still : (x : Epoch) → Among past x → s.now.rec.session ≢ 0 → x.session < s.now.rec.session
-  above_still x a there = elim (put_members e.session 0 after s.past x h.rising a) [
-    | inl q ↦ subst (λ (y : Epoch). y.session < s.now.rec.session) (sym q) (h.above e g there)
-    | inr q ↦ h.above x q.0 there
-  ]
+  above_still x a there = put_each (λ y. y.session < s.now.rec.session) e.session 0 after s.past h.rising (h.above e g there) (λ y b apart. h.above y b there) x a
 
   pub earlier_sound : Sound next
   earlier_sound = record {
     mine = h.mine;
     records = h.records;
     archive = h.archive;
-    now = elsewhere_now s.now now h.mine k.more refl refl refl refl refl refl refl k.sent not_here h.now;
+    now = elsewhere_now s.now now h.mine k.more refl k.sent not_here h.now;
     past = held_past;
     rising = put_rises e.session 0 after s.past refl h.rising;
     above = above_still;
@@ -494,18 +464,12 @@ module _ (s : Story) (h : Sound s) (images : ℕ → List ℕ) (fs : List ℕ) (
     | inr q ↦ subst (Among (past_by s.now s.past)) (sym q) (past_present s.now s.past (λ z. there (ap (λ (y : Epoch). y.session) q ∙ z)))
   ]
 
-  granted_left : (e : Epoch) (t : Taken) → Among (past_by s.now s.past ++ epoch_of rests ∷ []) e → Among e.taken t → IsHonest e.hostile t.inc → IsGrantedIn rests e.session t
-  granted_left e t a b honest = elim (among_join (past_by s.now s.past) (epoch_of rests ∷ []) e a) [ inl p ↦ of_left p | inr q ↦ of_now q ]
-    where
-      was : Among (past_by s.now s.past) e → Among (epochs s) e
-      was p = elim (left_of e p) [ inl o ↦ old s h e o | inr n ↦ subst (Among (epochs s)) (sym n.1) (here s h) ]
+  was_known : (e : Epoch) → Among (past_by s.now s.past) e → Among (epochs s) e
+  was_known e p = elim (left_of e p) [ inl o ↦ old s h e o | inr n ↦ subst (Among (epochs s)) (sym n.1) (here s h) ]
 
-      of_left : Among (past_by s.now s.past) e → IsGrantedIn rests e.session t
-      of_left p = granted_grows s.now rests [] e.session t sent_same (h.granted e t (was p) b honest)
-
-      of_now : Among (epoch_of rests ∷ []) e → IsGrantedIn rests e.session t
-      of_now (inl q) = absurd (subst (λ (y : Epoch). Among y.taken t) q b)
-      of_now (inr z) = absurd z
+  granted_left : (e : Epoch) → Among (past_by s.now s.past ++ epoch_of rests ∷ []) e → AreGranted rests e
+  granted_left = each_run (AreGranted rests) (past_by s.now s.past) (epoch_of rests)
+      (λ x p t b honest. granted_grows s.now rests [] x.session t sent_same (h.granted x (was_known x p) t b honest)) (λ t b. absurd b)
 
   no_frame : {B : Type 0} (f : ℕ) (frame : Frame) → nth {A = Frame} [] f ≡ Some frame → B
   no_frame zero frame at = cc
@@ -518,7 +482,7 @@ module _ (s : Story) (h : Sound s) (images : ℕ → List ℕ) (fs : List ℕ) (
         mine = [];
         records = records;
         archive = archive;
-        now = begun_held s.now.rec.numbers s.now refl (unsent s h);
+        now = begun_held s.now (unsent s h);
         past = held_left;
         rising = rises;
         above = λ e a there. absurd (there refl);
@@ -604,7 +568,7 @@ empty_sound numbers stock = record {
   unraised = λ f frame at. none f frame at;
   none_made = λ z. refl;
   of_runs = λ m a. absurd a;
-  granted = λ e t g a honest. granted_none e t g a;
+  granted = granted_none;
   mine_there = λ name file a. cc;
   files = λ name file a. cc;
   document = (refl, refl);
@@ -614,6 +578,5 @@ empty_sound numbers stock = record {
     none zero frame at = cc
     none (suc i) frame at = cc
 
-    granted_none : {B : Type 0} (e : Epoch) (t : Taken) → Among (epochs (empty_story numbers stock)) e → Among e.taken t → B
-    granted_none e t (inl q) a = absurd (subst (λ (y : Epoch). Among y.taken t) q a)
-    granted_none e t (inr z) a = absurd z
+    granted_none : (e : Epoch) → Among (epochs (empty_story numbers stock)) e → AreGranted (empty_story numbers stock).now e
+    granted_none = each_run (AreGranted (empty_story numbers stock).now) [] (epoch_of (empty_story numbers stock).now) (λ x g. absurd g) (λ t a. absurd a)

@@ -10,12 +10,13 @@ use Rattle.world_model.specs.declared.event.Stop.TheVariants.{NotEnabled}
 use Rattle.world_model.specs.declared.logs.File.{File}
 use Rattle.world_model.specs.Safe.{Among}
 use Rattle.world_model.specs.World.{IsImageOf, World, file_bytes, file_of, is_file, put_file}
-use Rattle.world_facts.proofs.Lookups.{among_join, among_old}
+use Rattle.world_facts.proofs.Lookups.{among_old}
 use Rattle.world_files.specs.Files.{Apart, Bears}
 use Rattle.story_model.specs.SafeStory.{AreOf, IsStopped}
 use Rattle.story_model.specs.Story.{AreImages, Chosen, Epoch, Story, document_by, epoch_of, epochs, is_among, made_name, may_stop, passed, past_by, put_kept, stopped}
 use Rattle.story_model.specs.declared.moment.Moment.TheVariants as moment
 use Rattle.story_safety.specs.Holding.{DocumentStands, HasDocument}
+use Rattle.story_safety.proofs.Lists.{each_run}
 use Rattle.story_safety.proofs.StoryFiles.{bears_made, found_other, found_put, image_frame, image_session, images_saved}
 
 -- ---- the files that it keeps, the first of the frames of number n
@@ -85,10 +86,6 @@ is_stopped s fs choice next apart are e =
     })
 
 -- ---- the session document
-pub among_one : {A : Type 0} (y x : A) → Among (y ∷ []) x → x ≡ y
-among_one y x (inl e) = e
-among_one y x (inr h) = absurd h
-
 pub first_there : (frames : List Frame) (f : ℕ) (frame : Frame) → nth frames f ≡ Some frame → (x : Frame) × (nth frames 1 ≡ Some x)
 first_there frames zero frame at = cc
 first_there [] (suc i) frame at = cc
@@ -97,11 +94,9 @@ first_there (x ∷ xs) (suc i) frame at = (x, refl)
 -- frame 1 has at least the session of each run, and a save of it no lesser one
 pub document_above : (s : Story) (document : Option (List ℕ)) (frame : Frame) → DocumentStands s document → nth s.now.rec.frames 1 ≡ Some frame → (e : Epoch) → Among (epochs s) e
     → e.session ≤ frame.session
-document_above s None frame d at e g = elim (among_join s.past (epoch_of s.now ∷ []) e g) [
-  | inl old ↦ absurd (subst (λ (xs : List Epoch). Among xs e) d.0 old)
-  | inr new ↦ (let a : e.session ≡ s.now.rec.session = ap (λ (x : Epoch). x.session) (among_one (epoch_of s.now) e new) in let b : s.now.rec.session ≡ 0 = d.1 in omega arith)
-]
-document_above s (Some name) frame d at e g = (let a : e.session ≤ d.saved.session = d.above e g in let b : frame.session ≡ d.saved.session = (d.framed frame at).1 in omega arith)
+document_above s None frame d at = each_run (λ x. x.session ≤ frame.session) s.past (epoch_of s.now) (λ x old. absurd (subst (λ xs. Among xs x) d.0 old))
+    (let b : s.now.rec.session ≡ 0 = d.1 in let le : s.now.rec.session ≤ frame.session = omega arith in le)
+document_above s (Some name) frame d at = λ e g. (let a : e.session ≤ d.saved.session = d.above e g in let b : frame.session ≡ d.saved.session = (d.framed frame at).1 in omega arith)
 
 pub raises : (session f : ℕ) (frame : Frame) (raised : Option ℕ) → MayRaise session f frame raised → frame.session ≤ session_after frame.session raised
 raises session f frame None h = omega arith
@@ -121,10 +116,7 @@ module _ (s : Story) (fs : List ℕ) (images : ℕ → List ℕ) where
   after = stopped s images fs
 
   above_stopped : (n : ℕ) → ((e : Epoch) → Among (epochs s) e → e.session ≤ n) → (e : Epoch) → Among (epochs (stopped s images fs)) e → e.session ≤ n
-  above_stopped n h e g = elim (among_join (past_by s.now s.past) (epoch_of after.now ∷ []) e g) [
-    | inl old ↦ h e (past_known s.now s.past e old)
-    | inr new ↦ (let z : e.session ≡ 0 = ap (λ (x : Epoch). x.session) (among_one (epoch_of after.now) e new) in omega arith)
-  ]
+  above_stopped n h = each_run (λ x. x.session ≤ n) (past_by s.now s.past) (epoch_of after.now) (λ x old. h x (past_known s.now s.past x old)) (let le : 0 ≤ n = omega arith in le)
 
   none_framed : {A : Type 0} (frame : Frame) → nth after.now.rec.frames 1 ≡ Some frame → A
   none_framed frame at = (let z : ◌≡◌ {A = Option Frame} None (Some frame) = at in cc)

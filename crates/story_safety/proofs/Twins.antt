@@ -36,7 +36,7 @@ use Rattle.world_model.specs.declared.logs.File.{File}
 use Rattle.world_model.specs.declared.logs.Sent.{Sent}
 use Rattle.world_model.specs.declared.logs.ServerDone.{ServerDone}
 use Rattle.world_model.specs.declared.logs.Taken.{Taken}
-use Rattle.world_model.specs.World.{World, Instance, ask, called, called_in, called_wanting, commanded, counted_by, crash, crashed, delivered_said, done_imaged, done_in, done_taken, ended, in_run, in_session, is_of, link_of, messages_of, of_container, only_taken, put_file, reap, scribble, served, spoken, spoken_by, stocked, taken_at, taken_by, taken_link, taken_of, taken_said, took, view_in}
+use Rattle.world_model.specs.World.{World, Instance, ask, called, called_in, called_wanting, commanded, counted_by, crash, crashed, delivered_said, done_imaged, done_in, done_taken, ended, in_run, in_session, is_of, link_of, messages_of, of_container, only_taken, put_file, reap, scribble, served, spoken, spoken_by, stocked, taken_at, taken_by, taken_link, taken_of, taken_said, took, view_in, with_taken}
 use Rattle.world_model.specs.Safe.{Among, messages}
 use Rattle.world_facts.proofs.Lookups.{among_map, among_mapped}
 use Rattle.world_safety.specs.Holding.{Holds}
@@ -47,6 +47,11 @@ use Rattle.story_safety.specs.Steps.{put_committed, quieted, twin}
 
 pub ok_is : (x y : World) → ◌≡◌ {A = Result World Stop} (Ok x) (Ok y) → x ≡ y
 ok_is x y e = cc
+
+-- what is made of a message, and the log of what was taken with it
+pub logged_is : (w : World) (more : List Taken) (told : Result World Stop) (v : World) → with_taken w more told ≡ Ok v → (a : World) × (told ≡ Ok a) × (record a { taken = w.taken ++ more } ≡ v)
+logged_is w more (Err stop) v ok = cc
+logged_is w more (Ok a) v ok = (a, refl, ok_is _ v ok)
 
 -- ---- what is taken is the same wherever its message stands, but for the place
 

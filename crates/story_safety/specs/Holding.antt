@@ -70,6 +70,10 @@ abbrev pub DocumentStands : Story → Option (List ℕ) → Type 0
 DocumentStands s None = (s.past ≡ []) × (s.now.rec.session ≡ 0)
 DocumentStands s (Some name) = HasDocument s name
 
+-- each content that was taken of an honest server in a run was granted in it
+abbrev pub AreGranted : World → Epoch → Type 0
+AreGranted w e = (t : Taken) → Among e.taken t → IsHonest e.hostile t.inc → IsGrantedIn w e.session t
+
 pub record Sound (s : Story) : Type 0 where
   -- the files that were made in the present run, and what an earlier one had when it was stopped
   pub mine : List File
@@ -84,8 +88,7 @@ pub record Sound (s : Story) : Type 0 where
   pub none_made : s.now.rec.session ≡ 0 → mine ≡ []
   -- each message is of a run that raised its session
   pub of_runs : (m : Message) → WasSent s.now m → (e : Epoch) × Among (epochs s) e × (m.session ≡ e.session) × (e.session ≢ 0)
-  -- the contents that were taken of honest servers
-  pub granted : (e : Epoch) (t : Taken) → Among (epochs s) e → Among e.taken t → IsHonest e.hostile t.inc → IsGrantedIn s.now e.session t
+  pub granted : (e : Epoch) → Among (epochs s) e → AreGranted s.now e
   -- the files, those that were made in this run among them
   pub mine_there : (name : List ℕ) (file : File) → IsThere mine name file → IsThere s.now.files name file × (is_kept name s.kept ≡ false)
   pub files : (name : List ℕ) (file : File) → IsThere s.now.files name file → IsFrom s mine archive name file

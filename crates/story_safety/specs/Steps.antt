@@ -105,14 +105,14 @@ pub data Steps (w v : World) (choice : Choice) (e : Event) : Type 0 where
   rec_stays : CountsNone e → v.rec ≡ w.rec → KeepsFirst w v → Steps w v choice e
   rec_steps : (x : Input) (t : Took) → IsInputOf x choice e → on_input w.rec x ≡ Ok t → v.rec ≡ t.rec → CountsBy w v x → Steps w v choice e
 
+-- what goes on at a server leaves all else as it is
+abbrev pub left_of : World → World → World
+left_of w v = record w { instances = v.instances; stock = v.stock; sent = v.sent; answers = v.answers; server_done = v.server_done }
+
 -- An event at a server of an earlier run, as that run has it: the record and the files are as they were.
 pub record HasGoneOn (w : World) (e : Epoch) (v : World) (rec : Record) (files : List File) : Type 0 where
   pub more : List Sent
   pub sent : v.sent ≡ w.sent ++ more
   pub of : (m : Message) → Among (messages more) m → m.session ≡ e.session
-  pub owners : v.owners ≡ e.owners
-  pub taken : v.taken ≡ e.taken
-  pub container_done : v.container_done ≡ e.container_done
-  pub counted : v.counted ≡ e.counted
-  pub hostile : v.hostile ≡ e.hostile
+  pub stays : left_of (as_of w e) v ≡ v
   pub holds : Holds (twin (record v { rec = rec }) files (sent_in e.session w.sent ++ more))

@@ -19,28 +19,27 @@ use Rattle.world_model.specs.declared.life.Life.{Life}
 use Rattle.world_model.specs.declared.life.Life.TheVariants.{Running, Ended, Reaped}
 use Rattle.world_model.specs.declared.logs.Sent.{Sent}
 use Rattle.world_model.specs.World as world
-use Rattle.world_model.specs.World.{Instance, Refuses, World, ask, called, called_in, called_wanting, crash, crashed, deliver, delivered_said, in_session, is_of, limited, link_of, no_choice, served, spoken, spoken_by, step, stocked, taken_said, with_taken, without_first}
-use Rattle.story_model.specs.Story.{Epoch, RefusesMoment, Story, as_of, called_again, delivered_again, earlier, goes_on, is_session, session_at, session_of, session_of_call, within}
+use Rattle.world_model.specs.World.{Instance, Refuses, World, ask, called, called_in, called_wanting, crash, crashed, deliver, delivered_said, in_session, is_of, limited, link_of, served, spoken, spoken_by, stocked, taken_said, with_taken, without_first}
+use Rattle.story_model.specs.Story.{Epoch, RefusesMoment, Story, as_of, earlier, goes_on, is_session, session_at, session_of, session_of_call, within}
 use Rattle.world_run.specs.Passes.{left_at, swapped}
 use Rattle.world_run.proofs.Passing.{left, left_refused, left_taken, limited_ok}
 use Rattle.world_state.proofs.Servers.{seen_at}
 
--- ---- what happens at a server leaves the record, the files and what was taken
+-- ---- what happens at a server leaves the record and the files
 record Unmoved (w v : World) : Type 0 where
   pub rec : v.rec ≡ w.rec
   pub files : v.files ≡ w.files
-  pub taken : v.taken ≡ w.taken
 
 unmoved : (w u v : World) → Unmoved w u → ◌≡◌ {A = Result World Stop} (Ok u) (Ok v) → Unmoved w v
 unmoved w u v h e = (let is : u ≡ v = cc in subst (Unmoved w) is h)
 
 served_unmoved : (w : World) (s inc act n : ℕ) (i : Instance) (stock : List Kind) (told : Result Served ServerFault) → Unmoved w (served w s inc act n i stock told)
-served_unmoved w s inc act n i stock (Err fault) = record { rec = refl; files = refl; taken = refl }
-served_unmoved w s inc act n i stock (Ok x) = record { rec = refl; files = refl; taken = refl }
+served_unmoved w s inc act n i stock (Err fault) = record { rec = refl; files = refl }
+served_unmoved w s inc act n i stock (Ok x) = record { rec = refl; files = refl }
 
 spoken_unmoved : (w : World) (inc act : ℕ) (i : Instance) (told : Result Told ServerFault) → Unmoved w (spoken_by w inc act i told)
-spoken_unmoved w inc act i (Err fault) = record { rec = refl; files = refl; taken = refl }
-spoken_unmoved w inc act i (Ok x) = record { rec = refl; files = refl; taken = refl }
+spoken_unmoved w inc act i (Err fault) = record { rec = refl; files = refl }
+spoken_unmoved w inc act i (Ok x) = record { rec = refl; files = refl }
 
 module _ (w v : World) where
   stocked_leaves : (s inc act n : ℕ) (op : Operation) (i : Instance) (class : List ℕ) (kind : Option Kind) → stocked w s inc act n op i class kind ≡ Ok v → Unmoved w v
@@ -54,25 +53,31 @@ module _ (w v : World) where
 
   life_leaves : (s inc act n : ℕ) (op : Operation) (i : Instance) (life : Life) → called_in w s inc act n op i life ≡ Ok v → Unmoved w v
   life_leaves s inc act n op i Running e = wanting_leaves s inc act n op i (wanted i.core (in_session s (Call inc act n op))) e
-  life_leaves s inc act n op i Ended e = unmoved w _ v (record { rec = refl; files = refl; taken = refl }) e
-  life_leaves s inc act n op i Reaped e = unmoved w _ v (record { rec = refl; files = refl; taken = refl }) e
+  life_leaves s inc act n op i Ended e = unmoved w _ v (record { rec = refl; files = refl }) e
+  life_leaves s inc act n op i Reaped e = unmoved w _ v (record { rec = refl; files = refl }) e
 
   called_leaves : (s inc act n : ℕ) (op : Operation) (i : Option Instance) → called w s inc act n op i ≡ Ok v → Unmoved w v
-  called_leaves s inc act n op None e = unmoved w _ v (record { rec = refl; files = refl; taken = refl }) e
+  called_leaves s inc act n op None e = unmoved w _ v (record { rec = refl; files = refl }) e
   called_leaves s inc act n op (Some i) e = life_leaves s inc act n op i i.life e
 
-  said_leaves : (m : Message) (x : Said) → called_again w m x ≡ Ok v → Unmoved w v
-  said_leaves m (Call inc act n op) e = called_leaves m.session inc act n op (nth w.instances inc) e
-  said_leaves m (Reply inc act n answer) e = cc
-  said_leaves m (Write inc act s number content) e = cc
-  said_leaves m (Ask inc act g) e = cc
+module _ (w v : World) where
+  said_leaves : (p : ℕ) (m : Message) (x : Said) → (session_of_call w.rec.session m x ≡ w.rec.session → ⊥)
+      → with_taken w (taken_said w.rec (Some p) (link_of m) m x) (delivered_said w m x) ≡ Ok v → Unmoved w v
+  said_leaves p m (Call inc act n op) apart e = at (called w m.session inc act n op (nth w.instances inc)) (λ u is. called_leaves w u m.session inc act n op (nth w.instances inc) is) e
+    where
+      at : (r : Result World Stop) → ((u : World) → r ≡ Ok u → Unmoved w u) → with_taken w [] r ≡ Ok v → Unmoved w v
+      at (Err stop) h e = cc
+      at (Ok u) h e = (let k = h u refl in unmoved w (record u { taken = w.taken ++ [] }) v (record { rec = k.rec; files = k.files }) e)
+  said_leaves p m (Reply inc act n answer) apart e = absurd (apart refl)
+  said_leaves p m (Write inc act s number content) apart e = absurd (apart refl)
+  said_leaves p m (Ask inc act g) apart e = absurd (apart refl)
 
-  sent_leaves : (x : Option Sent) → delivered_again w x ≡ Ok v → Unmoved w v
-  sent_leaves None e = cc
-  sent_leaves (Some x) e = said_leaves x.message x.message.said e
+  sent_leaves : (p : ℕ) (x : Option Sent) → (session_at w.rec.session x ≡ w.rec.session → ⊥) → deliver w p x ≡ Ok v → Unmoved w v
+  sent_leaves p None apart e = cc
+  sent_leaves p (Some x) apart e = said_leaves p x.message x.message.said apart e
 
   crashed_leaves : (inc : ℕ) (i : Instance) (life : Life) → crashed w inc i life ≡ Ok v → Unmoved w v
-  crashed_leaves inc i Running e = unmoved w _ v (record { rec = refl; files = refl; taken = refl }) e
+  crashed_leaves inc i Running e = unmoved w _ v (record { rec = refl; files = refl }) e
   crashed_leaves inc i Ended e = cc
   crashed_leaves inc i Reaped e = cc
 
@@ -93,43 +98,19 @@ module _ (w v : World) where
   ask_leaves inc act None e = cc
   ask_leaves inc act (Some i) e = spoken_leaves inc act i i.life (ask_deactivate i.core act) e
 
-  goes_leaves : (e : Event) → goes_on w e ≡ Ok v → Unmoved w v
-  goes_leaves (event.Command c) e = cc
-  goes_leaves (event.Deliver p) e = sent_leaves (nth w.sent p) e
-  goes_leaves (event.Forge inc m) e = cc
-  goes_leaves (event.Crash session inc) e = crash_leaves inc (nth w.instances inc) e
-  goes_leaves (event.Reap inc) e = cc
-  goes_leaves (event.Done f) e = cc
-  goes_leaves (event.Fail f) e = cc
-  goes_leaves (event.Resolve f is_kept) e = cc
-  goes_leaves (event.Open name width height) e = cc
-  goes_leaves (event.Scribble session inc act) e = scribble_leaves inc act (nth w.instances inc) e
-  goes_leaves (event.Ask session inc act) e = ask_leaves inc act (nth w.instances inc) e
-
--- ---- a call that comes again is delivered
-none_taken : (w : World) (r : Result World Stop) → ((v : World) → r ≡ Ok v → Unmoved w v) → with_taken w [] r ≡ r
-none_taken w (Err stop) h = refl
-none_taken w (Ok v) h = ap (λ ts. Ok (record v { taken = ts })) (append-nil w.taken ∙ sym (h v refl).taken)
-
-said_again : (w : World) (p : ℕ) (m : Message) (x : Said) → (session_of_call w.rec.session m x ≡ w.rec.session → ⊥) → with_taken w (taken_said w.rec (Some p) (link_of m) m x) (delivered_said w m x) ≡ called_again w m x
-said_again w p m (Call inc act n op) h = none_taken w (called w m.session inc act n op (nth w.instances inc)) (λ v e. called_leaves w v m.session inc act n op (nth w.instances inc) e)
-said_again w p m (Reply inc act n answer) h = absurd (h refl)
-said_again w p m (Write inc act s number content) h = absurd (h refl)
-said_again w p m (Ask inc act g) h = absurd (h refl)
-
-again : (w : World) (p : ℕ) (o : Option Sent) → (session_at w.rec.session o ≡ w.rec.session → ⊥) → deliver w p o ≡ delivered_again w o
-again w p None h = absurd (h refl)
-again w p (Some x) h = said_again w p x.message x.message.said h
-
--- what isn't of the present session is a call
-delivers_as : (w : World) (p : ℕ) (e : Event) → e ≡ event.Deliver p → (session_of w e ≡ w.rec.session → ⊥) → step w no_choice (event.Deliver p) ≡ limited w (goes_on w e)
-delivers_as w p e is there = ap (limited w) (again w p (nth w.sent p) (subst (λ x. session_of w x ≡ w.rec.session → ⊥) is there)) ∙ ap (λ x. limited w (goes_on w x)) (sym is)
-
-pub delivers : {T : Type 0} (w v : World) (p : ℕ) (e : Event) (r : Result T Stop) → e ≡ event.Deliver p → (session_of w e ≡ w.rec.session → ⊥) → OnOk r (step w no_choice (event.Deliver p) ≡ Ok v) → OnOk r (limited w (goes_on w e) ≡ Ok v)
-delivers w v p e r is there h = subst (λ x. OnOk r (x ≡ Ok v)) (delivers_as w p e is there) h
-
-pub delivers_not : {T : Type 0} (w : World) (p : ℕ) (e : Event) (r : Result T Stop) → e ≡ event.Deliver p → (session_of w e ≡ w.rec.session → ⊥) → IfErr r (Refuses (step w no_choice (event.Deliver p))) → IfErr r (Refuses (limited w (goes_on w e)))
-delivers_not w p e r is there h = subst (λ x. IfErr r (Refuses x)) (delivers_as w p e is there) h
+  -- what isn't of the present session is a call
+  goes_leaves : (e : Event) → (session_of w e ≡ w.rec.session → ⊥) → goes_on w e ≡ Ok v → Unmoved w v
+  goes_leaves (event.Command c) apart e = cc
+  goes_leaves (event.Deliver p) apart e = sent_leaves p (nth w.sent p) apart e
+  goes_leaves (event.Forge inc m) apart e = cc
+  goes_leaves (event.Crash session inc) apart e = crash_leaves inc (nth w.instances inc) e
+  goes_leaves (event.Reap inc) apart e = cc
+  goes_leaves (event.Done f) apart e = cc
+  goes_leaves (event.Fail f) apart e = cc
+  goes_leaves (event.Resolve f is_kept) apart e = cc
+  goes_leaves (event.Open name width height) apart e = cc
+  goes_leaves (event.Scribble session inc act) apart e = scribble_leaves inc act (nth w.instances inc) e
+  goes_leaves (event.Ask session inc act) apart e = ask_leaves inc act (nth w.instances inc) e
 
 -- the session of an event is the same in the place of another run
 session_there : (w : World) (x : Epoch) (e : Event) → session_of (as_of w x) e ≡ session_of w e
@@ -221,10 +202,10 @@ module _ (s : Story) (n i : ℕ) (e : Event) (p : IsPlace (is_session n) s.past 
         ∙ (ap (λ (y : Story). swapped y away i) (is_second same)
         ∙ ap (λ es. record s { now = as_of v away; past = es }) (set-set s.past i away (left_at x.session v)))
 
-    pub goes_taken : limited first.now (goes_on first.now e) ≡ Ok v → within s (earlier s e (find (is_session n) s.past)) ≡ Ok third
-    goes_taken h =
+    pub goes_taken : (session_of s.now e ≡ s.now.rec.session → ⊥) → limited first.now (goes_on first.now e) ≡ Ok v → within s (earlier s e (find (is_session n) s.past)) ≡ Ok third
+    goes_taken apart h =
         let gone : limited (as_of s.now x) (goes_on (as_of s.now x) e) ≡ Ok v = subst (λ (y : Story). limited y.now (goes_on y.now e) ≡ Ok v) is_first h in
-        let k = goes_leaves (as_of s.now x) v e (limited_ok (as_of s.now x) (goes_on (as_of s.now x) e) v gone) in
+        let k = goes_leaves (as_of s.now x) v e (λ q. apart (sym (session_there s.now x e) ∙ q)) (limited_ok (as_of s.now x) (goes_on (as_of s.now x) e) v gone) in
         let same : v.rec ≡ first.now.rec = k.rec ∙ sym (ap (λ (y : Story). y.now.rec) is_first) in
         let now : as_of v away ≡ record s.now { stock = v.stock; sent = v.sent; answers = v.answers } = ap (λ r. record (as_of v away) { rec = r }) k.rec ∙ ap (λ fs. record (as_of v away) { rec = s.now.rec; files = fs }) k.files in
         let past : set s.past i (left_at x.session v) ≡ put (is_session x.session) (left_at x.session v) s.past = sym (p.puts (left_at x.session v)) ∙ ap (λ m. put (is_session m) (left_at x.session v) s.past) (sym (found_passes n s.past x found)) in
