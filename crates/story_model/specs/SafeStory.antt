@@ -24,7 +24,8 @@ use Rattle.world_model.specs.declared.event.Event.TheVariants as event
 use Rattle.world_model.specs.declared.logs.Document.{Document}
 use Rattle.world_model.specs.declared.logs.ServerDone.{ServerDone}
 use Rattle.world_model.specs.declared.logs.Taken.{Taken}
-use Rattle.world_model.specs.Safe.{Among, AreInTurn, Commit, CountedOnce, GivesCommit, HoldsFrame, IsCounted, IsGranted, IsHolder, IsHonest, IsKept, IsShared, IsWithin, ServedOnce, WasSent, acts_of, entries_of, last_commit, links_of, messages}
+use Rattle.world_model.specs.Safe.{Among, AreInTurn, Commit, CountedOnce, GivesCommit, HoldsFrame, IsCounted, IsGranted, IsHolder, IsHonest, IsKept}
+use Rattle.world_model.specs.Safe.{IsShared, IsWithin, ServedOnce, WasSent, acts_of, entries_of, last_commit, links_of, messages}
 use Rattle.world_model.specs.World.{Instance, World, called, document_in, done_entry, file_of, in_session}
 use Rattle.story_model.specs.declared.moment.Moment.TheVariants as moment
 use Rattle.story_model.specs.Story.{AreImages, Chosen, Epoch, Story, as_of, epoch_of, epochs, is_among, made_name, passed}
@@ -74,15 +75,18 @@ pub record SafeRun (w : World) (e : Epoch) (commits : List Commit) : Type 0 wher
   -- its servers are of its session
   pub servers : (inc : ℕ) (i : Instance) → nth e.instances inc ≡ Some i → (i.core.session ≡ e.session) × (1 ≤ i.core.session)
   -- a call acts at most once, and the reply that an activation keeps is the reply to the call of that number
-  pub acts_once : (inc act n : ℕ) (op : Operation) (r : Answer) (next : World) → WasSent w (in_session e.session (Reply inc act n r)) → called (as_of w e) e.session inc act n op (nth e.instances inc) ≡ Ok next
+  pub acts_once : (inc act n : ℕ) (op : Operation) (r : Answer) (next : World) → WasSent w (in_session e.session (Reply inc act n r))
+      → called (as_of w e) e.session inc act n op (nth e.instances inc) ≡ Ok next
       → (next.instances ≡ e.instances) × (next.server_done ≡ e.server_done)
-  pub kept_reply : (inc act : ℕ) (a : Activation) (r : Answer) → acts_of e.instances inc act ≡ Some a → WasSent w (in_session e.session (Reply inc act a.last r)) → r ≡ a.reply
+  pub kept_reply : (inc act : ℕ) (a : Activation) (r : Answer) → acts_of e.instances inc act ≡ Some a
+      → WasSent w (in_session e.session (Reply inc act a.last r)) → r ≡ a.reply
   -- every content that was taken of an honest server was sent under the storage grant that the record then held open
   pub writes : (t : Taken) → Among e.taken t → IsHonest e.hostile t.inc → IsGrantedIn w e.session t
   -- no save is counted twice, and what an honest server counts the container has counted, with the same content
   pub container_once : CountedOnce e.container_done
   pub server_once : ServedOnce e.server_done
-  pub agreed : (d : ServerDone) → Among e.server_done d → IsHonest e.hostile d.inc → Among e.container_done (record { object = d.object; k = d.k; content = d.content })
+  pub agreed : (d : ServerDone) → Among e.server_done d → IsHonest e.hostile d.inc
+      → Among e.container_done (record { object = d.object; k = d.k; content = d.content })
   -- the container counts by commits alone, one after the other
   pub entries : e.container_done ≡ flat_map entries_of commits
   pub last : (f : ℕ) → document_in (nth e.counted f) ≡ last_commit f commits
@@ -95,14 +99,16 @@ pub record SafeNow (w : World) (commits : List Commit) : Type 0 where
   pub answered : (n : ℕ) (l : Link) (content : Stored) → links_of w.rec.objects n ≡ Some l → IsHonest w.hostile l.inc → l.saved ≡ Some content
       → (a : Activation) × (acts_of w.instances l.inc l.act ≡ Some a) × (a.saved ≡ Some content)
   -- at most one activation of honest servers that run holds a frame, and the frame names it
-  pub one_holder : (f inc act g inc' act' g' : ℕ) → IsHonest w.hostile inc → IsHonest w.hostile inc' → HoldsFrame w inc act g f → HoldsFrame w inc' act' g' f → (inc ≡ inc') × (act ≡ act') × (g ≡ g')
+  pub one_holder : (f inc act g inc' act' g' : ℕ) → IsHonest w.hostile inc → IsHonest w.hostile inc'
+      → HoldsFrame w inc act g f → HoldsFrame w inc' act' g' f → (inc ≡ inc') × (act ≡ act') × (g ≡ g')
   pub holder : (f inc act g : ℕ) → IsHonest w.hostile inc → HoldsFrame w inc act g f → IsHolder w inc act g f
   -- its commits are of frames that are there
   pub counted : IsCounted w commits
   -- whenever both sides count a save, they name one content, which the committed file's bytes denote
   pub shared : (d : ServerDone) → Among w.server_done d → IsHonest w.hostile d.inc → IsShared w commits d
   -- the file of each frame with a counted commit, unless it is in doubt whether a later one was done
-  pub files : (f : ℕ) (frame : Frame) (document : Document) → nth w.rec.frames f ≡ Some frame → is_doubtful frame.phase ≡ false → nth w.counted f ≡ Some (Some document) → IsKept w f document
+  pub files : (f : ℕ) (frame : Frame) (document : Document) → nth w.rec.frames f ≡ Some frame → is_doubtful frame.phase ≡ false
+      → nth w.counted f ≡ Some (Some document) → IsKept w f document
 
 -- What a file gives where it is opened: the session and the objects of a commit that was counted in some run, all of them and
 -- nothing else; of a file that a stop kept, those of a document. It is never a bad one.
@@ -151,7 +157,8 @@ pub record IsSameButHostile (w : World) (inc : ℕ) (after : World) : Type 0 whe
 pub record IsStopped (s : Story) (fs : List ℕ) (next : Story) : Type 0 where
   pub kept : (f : ℕ) (frame : Frame) → is_among fs f ≡ true → nth s.now.rec.frames f ≡ Some frame
       → (saved : FrameDocument) × (image s.now.rec f ≡ Ok saved) × (bytes : List ℕ) × (file_of next.now (made_name frame) ≡ Some bytes) × AreOf bytes saved
-  pub others : (name : List ℕ) → ((f : ℕ) (frame : Frame) → is_among fs f ≡ true → nth s.now.rec.frames f ≡ Some frame → made_name frame ≢ name) → file_of next.now name ≡ file_of s.now name
+  pub others : (name : List ℕ) → ((f : ℕ) (frame : Frame) → is_among fs f ≡ true → nth s.now.rec.frames f ≡ Some frame → made_name frame ≢ name)
+      → file_of next.now name ≡ file_of s.now name
 
 pub record SafeStory (s : Story) : Type 0 where
   -- sessions rise, from 1; the present one is 0 until it is raised above them

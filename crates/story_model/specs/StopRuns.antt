@@ -42,8 +42,8 @@ report_of (Err stop) = stop_name stop
 report_of (Ok s) = report s.now
 
 -- the file of the first session's document, without objects and with the note that was saved
-abbrev pub bare : Given
-bare = Given.Holding (record { session = 1; objects = [] })
+abbrev pub empty_file : Given
+empty_file = Given.Holding (record { session = 1; objects = [] })
 
 abbrev pub noted : Given
 noted = Given.Holding (record { session = 1; objects = stored_note ∷ [] })
@@ -58,7 +58,9 @@ stopped_kept = told_by noted (from_empty (happen saved ++ moment.Stop (1 ∷ [])
     (opens ∷ Command Start ∷ Command Session ∷ Done 1 ∷ Command Start ∷ Deliver 6 ∷ Deliver 5 ∷ Command (Run 1 1) ∷ Deliver 8 ∷ Deliver 9 ∷ []))
 
 abbrev pub kept_answers : List EventAnswer
-kept_answers = ok ∷ Took (record quiet_outcome { frame = Some 1; objects = 1 ∷ [] }) ∷ Refused WrongState ∷ commit 1 ∷ ok ∷ server 1 ∷ Refused Stale ∷ sent 7 ∷ sent 8 ∷ sent 9 ∷ ok ∷ []
+kept_answers = ok
+    ∷ Took (record quiet_outcome { frame = Some 1; objects = 1 ∷ [] })
+    ∷ Refused WrongState ∷ commit 1 ∷ ok ∷ server 1 ∷ Refused Stale ∷ sent 7 ∷ sent 8 ∷ sent 9 ∷ ok ∷ []
 
 pub record IsKeptByStop : Type 0 where
   pub answers : answers_of stopped_kept ≡ answers_of (from_empty (happen saved)) ++ kept_answers
@@ -71,11 +73,11 @@ pub record IsKeptByStop : Type 0 where
 
 -- Where the disk hasn't kept it the document is the one before. Until it is opened no other frame is made, and none is opened.
 abbrev pub stopped_lost : List Moment → Result Story Stop
-stopped_lost ms = told_by bare (from_empty (happen saved ++ moment.Stop [] ∷ [])) ms
+stopped_lost ms = told_by empty_file (from_empty (happen saved ++ moment.Stop [] ∷ [])) ms
 
 -- the same, stopped before the save
 abbrev pub stopped_early : List Event → Result Story Stop
-stopped_early es = told_by bare (from_empty (happen edited ++ moment.Stop [] ∷ [])) (happen es)
+stopped_early es = told_by empty_file (from_empty (happen edited ++ moment.Stop [] ∷ [])) (happen es)
 
 pub record IsLostByStop : Type 0 where
   pub told : report_of (stopped_lost (happen (opens ∷ []))) ≡ lines (codes "session 0" ∷ codes "frame 1 a Free k 0 stored" ∷ [])
@@ -89,8 +91,10 @@ abbrev pub raising : List Moment
 raising = happen (frame_named 97 ∷ Command Session ∷ [])
 
 pub record IsRaisedAgain : Type 0 where
-  pub kept : report_of (told_by bare (from_empty (raising ++ moment.Stop (1 ∷ []) ∷ [])) (happen (opens ∷ Command Session ∷ Done 1 ∷ []))) ≡ lines (codes "session 2" ∷ codes "frame 1 a Free k 1 stored" ∷ [])
-  pub lost : report_of (from_empty (raising ++ moment.Stop [] ∷ happen (frame_named 98 ∷ Command Session ∷ Done 1 ∷ []))) ≡ lines (codes "session 1" ∷ codes "frame 1 b Free k 1 stored" ∷ [])
+  pub kept : report_of (told_by empty_file (from_empty (raising ++ moment.Stop (1 ∷ []) ∷ [])) (happen (opens ∷ Command Session ∷ Done 1 ∷ [])))
+      ≡ lines (codes "session 2" ∷ codes "frame 1 a Free k 1 stored" ∷ [])
+  pub lost : report_of (from_empty (raising ++ moment.Stop [] ∷ happen (frame_named 98 ∷ Command Session ∷ Done 1 ∷ [])))
+      ≡ lines (codes "session 1" ∷ codes "frame 1 b Free k 1 stored" ∷ [])
   -- a frame without a commit isn't one that a disk could have kept
   pub unasked : report_of (from_empty (happen (frame_named 97 ∷ []) ++ moment.Stop (1 ∷ []) ∷ [])) ≡ codes "NotEnabled"
 

@@ -1,5 +1,6 @@
 -- A story: a container that stops and starts again. The world of its present run, and what is left of the runs before it.
-use Rattle.std.specs.Prelude.{◌≡◌, ◌++◌, ◌+◌, ℕ, Bool, true, false, List, [], ◌∷◌, length, Option, Some, None, is_some, Result, Ok, Err, IsOk, if◌then◌else◌, nat_le, ◌==◌}
+use Rattle.std.specs.Prelude.{◌≡◌, ◌++◌, ◌+◌, ℕ, Bool, true, false, List, [], ◌∷◌, length, Option, Some, None, is_some, Result, Ok, Err, IsOk}
+use Rattle.std.specs.Prelude.{if◌then◌else◌, nat_le, ◌==◌}
 use Rattle.std.specs.Str.{bytes_eq}
 use Rattle.wire_msgs.specs.Found.{find, nth, put}
 use Rattle.wire_msgs.specs.declared.message.Message.{Message}
@@ -24,7 +25,8 @@ use Rattle.world_model.specs.declared.logs.File.{File}
 use Rattle.world_model.specs.declared.logs.Sent.{Sent}
 use Rattle.world_model.specs.declared.logs.ServerDone.{ServerDone}
 use Rattle.world_model.specs.declared.logs.Taken.{Taken}
-use Rattle.world_model.specs.World.{Choice, Instance, IsImage, IsImageOf, MOST_EVENTS, World, ask, crash, deliver, empty_world, happened, put_file, quiet_outcome, scribble}
+use Rattle.world_model.specs.World.{Choice, Instance, IsImage, IsImageOf, MOST_EVENTS, World}
+use Rattle.world_model.specs.World.{ask, crash, deliver, empty_world, happened, put_file, quiet_outcome, scribble}
 use Rattle.story_model.specs.declared.moment.Moment.{Moment}
 use Rattle.story_model.specs.declared.moment.Moment.TheVariants as moment
 
@@ -54,7 +56,16 @@ empty_story numbers stock = record { now = empty_world numbers stock; past = [];
 
 -- The present run as one of the runs, and all of them.
 abbrev pub epoch_of : World → Epoch
-epoch_of w = record { session = w.rec.session; instances = w.instances; owners = w.owners; taken = w.taken; container_done = w.container_done; server_done = w.server_done; counted = w.counted; hostile = w.hostile }
+epoch_of w = record {
+  session = w.rec.session;
+  instances = w.instances;
+  owners = w.owners;
+  taken = w.taken;
+  container_done = w.container_done;
+  server_done = w.server_done;
+  counted = w.counted;
+  hostile = w.hostile;
+}
 
 abbrev pub epochs : Story → List Epoch
 epochs s = s.past ++ epoch_of s.now ∷ []
@@ -88,7 +99,15 @@ session_of w (event.Ask session inc act) = session
 
 -- the world as an earlier run has it: with its servers and its logs
 abbrev pub as_of : World → Epoch → World
-as_of w e = record w { instances = e.instances; owners = e.owners; taken = e.taken; container_done = e.container_done; server_done = e.server_done; counted = e.counted; hostile = e.hostile }
+as_of w e = record w {
+  instances = e.instances;
+  owners = e.owners;
+  taken = e.taken;
+  container_done = e.container_done;
+  server_done = e.server_done;
+  counted = e.counted;
+  hostile = e.hostile;
+}
 
 -- and what stays of it there after an event: the messages, the stock and the answers are the story's
 abbrev pub is_session : ℕ → Epoch → Bool
@@ -161,7 +180,12 @@ kept_by None kept = kept
 kept_by (Some frame) kept = without (made_name frame) kept
 
 abbrev pub committed_by : Story → ℕ → World → Story
-committed_by s f next = record { now = next; past = s.past; document = document_by f (nth s.now.rec.frames f) s.document; kept = kept_by (nth s.now.rec.frames f) s.kept }
+committed_by s f next = record {
+  now = next;
+  past = s.past;
+  document = document_by f (nth s.now.rec.frames f) s.document;
+  kept = kept_by (nth s.now.rec.frames f) s.kept;
+}
 
 abbrev pub followed : Story → Event → World → Story
 followed s (event.Done f) next = committed_by s f next
@@ -240,7 +264,8 @@ pub record Chosen : Type 0 where
   pub images : ℕ → List ℕ
 
 abbrev pub passed : Story → Chosen → Moment → Result Story Stop
-passed s choice (moment.Event e) = if session_of s.now e == s.now.rec.session then present s choice.here e else earlier s e (find (is_session (session_of s.now e)) s.past)
+passed s choice (moment.Event e) =
+    if session_of s.now e == s.now.rec.session then present s choice.here e else earlier s e (find (is_session (session_of s.now e)) s.past)
 passed s choice (moment.Stop fs) = if may_stop s.now.rec fs then Ok (stopped s choice.images fs) else Err NotEnabled
 
 -- no more happens than in a world
