@@ -24,8 +24,8 @@ use stored_values::bytes::Bytes;
 use world_model::event::Stop;
 use world_model::logs::{Document, File};
 
-// The name that a frame has once its commit is done.
-pub(crate) fn name_after(alloc: Global, frame: &Frame) -> Result<Bytes, AllocError>
+/// The name that a frame has once its commit is done.
+pub fn name_after(alloc: Global, frame: &Frame) -> Result<Bytes, AllocError>
     ensures { IfOk result (λ b. b ≡ name_after frame.now.name frame.now.asked) }
 {
     match &frame.asked {

@@ -75,8 +75,8 @@ pub fn add<T: Drop>(items: &mut Vec<T>, item: T)
     }
 }
 
-// Adds all of a list.
-pub(crate) fn add_all<T: Drop>(items: &mut Vec<T>, mut more: Vec<T>)
+/// Adds all of a list that room was taken for.
+pub fn add_all<T: Drop>(items: &mut Vec<T>, mut more: Vec<T>)
     requires { vec_len items.old + vec_len more ≤ vec_capacity items.old }
     ensures { items.new.items ≡ items.old.items ++ more.items }
 {

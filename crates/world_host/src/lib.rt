@@ -1,7 +1,7 @@
 //! The host of a container in a world: the container, its files, and the logs of what happened.
 #![tactic(auto)]
 
-mod commits;
+pub mod commits;
 mod doubts;
 pub mod host;
 mod opens;

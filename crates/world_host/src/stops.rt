@@ -44,8 +44,8 @@ pub struct Left {
     pub names: Vec<Bytes>,
 }
 
-// Whether a number is in a list.
-fn is_among(frames: &[u32], f: u32) -> bool
+/// Whether a number is in a list.
+pub fn is_among(frames: &[u32], f: u32) -> bool
     ensures { result ≡ is_among frames.now f }
 {
     for x in frames {

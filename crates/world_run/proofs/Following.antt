@@ -10,75 +10,36 @@ use Rattle.container_frames.proofs.Steps.{steps_move_frames}
 use Rattle.container_model.specs.Commands.{new_frame}
 use Rattle.container_model.specs.Inputs.{Input}
 use Rattle.container_model.specs.Opens.{Given, opened_frame}
-use Rattle.container_model.specs.Record.{Record, Took, is_doubtful}
-use Rattle.container_model.specs.Saves.{commit_at, commit_done, commit_fitting, commit_made, committed_frame, image, is_committing, resolve, resolved_at}
-use Rattle.container_model.specs.declared.answer.FrameDocument.{FrameDocument}
+use Rattle.container_model.specs.Record.{Record, Took}
+use Rattle.container_model.specs.Saves.{committed_frame}
 use Rattle.container_model.specs.declared.command.Command.{Command}
 use Rattle.container_model.specs.declared.command.Command.TheVariants as command
-use Rattle.container_model.specs.declared.fault.ContainerFault.{ContainerFault}
-use Rattle.container_model.specs.declared.fault.ContainerFault.TheVariants.{WrongState}
 use Rattle.container_model.specs.declared.record.Frame.{Frame}
 use Rattle.container_model.specs.declared.server_link.ServerLink.{ServerLink}
 use Rattle.container_queues.proofs.SteadyLookups.{nth-set_other, nth-set_same}
 use Rattle.world_model.specs.declared.event.Event.{Event}
 use Rattle.world_model.specs.declared.event.Event.TheVariants as event
-use Rattle.world_model.specs.World.{Choice, World, done_imaged, done_in, done_taken, happened, joined, kept_commit}
-use Rattle.story_model.specs.Story.{Epoch, Story, document_by, followed, is_it, kept_by, made_name, may_begin, may_command, session_of}
-use Rattle.story_safety.specs.Steps.{IsInputOf, Steps, rec_stays, rec_steps}
+use Rattle.world_model.specs.World.{Choice, World, happened}
+use Rattle.story_model.specs.Story.{Epoch, Story, document_by, followed, is_it, kept_by, made_name, may_begin, may_command}
+use Rattle.story_safety.specs.Steps.{Counts, IsInputOf, Steps, rec_stays, rec_steps}
+use Rattle.story_safety.proofs.Documents.{done_counts, kept_counts}
 use Rattle.story_safety.proofs.Going.{steps}
 use Rattle.world_run.specs.Names.{borne_by, document_of, has_after, kept_after, struck_by}
 use Rattle.world_run.proofs.Names.{without_reverse}
 
 -- ---- a commit that was counted
-record IsCounted (w v : World) (f : ℕ) : Type 0 where
-  pub frame : Frame
-  pub at : nth w.rec.frames f ≡ Some frame
-  pub after : v.rec.frames ≡ set_nth w.rec.frames f (committed_frame frame)
-
-module _ (w v : World) (f : ℕ) (bytes : List ℕ) where
-  abbrev Made : Result Took ContainerFault → Frame → Type 0
-  Made told frame = (t : Took) × (told ≡ Ok t) × (v.rec ≡ t.rec)
-
-  made_taken : (frame : Frame) (saved : FrameDocument) (told : Result Took ContainerFault) → done_taken w f bytes frame saved told ≡ Ok v → Made told frame
-  made_taken frame saved (Err fault) e = cc
-  made_taken frame saved (Ok t) e = (let is : joined (kept_commit w f frame saved t.counted bytes) t ≡ v = cc in (t, refl, ap (λ (x : World). x.rec) (sym is)))
-
-  made_imaged : (frame : Frame) (told : Result Took ContainerFault) (saved : Result FrameDocument ContainerFault) → done_imaged w f bytes frame told saved ≡ Ok v → Made told frame
-  made_imaged frame told (Err fault) e = cc
-  made_imaged frame told (Ok saved) e = made_taken frame saved told e
-
-  made_in : (told : Result Took ContainerFault) (o : Option Frame) → done_in w f bytes told o ≡ Ok v → (frame : Frame) × (o ≡ Some frame) × Made told frame
-  made_in told None e = cc
-  made_in told (Some frame) e = (frame, refl, made_imaged frame told (image w.rec f) e)
-
-  fits : (frame : Frame) (saved : Result FrameDocument ContainerFault) (t : Took) → commit_fitting w.rec f frame saved ≡ Ok t → t ≡ commit_made w.rec f frame
-  fits frame (Err fault) t e = cc
-  fits frame (Ok saved) t e = (let is : commit_made w.rec f frame ≡ t = cc in sym is)
-
-  if_fits : (b : Bool) (frame : Frame) (t : Took) → (if b then commit_fitting w.rec f frame (image w.rec f) else Err WrongState) ≡ Ok t → t ≡ commit_made w.rec f frame
-  if_fits true frame t e = fits frame (image w.rec f) t e
-  if_fits false frame t e = cc
-
-  counted_by : (told : Result Took ContainerFault) → ((frame : Frame) (t : Took) → nth w.rec.frames f ≡ Some frame → told ≡ Ok t → t ≡ commit_made w.rec f frame) → done_in w f bytes told (nth w.rec.frames f) ≡ Ok v → IsCounted w v f
-  counted_by told is e =
-      let k = made_in told (nth w.rec.frames f) e in
-      record { frame = k.0; at = k.1; after = ap (λ (r : Record). r.frames) k.2.2 ∙ ap (λ (t : Took). t.rec.frames) (is k.0 k.2.0 k.1 k.2.1) }
-
-  done_counted : done_in w f bytes (commit_done w.rec f) (nth w.rec.frames f) ≡ Ok v → IsCounted w v f
-  done_counted e = counted_by (commit_done w.rec f) (λ frame t at told. if_fits (is_committing frame.phase) frame t (ap (commit_at w.rec f) (sym at) ∙ told)) e
-
-  kept_counted : done_in w f bytes (resolve w.rec f true) (nth w.rec.frames f) ≡ Ok v → IsCounted w v f
-  kept_counted e = counted_by (resolve w.rec f true) (λ frame t at told. if_fits (is_doubtful frame.phase) frame t (ap (resolved_at w.rec f true) (sym at) ∙ told)) e
+after_it : (w v : World) (f : ℕ) (c : Counts w v f) → v.rec.frames ≡ set_nth w.rec.frames f (committed_frame c.frame)
+after_it w v f c = ap (λ (r : Record). r.frames) c.rec
 
 -- the name of the session document, and those that a stop kept
 module _ (has : Bool) (document : List ℕ) where
   abbrev Named : Bool → Option Frame → Option (List ℕ)
   Named b o = if b then Some (borne_by o document) else None
 
-  counted_document : (w v : World) (f : ℕ) → IsCounted w v f → document_by f (nth w.rec.frames f) (document_of w.rec has document) ≡ document_of v.rec (has || (f == 1)) document
+  counted_document : (w v : World) (f : ℕ) → Counts w v f → document_by f (nth w.rec.frames f) (document_of w.rec has document) ≡ document_of v.rec (has || (f == 1)) document
   counted_document w v f c =
       let a = committed_frame c.frame in
-      let there : nth v.rec.frames f ≡ Some a = ap (λ xs. nth xs f) c.after ∙ nth-set_same w.rec.frames f c.frame a c.at in
+      let there : nth v.rec.frames f ≡ Some a = ap (λ xs. nth xs f) (after_it w v f c) ∙ nth-set_same w.rec.frames f c.frame a c.at in
       ap (λ o. document_by f o (document_of w.rec has document)) c.at
       ∙ elim (eqb_tells f 1) [
         | inl t ↦
@@ -86,7 +47,7 @@ module _ (has : Bool) (document : List ℕ) where
             ∙ sym (ap (λ b. Named b (nth v.rec.frames 1)) (ap (λ b. has || b) t.0 ∙ always has) ∙ ap (Named true) (ap (nth v.rec.frames) (sym t.1) ∙ there))
         | inr t ↦
             ap (λ b. if b then Some (made_name c.frame) else document_of w.rec has document) t.0
-            ∙ sym (ap (λ b. Named b (nth v.rec.frames 1)) (ap (λ b. has || b) t.0 ∙ as_before has) ∙ ap (Named has) (ap (λ xs. nth xs 1) c.after ∙ nth-set_other w.rec.frames f 1 a t.1))
+            ∙ sym (ap (λ b. Named b (nth v.rec.frames 1)) (ap (λ b. has || b) t.0 ∙ as_before has) ∙ ap (Named has) (ap (λ xs. nth xs 1) (after_it w v f c) ∙ nth-set_other w.rec.frames f 1 a t.1))
       ]
     where
       always : (b : Bool) → (b || true) ≡ true
@@ -97,10 +58,10 @@ module _ (has : Bool) (document : List ℕ) where
       as_before true = refl
       as_before false = refl
 
-  counted_kept : (w v : World) (f : ℕ) (kept : List (List ℕ)) → IsCounted w v f → kept_by (nth w.rec.frames f) (reverse kept) ≡ reverse (kept_after (event.Done f) v.rec.frames kept)
+  counted_kept : (w v : World) (f : ℕ) (kept : List (List ℕ)) → Counts w v f → kept_by (nth w.rec.frames f) (reverse kept) ≡ reverse (kept_after (event.Done f) v.rec.frames kept)
   counted_kept w v f kept c =
       let a = committed_frame c.frame in
-      let there : nth v.rec.frames f ≡ Some a = ap (λ xs. nth xs f) c.after ∙ nth-set_same w.rec.frames f c.frame a c.at in
+      let there : nth v.rec.frames f ≡ Some a = ap (λ xs. nth xs f) (after_it w v f c) ∙ nth-set_same w.rec.frames f c.frame a c.at in
       ap (λ o. kept_by o (reverse kept)) c.at ∙ (without_reverse (made_name c.frame) kept ∙ ap (λ o. reverse (struck_by o kept)) (sym there))
 
   -- ---- steps that count no commit
@@ -134,8 +95,8 @@ module _ (has : Bool) (document : List ℕ) where
   plain_goes r x t p (frame_counted f frame counts at phase is) = absurd (p.none f counts)
 
   plain_steps : (w v : World) (choice : Choice) (e : Event) → ((x : Input) → IsInputOf x choice e → IsPlain w.rec x) → Steps w v choice e → document_of v.rec has document ≡ document_of w.rec has document
-  plain_steps w v choice e plain (rec_stays same files made) = ap (λ r. document_of r has document) same
-  plain_steps w v choice e plain (rec_steps x t is on same) = ap (λ r. document_of r has document) same ∙ plain_goes w.rec x t (plain x is) (steps_move_frames w.rec x t on)
+  plain_steps w v choice e plain (rec_stays none same keeps) = ap (λ r. document_of r has document) same
+  plain_steps w v choice e plain (rec_steps x t is on same counts) = ap (λ r. document_of r has document) same ∙ plain_goes w.rec x t (plain x is) (steps_move_frames w.rec x t on)
 
   -- what each event may do
   abbrev As : World → List Epoch → List (List ℕ) → Story
@@ -185,24 +146,24 @@ module _ (has : Bool) (document : List ℕ) where
     abbrev After : Event → Story
     After e = record { now = v; past = past; document = document_of v.rec (has_after e has) document; kept = reverse (kept_after e v.rec.frames kept) }
 
-    quiet : (e : Event) → ((x : Input) → IsInputOf x choice e → IsPlain w.rec x) → session_of w e ≡ w.rec.session → happened w choice e ≡ Ok v
+    quiet : (e : Event) → ((x : Input) → IsInputOf x choice e → IsPlain w.rec x) → happened w choice e ≡ Ok v
         → record Before { now = v } ≡ record { now = v; past = past; document = document_of v.rec has document; kept = reverse kept }
-    quiet e plain here ok = ap (λ d. record { now = v; past = past; document = d; kept = reverse kept }) (sym (plain_steps w v choice e plain (steps w choice e v here ok)))
+    quiet e plain ok = ap (λ d. record { now = v; past = past; document = d; kept = reverse kept }) (sym (plain_steps w v choice e plain (steps w choice e v ok)))
 
-    counted : (f : ℕ) → IsCounted w v f → followed Before (event.Done f) v ≡ After (event.Done f)
+    counted : (f : ℕ) → Counts w v f → followed Before (event.Done f) v ≡ After (event.Done f)
     counted f c = ap (λ d. record { now = v; past = past; document = d; kept = kept_by (nth w.rec.frames f) (reverse kept) }) (counted_document w v f c)
         ∙ ap (λ ks. record { now = v; past = past; document = document_of v.rec (has || (f == 1)) document; kept = ks }) (counted_kept w v f kept c)
 
-    pub followed_as : (e : Event) → session_of w e ≡ w.rec.session → may_begin Before e ≡ true → happened w choice e ≡ Ok v → followed Before e v ≡ After e
-    followed_as (event.Command c) here may ok = quiet (event.Command c) (λ x is. subst (IsPlain w.rec) (sym is) (plain_command w past (reverse kept) c may)) here ok
-    followed_as (event.Deliver p) here may ok = quiet (event.Deliver p) (λ x is. subst (IsPlain w.rec) (sym is.2) (plain_told w.rec is.0 is.1)) here ok
-    followed_as (event.Forge inc m) here may ok = quiet (event.Forge inc m) (λ x is. subst (IsPlain w.rec) (sym is.1) (plain_told w.rec is.0 m)) here ok
-    followed_as (event.Crash session inc) here may ok = quiet (event.Crash session inc) (λ x is. absurd is) here ok
-    followed_as (event.Reap inc) here may ok = quiet (event.Reap inc) (λ x is. subst (IsPlain w.rec) (sym is) (plain_reaped w.rec inc)) here ok
-    followed_as (event.Done f) here may ok = counted f (done_counted w v f choice.file ok)
-    followed_as (event.Fail f) here may ok = quiet (event.Fail f) (λ x is. subst (IsPlain w.rec) (sym is) (plain_failed w.rec f)) here ok
-    followed_as (event.Resolve f true) here may ok = counted f (kept_counted w v f choice.file ok)
-    followed_as (event.Resolve f false) here may ok = quiet (event.Resolve f false) (λ x is. subst (IsPlain w.rec) (sym is) (plain_lost w.rec f)) here ok
-    followed_as (event.Open name width height) here may ok = quiet (event.Open name width height) (λ x is. subst (IsPlain w.rec) (sym is) (plain_open w past (reverse kept) name width height choice.given may)) here ok
-    followed_as (event.Scribble session inc act) here may ok = quiet (event.Scribble session inc act) (λ x is. absurd is) here ok
-    followed_as (event.Ask session inc act) here may ok = quiet (event.Ask session inc act) (λ x is. absurd is) here ok
+    pub followed_as : (e : Event) → may_begin Before e ≡ true → happened w choice e ≡ Ok v → followed Before e v ≡ After e
+    followed_as (event.Command c) may ok = quiet (event.Command c) (λ x is. subst (IsPlain w.rec) (sym is) (plain_command w past (reverse kept) c may)) ok
+    followed_as (event.Deliver p) may ok = quiet (event.Deliver p) (λ x is. subst (IsPlain w.rec) (sym is.2) (plain_told w.rec is.0 is.1)) ok
+    followed_as (event.Forge inc m) may ok = quiet (event.Forge inc m) (λ x is. subst (IsPlain w.rec) (sym is.1) (plain_told w.rec is.0 m)) ok
+    followed_as (event.Crash session inc) may ok = quiet (event.Crash session inc) (λ x is. absurd is) ok
+    followed_as (event.Reap inc) may ok = quiet (event.Reap inc) (λ x is. subst (IsPlain w.rec) (sym is) (plain_reaped w.rec inc)) ok
+    followed_as (event.Done f) may ok = counted f (done_counts w v choice f (steps w choice (event.Done f) v ok))
+    followed_as (event.Fail f) may ok = quiet (event.Fail f) (λ x is. subst (IsPlain w.rec) (sym is) (plain_failed w.rec f)) ok
+    followed_as (event.Resolve f true) may ok = counted f (kept_counts w v choice f (steps w choice (event.Resolve f true) v ok))
+    followed_as (event.Resolve f false) may ok = quiet (event.Resolve f false) (λ x is. subst (IsPlain w.rec) (sym is) (plain_lost w.rec f)) ok
+    followed_as (event.Open name width height) may ok = quiet (event.Open name width height) (λ x is. subst (IsPlain w.rec) (sym is) (plain_open w past (reverse kept) name width height choice.given may)) ok
+    followed_as (event.Scribble session inc act) may ok = quiet (event.Scribble session inc act) (λ x is. absurd is) ok
+    followed_as (event.Ask session inc act) may ok = quiet (event.Ask session inc act) (λ x is. absurd is) ok

@@ -8,7 +8,7 @@ use Rattle.world_model.specs.declared.logs.File.{File}
 use Rattle.world_model.specs.declared.logs.Taken.{Taken}
 use Rattle.story_model.specs.SafeStory.{AreRising, IsGrantedIn, is_kept}
 use Rattle.story_model.specs.Story.{Epoch, epoch_of, epochs}
-use Rattle.story_safety.specs.Holding.{DocumentStands, HoldsPast, IsCounted, IsFrom, IsSaved, IsThere, Sound, mirror, mirror_of}
+use Rattle.story_safety.specs.Holding.{DocumentStands, HoldsPast, IsFrom, IsOfRuns, IsSaved, IsThere, Sound, mirror, mirror_of}
 use Rattle.world_run.specs.Told.{seen_past, seen_pasts, told}
 use Rattle.world_run.specs.declared.past.Past.{Past}
 use Rattle.world_run.specs.declared.runs.Runs.{Runs}
@@ -75,16 +75,17 @@ module _ {X : Type 0} {V : X → Type 0} (c d : Seat X V → Content) where
     session = h.session;
     numbers = h.numbers;
     raised = h.raised;
+    bears = h.bears;
     holds = held_seen c d (mirror_of (told c r).now (seen_past c run) rec files) run.instances.items (told c r).now.stock (told d r).now.stock h.holds;
   }
 
 module _ {X : Type 0} {V : X → Type 0} (c d : Seat X V → Content) where
-  counted_seen : (r : Runs X V) (mine : List File) (archive : ℕ → List File) (name : List ℕ) (file : File) → IsCounted (told c r) mine archive name file → IsCounted (told d r) mine archive name file
+  counted_seen : (r : Runs X V) (mine : List File) (archive : ℕ → List File) (name : List ℕ) (file : File) → IsOfRuns mine (told c r).past archive name file → IsOfRuns mine (told d r).past archive name file
   counted_seen r mine archive name file (inl g) = inl g
   counted_seen r mine archive name file (inr g) = (let l = like_past d c r.past.items g.0 g.1 in inr (l.0, l.1, subst (λ n. IsThere (archive n) name file) l.2.session g.2))
 
   from_seen : (r : Runs X V) (mine : List File) (archive : ℕ → List File) (name : List ℕ) (file : File) → IsFrom (told c r) mine archive name file → IsFrom (told d r) mine archive name file
-  from_seen r mine archive name file h = elim (is_kept name (told c r).kept) as (λ b. cond b (IsSaved file) (IsCounted (told c r) mine archive name file) → cond b (IsSaved file) (IsCounted (told d r) mine archive name file)) [
+  from_seen r mine archive name file h = elim (is_kept name (told c r).kept) as (λ b. cond b (IsSaved file) (IsOfRuns mine (told c r).past archive name file) → cond b (IsSaved file) (IsOfRuns mine (told d r).past archive name file)) [
     | true ↦ (λ g. g)
     | false ↦ (λ g. counted_seen r mine archive name file g)
   ] h
@@ -98,6 +99,7 @@ module _ {X : Type 0} {V : X → Type 0} (c d : Seat X V → Content) where
     is = h.is;
     above = λ e g. (let l = like_run c d r e g in subst (λ n. n ≤ h.saved.session) (sym l.2.session) (h.above l.0 l.1));
     framed = h.framed;
+    raised = h.raised;
   }
 
   pub sound_seen : (r : Runs X V) → Sound (told c r) → Sound (told d r)
@@ -113,9 +115,9 @@ module _ {X : Type 0} {V : X → Type 0} (c d : Seat X V → Content) where
     unraised = h.unraised;
     none_made = h.none_made;
     of_runs = λ m g. (let k = h.of_runs m g in let l = like_run d c r k.0 k.1 in (l.0, l.1, k.2 ∙ l.2.session, λ z. k.3 (l.2.session ∙ z)));
-    granted = λ e t g taken honest. (let l = like_run c d r e g in
+    granted = λ e g t taken honest. (let l = like_run c d r e g in
         subst (λ n. IsGrantedIn (told d r).now n t) (sym l.2.session)
-        (granted_seen c d r l.0.session t (h.granted l.0 t l.1 (subst (λ ts. Among ts t) l.2.taken taken) (subst (λ hs. IsHonest hs t.inc) l.2.hostile honest))));
+        (granted_seen c d r l.0.session t (h.granted l.0 l.1 t (subst (λ ts. Among ts t) l.2.taken taken) (subst (λ hs. IsHonest hs t.inc) l.2.hostile honest))));
     mine_there = h.mine_there;
     files = λ name file g. from_seen r h.mine h.archive name file (h.files name file g);
     document = document_seen r (told c r).document h.document;

@@ -182,10 +182,6 @@ module _ (s : Story) (n i : ℕ) (e : Event) (p : IsPlace (is_session n) s.past 
   is_first : first ≡ swapped s x i
   is_first = if_some (λ y. first ≡ swapped s y i) (slice_get s.past i) x at to
 
-  -- the event is of no other session there
-  pub still_there : (session_of s.now e ≡ s.now.rec.session → ⊥) → session_of first.now e ≡ first.now.rec.session → ⊥
-  still_there apart = subst (λ (y : Story). session_of y.now e ≡ y.now.rec.session → ⊥) (sym is_first) (λ q. apart (sym (session_there s.now x e) ∙ q))
-
   -- what stands there meanwhile
   abbrev away : Epoch
   away = left_at x.session s.now

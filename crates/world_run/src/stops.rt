@@ -1,8 +1,6 @@
 //! A stop: the present run is over, and the next one begins.
 
 ghost use Rattle.std.specs.Prelude.{◌≡◌, ◌≤◌, ◌<◌, ◌+◌, ◌++◌, ◌||◌, IfErr, IfOk, OnErr, OnOk, is_some, length, vec_capacity, vec_len};
-ghost use Rattle.container_model.specs.Saves.{name_after};
-ghost use Rattle.story_model.specs.Story.{is_among};
 ghost use Rattle.story_model.specs.declared.moment.Moment.TheVariants as moment;
 ghost use Rattle.wire_msgs.specs.Found.{nth};
 ghost use Rattle.world_run.specs.Changes.{Ends, IsMore, IsPast, LeavesPast, LosesServers, Moves, Stays};
@@ -10,49 +8,16 @@ ghost use Rattle.world_run.specs.Names.{name_left, or_else};
 
 use crate::past::Past;
 use crate::runs::Runs;
-use container_model::record::Frame;
 use embed_core::embedded::Embedded;
 use std::alloc::{AllocError, Global};
 use std::mem::replace;
 use stored_values::bytes::Bytes;
+use world_host::commits::name_after;
 use world_host::container::{ContainerCore, Limits};
-use world_host::host::add;
-use world_host::stops::Left;
+use world_host::host::{add, add_all};
+use world_host::stops::{Left, is_among};
 use world_model::event::Stop;
 use world_state::state::State;
-
-// Whether a number is in a list.
-fn is_among(numbers: &[u32], f: u32) -> bool
-    ensures { result ≡ is_among numbers.now f }
-{
-    for number in numbers {
-        if *number == f {
-            return true;
-        }
-    }
-    false
-}
-
-// The name that a frame has once its commit is done.
-fn name_after(alloc: Global, frame: &Frame) -> Result<Bytes, AllocError>
-    ensures { IfOk result (λ b. b ≡ name_after frame.now.name frame.now.asked) }
-{
-    match &frame.asked {
-        Some(name) => name.copy(alloc),
-        None => frame.name.copy(alloc),
-    }
-}
-
-// Adds all of a list.
-fn add_all<T: Drop>(items: &mut Vec<T>, mut more: Vec<T>)
-    requires { vec_len items.old + vec_len more ≤ vec_capacity items.old }
-    ensures { items.new.items ≡ items.old.items ++ more.items }
-{
-    match items.append(&mut more) {
-        Ok(()) => {}
-        Err(_) => unreachable!(),
-    }
-}
 
 // A run that raised no session started no server, and leaves nothing.
 fn add_past(past: &mut Vec<Past>, run: Past)

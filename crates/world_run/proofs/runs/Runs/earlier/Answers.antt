@@ -1,8 +1,9 @@
-use Rattle.std.proofs.Common.{ap, subst}
+use Rattle.std.proofs.Common.{ap, subst, sym, ◌∙◌}
 use Rattle.wire_msgs.specs.Found.{IsPlace}
 use Rattle.story_model.specs.Story.{is_session}
 use Rattle.world_run.specs.Names.{document_of}
 use Rattle.world_run.specs.Told.{seen_pasts, told}
+use Rattle.world_run.proofs.Passing.{session_seen}
 use Rattle.world_run.proofs.Results.{if_err, on_err, on_ok}
 use Rattle.world_run.proofs.Swapping.{goes_kept, goes_refused, goes_taken}
 use Rattle.world_state.specs.View.{seen}
@@ -15,7 +16,8 @@ returns-clause-taken g c =
     let v = seen (λ s. (goal.Embedded-dyn g (s.boxed.vtable, s.boxed.value)).content s.boxed.value) c.go_on-outcome.new.state in
     on_ok c.go_on-outcome.result (goes_taken s c.args.session c.in-Some.i c.args.event.now p (told (λ s. (goal.Embedded-dyn g (s.boxed.vtable, s.boxed.value)).content s.boxed.value) c.swap.new.self) c.swap.ensures v _ (told (λ s. (goal.Embedded-dyn g (s.boxed.vtable, s.boxed.value)).content s.boxed.value) c.swap-2.new.self)
     (λ same. ap (λ r. record (told (λ s. (goal.Embedded-dyn g (s.boxed.vtable, s.boxed.value)).content s.boxed.value) c.swap.new.self) { now = v; document = document_of r c.swap.new.self.has_document c.swap.new.self.document }) same)
-    c.swap-2.ensures) c.go_on-outcome.ensures.taken
+    c.swap-2.ensures (λ q. c.requires.earlier (c.requires.session ∙ (sym (session_seen c.args.self.now.state.host s.now.instances s.now.stock c.args.event.now) ∙ q))))
+    c.go_on-outcome.ensures.taken
 
 pub returns-clause-refused : goal.returns-clause-refused
 returns-clause-refused g c =
