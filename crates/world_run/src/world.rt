@@ -15,14 +15,14 @@ use world_state::stock::Stock;
 
 /// A container that may stop and start again, its servers, which may outlive it, the messages between them, and the files.
 ///
-/// Every world is safe, whatever happened in it, and however often the container stopped. Sessions rise, and each run opens
-/// first the file that bears the last one. In each run: no call acted twice, a call has one answer, and a kept reply is the
-/// reply to its call; no save was counted twice. The file of a frame that isn't in doubt denotes the document of its last
-/// counted commit, and what any file gives is a commit that some run counted, or one that a stop kept. Of honest servers, which
-/// are those of which no message was forged: at most one activation of those of the present run has a frame's grant, and the
-/// frame names it; each content that was taken was sent under the storage grant that the container of that run held open; and
-/// what a server counted of a save the container counted with the same content. A message of an earlier run changes nothing of
-/// the present one.
+/// Every world is safe, whatever happened in it, and however often the container stopped. Sessions rise, each was raised by
+/// a commit that was counted, and each run opens first the file that bears the last one. In each run: no call acted twice, a
+/// call has one answer, and a kept reply is the reply to its call; no save was counted twice. The file of a frame that isn't
+/// in doubt denotes the document of its last counted commit, and what any file gives is a commit that some run counted, or
+/// one that a stop kept. Of honest servers, which are those of which no message was forged: at most one activation of those
+/// of the present run has a frame's grant, and the frame names it; each content that was taken was sent under the storage
+/// grant that the container of that run held open; and what a server counted of a save the container counted with the same
+/// content. A message of an earlier run changes nothing of the present one.
 #[derive(Drop)]
 pub struct World {
     pub(crate) runs: Runs,
