@@ -1,5 +1,6 @@
 -- The session document after an event of the present run, and that nothing is saved or made before a session is raised.
-use Rattle.std.proofs.Common.{◌≡◌, ◌≢◌, ◌++◌, ◌+◌, ◌≤◌, ℕ, suc, Bool, true, false, List, [], ◌∷◌, length, Option, Some, None, is_some, Ok, refl, sym, ap, ◌∙◌, inl, inr, arith, subst, if◌then◌else◌}
+use Rattle.std.proofs.Common.{◌≡◌, ◌≢◌, ◌++◌, ◌+◌, ◌≤◌, ℕ, suc, Bool, true, false, List, [], ◌∷◌, length, Option, Some, None, is_some, Ok, refl, sym, ap, ◌∙◌}
+use Rattle.std.proofs.Common.{inl, inr, arith, subst, if◌then◌else◌}
 use Rattle.std.proofs.lemmas.Bool.Decides.{eqb_tells}
 use Rattle.std.proofs.lemmas.Slice.Eq.{bytes_eq-Decides}
 use Rattle.wire_msgs.specs.Found.{find, nth, set_nth}
@@ -30,7 +31,8 @@ use Rattle.world_model.specs.World.{Choice, IsImage, IsImageOf, World, file_byte
 use Rattle.world_facts.proofs.Lookups.{among_new, among_old, nth_aligned, nth_old, nth_one, nth_set_apart}
 use Rattle.world_files.specs.Files.{Apart, Bears, MakesImage}
 use Rattle.story_model.specs.SafeStory.{AreOf}
-use Rattle.story_model.specs.Story.{Epoch, Story, committed_by, document_by, epoch_of, epochs, followed, is_it, kept_by, made_name, may_begin, may_command, may_open}
+use Rattle.story_model.specs.Story.{Epoch, Story, committed_by, document_by, epoch_of, epochs, followed, is_it, kept_by, made_name, may_begin, may_command}
+use Rattle.story_model.specs.Story.{may_open}
 use Rattle.story_safety.specs.Holding.{DocumentStands, HasDocument}
 use Rattle.story_safety.specs.Steps.{Counts, CountsBy, IsInputOf, KeepsFirst, Steps, made_by, put_committed, rec_stays, rec_steps}
 use Rattle.story_safety.proofs.Lists.{each_run}
@@ -287,13 +289,13 @@ commit_step s v choice f d apart ses aligned c makes files =
 
 -- ---- all events
 -- what is known of the story's record
-pub record Facts (s : Story) : Type 0 where
+pub record Standing (s : Story) : Type 0 where
   pub document : DocumentStands s s.document
   pub apart : Apart s.now.rec.frames
   pub in_session : InSession s.now.rec
   pub aligned : length s.now.counted ≡ length s.now.rec.frames
 
-pub document_follows : (s : Story) (choice : Choice) (e : Event) (v : World) → Facts s → Steps s.now v choice e → v.files ≡ made_by s.now choice e s.now.files
+pub document_follows : (s : Story) (choice : Choice) (e : Event) (v : World) → Standing s → Steps s.now v choice e → v.files ≡ made_by s.now choice e s.now.files
     → MakesImage s.now choice e → IsImage s.now choice e → may_begin s e ≡ true → DocumentStands (followed s e v) (followed s e v).document
 document_follows s choice (event.Command c) v k st files makes read may = command_step s v choice c k.document st files may
 document_follows s choice (event.Deliver p) v k st files makes read may = still_step s v choice (event.Deliver p) k.document st (λ x input. subst (Still s.now v) (sym input.2) (tt, λ c. c)) files

@@ -20,7 +20,8 @@ use Rattle.world_model.specs.declared.logs.EventAnswer.{EventAnswer}
 use Rattle.world_model.specs.declared.logs.File.{File}
 use Rattle.world_model.specs.declared.logs.Sent.{Sent}
 use Rattle.world_model.specs.declared.logs.ServerDone.{ServerDone}
-use Rattle.world_model.specs.World.{Instance, World, ask, called, called_in, called_wanting, counted_by, crash, crashed, deliver, delivered_said, in_run, in_session}
+use Rattle.world_model.specs.World.{Instance, World, ask, called, called_in, called_wanting, counted_by, crash, crashed, deliver, delivered_said, in_run}
+use Rattle.world_model.specs.World.{in_session}
 use Rattle.world_model.specs.World.{is_of, link_of, scribble, served, spoken, spoken_by, stocked, taken_said, view_in, with_taken}
 use Rattle.world_model.proofs.InRun.{in_run_here}
 use Rattle.story_model.specs.Story.{session_at, session_of_call}

@@ -1,5 +1,6 @@
 -- What an event of the present run makes of it: the record steps as a container's does or stays, and the run by itself holds.
-use Rattle.std.proofs.Common.{◌≡◌, ◌==◌, ℕ, zero, suc, true, false, not, List, [], ◌∷◌, ◌++◌, Option, Some, None, Result, Ok, Err, refl, sym, ap, ◌∙◌, subst, inl, inr, append-nil, eq-eqb, eqb-true}
+use Rattle.std.proofs.Common.{◌≡◌, ◌==◌, ℕ, zero, suc, true, false, not, List, [], ◌∷◌, ◌++◌, Option, Some, None, Result, Ok, Err, refl, sym, ap, ◌∙◌, subst}
+use Rattle.std.proofs.Common.{inl, inr, append-nil, eq-eqb, eqb-true}
 use Rattle.std.proofs.lemmas.Bool.{false≢true}
 use Rattle.wire_msgs.specs.Found.{find, nth, set_nth}
 use Rattle.wire_msgs.specs.declared.message.Message.{Message}
@@ -40,7 +41,10 @@ use Rattle.world_model.specs.declared.logs.EventAnswer.TheVariants as answered
 use Rattle.world_model.specs.declared.logs.File.{File}
 use Rattle.world_model.specs.declared.logs.Sent.{Sent}
 use Rattle.world_model.specs.declared.logs.Taken.{Taken}
-use Rattle.world_model.specs.World.{Choice, Instance, World, ask, called, called_in, called_wanting, commanded, crash, crashed, deliver, delivered, delivered_said, done_imaged, done_in, done_taken, ended, forge, forged, forged_on, happened, in_session, is_of, joined, link_of, link_to, only_taken, reap, scribble, served, spoken, spoken_by, stocked, taken_at, taken_by, taken_said, took, uncounted, with_taken}
+use Rattle.world_model.specs.World.{Choice, Instance, World, ask, called, called_in, called_wanting, commanded, crash, crashed, deliver, delivered}
+use Rattle.world_model.specs.World.{delivered_said, done_imaged, done_in, done_taken, ended, forge, forged, forged_on, happened, in_session, is_of, joined}
+use Rattle.world_model.specs.World.{link_of, link_to, only_taken, reap, scribble, served, spoken, spoken_by, stocked, taken_at, taken_by, taken_said, took}
+use Rattle.world_model.specs.World.{uncounted, with_taken}
 use Rattle.world_model.specs.Safe.{Among, BringsBy, IsGranted, IsHonest, WasSent, messages}
 use Rattle.world_model.proofs.InRun.{in_run_ok}
 use Rattle.world_facts.proofs.Honest.{honest_before}
@@ -55,7 +59,8 @@ use Rattle.story_safety.specs.Holding.{mirror, sent_in}
 use Rattle.story_safety.specs.Steps.{Counts, CountsBy, CountsNone, Goes, IsInputOf, KeepsFirst, Steps, made_by, rec_stays, rec_steps, twin}
 use Rattle.story_safety.proofs.Elsewhere.{reset}
 use Rattle.story_safety.proofs.Members.{place_in, sent_among}
-use Rattle.story_safety.proofs.Twins.{Both, landed, logged_is, ok_is, taken_placed, twins_ask, twins_commanded, twins_crash, twins_delivered, twins_done, twins_only, twins_reap, twins_run, twins_scribble, twins_took}
+use Rattle.story_safety.proofs.Twins.{Both, landed, logged_is, ok_is, taken_placed, twins_ask, twins_commanded, twins_crash, twins_delivered, twins_done}
+use Rattle.story_safety.proofs.Twins.{twins_only, twins_reap, twins_run, twins_scribble, twins_took}
 
 -- ---- the record and the files after an event
 
@@ -194,7 +199,7 @@ module _ (w : World) (inc : ℕ) (m : Message) where
   forged_is Ended v e = sym (ok_is _ v e)
   forged_is Reaped v e = cc
 
-  forge_is : (i : Option Instance) (v : World) → forge w inc m i ≡ Ok v → v ≡ forged_on w inc m
+  pub forge_is : (i : Option Instance) (v : World) → forge w inc m i ≡ Ok v → v ≡ forged_on w inc m
   forge_is None v e = cc
   forge_is (Some i) v e = forged_is i.life v e
 
@@ -332,7 +337,7 @@ refused_is : (w : World) (p : Option ℕ) (inc act : ℕ) (told : Result Took Co
     → record w { answers = w.answers ++ answered.Refused fault ∷ []; taken = w.taken ++ [] } ≡ v
 refused_is w p inc act told fault v q ok = ok_is _ v (subst (λ y. with_taken w (taken_by w.rec p inc act y) (Ok (took w y)) ≡ Ok v) q ok)
 
-stale_is : (w : World) (p : Option ℕ) (m : Message) (said : Said) (v : World) → (m.session == w.rec.session) ≡ false → session_of_call w.rec.session m said ≡ w.rec.session
+pub stale_is : (w : World) (p : Option ℕ) (m : Message) (said : Said) (v : World) → (m.session == w.rec.session) ≡ false → session_of_call w.rec.session m said ≡ w.rec.session
     → with_taken w (taken_said w.rec p (link_of m) m said) (delivered_said w m said) ≡ Ok v
     → (fault : ContainerFault) × (record w { answers = w.answers ++ answered.Refused fault ∷ []; taken = w.taken ++ [] } ≡ v)
 stale_is w p m (Call inc act n op) v apart is ok = absurd (false≢true (sym apart ∙ eq-eqb m.session w.rec.session is))

@@ -1,5 +1,6 @@
 -- What every story keeps makes it safe.
-use Rattle.std.proofs.Common.{◌≡◌, ◌≢◌, ◌≤◌, ◌<◌, ◌==◌, ◌⊎◌, ◌++◌, ℕ, zero, suc, Bool, true, false, List, [], ◌∷◌, Option, Some, None, Ok, Err, Result, refl, sym, ap, ◌∙◌, subst, inl, inr, arith, append-nil, cond, if◌then◌else◌, slice_get}
+use Rattle.std.proofs.Common.{◌≡◌, ◌≢◌, ◌≤◌, ◌<◌, ◌==◌, ◌⊎◌, ◌++◌, ℕ, zero, suc, Bool, true, false, List, [], ◌∷◌, Option, Some, None, Ok, Err, Result, refl}
+use Rattle.std.proofs.Common.{sym, ap, ◌∙◌, subst, inl, inr, arith, append-nil, cond, if◌then◌else◌, slice_get}
 use Rattle.std.proofs.lemmas.Bool.Decides.{eqb_tells}
 use Rattle.wire_msgs.specs.Found.{find, nth}
 use Rattle.wire_msgs.specs.declared.message.Message.{Message}
@@ -23,9 +24,11 @@ use Rattle.world_model.specs.World.{Instance, World, document_in, file_bytes, fi
 use Rattle.world_safety.specs.Holding.{Holds}
 use Rattle.world_safety.proofs.Events.{said_in_log}
 use Rattle.world_safety.proofs.Held.{safe_held}
-use Rattle.story_model.specs.SafeStory.{AreOf, Gives, GivesCounted, GivesSaved, HasSession, IsGrantedIn, IsOfRun, IsOfServer, IsRaised, SafeNow, SafeRun, SafeStory, is_kept}
+use Rattle.story_model.specs.SafeStory.{AreOf, Gives, GivesCounted, GivesSaved, HasSession, IsGrantedIn, IsOfRun, IsOfServer, IsRaised, SafeNow, SafeRun}
+use Rattle.story_model.specs.SafeStory.{SafeStory, is_kept}
 use Rattle.story_model.specs.Story.{Epoch, Story, epoch_of, epochs}
-use Rattle.story_safety.specs.Holding.{CountsSession, DocumentStands, HasDocument, HoldsPast, IsFrom, IsOfRuns, IsSaved, IsThere, Sound, mirror, mirror_of, sent_in}
+use Rattle.story_safety.specs.Holding.{CountsSession, DocumentStands, HasDocument, HoldsPast, IsFrom, IsOfRuns, IsSaved, IsThere, Sound, mirror, mirror_of}
+use Rattle.story_safety.specs.Holding.{sent_in}
 use Rattle.story_safety.proofs.Laws.{earlier_stays, forged_stays}
 use Rattle.story_safety.proofs.Members.{among_in}
 use Rattle.story_safety.proofs.SafeRuns.{Held, now_safe, past_commits, past_each, run_safe}

@@ -1,5 +1,6 @@
 -- Every moment leaves a story in what it keeps.
-use Rattle.std.proofs.Common.{◌≡◌, ◌≢◌, ◌<◌, ◌≤◌, ◌==◌, ◌⊎◌, ◌++◌, ◌+◌, ℕ, zero, suc, Bool, true, false, List, [], ◌∷◌, length, Option, Some, None, Result, Ok, Err, refl, sym, ap, ◌∙◌, subst, inl, inr, arith, append-nil, cond, if◌then◌else◌, nat_le}
+use Rattle.std.proofs.Common.{◌≡◌, ◌≢◌, ◌<◌, ◌≤◌, ◌==◌, ◌⊎◌, ◌++◌, ◌+◌, ℕ, zero, suc, Bool, true, false, List, [], ◌∷◌, length, Option, Some, None, Result, Ok}
+use Rattle.std.proofs.Common.{Err, refl, sym, ap, ◌∙◌, subst, inl, inr, arith, append-nil, cond, if◌then◌else◌, nat_le}
 use Rattle.std.proofs.lemmas.Bool.Decides.{eqb_tells}
 use Rattle.embed_core.specs.Kinds.{Kind}
 use Rattle.wire_msgs.specs.Found.{find, nth, put}
@@ -26,8 +27,11 @@ use Rattle.world_safety.proofs.Held.{empty_held}
 use Rattle.story_model.specs.declared.moment.Moment.{Moment}
 use Rattle.story_model.specs.declared.moment.Moment.TheVariants as moment
 use Rattle.story_model.specs.SafeStory.{AreOf, AreRising, IsGrantedIn, is_kept}
-use Rattle.story_model.specs.Story.{AreImages, Chosen, Epoch, Story, Tells, as_of, begun, committed_by, document_by, earlier, empty_story, epoch_of, epochs, follow, followed, goes_on, is_among, is_session, kept_by, left_by, made_name, may_begin, may_stop, pass, passed, past_by, present, rested, session_of, stopped, within, without}
-use Rattle.story_safety.specs.Holding.{AreGranted, CountsSession, DocumentStands, HasDocument, HoldsPast, IsFrom, IsOfRuns, IsSaved, IsThere, Sound, mirror, mirror_of, sent_in}
+use Rattle.story_model.specs.Story.{AreImages, Chosen, Epoch, Story, Tells, as_of, begun, committed_by, document_by, earlier, empty_story, epoch_of, epochs}
+use Rattle.story_model.specs.Story.{follow, followed, goes_on, is_among, is_session, kept_by, left_by, made_name, may_begin, may_stop, pass, passed, past_by}
+use Rattle.story_model.specs.Story.{present, rested, session_of, stopped, within, without}
+use Rattle.story_safety.specs.Holding.{AreGranted, CountsSession, DocumentStands, HasDocument, HoldsPast, IsFrom, IsOfRuns, IsSaved, IsThere, Sound, mirror}
+use Rattle.story_safety.specs.Holding.{mirror_of, sent_in}
 use Rattle.story_safety.specs.Steps.{Counts, Goes, HasGoneOn, Steps, made_by, put_committed, rec_stays, rec_steps, twin}
 use Rattle.story_safety.proofs.Documents.{document_follows, done_counts, kept_counts, none_made_follows, unraised_follows}
 use Rattle.story_safety.proofs.Elsewhere.{begun_held, elsewhere_now, elsewhere_past, granted_grows, over, sent_grows}

@@ -1,5 +1,6 @@
 -- A stop: the files that it keeps, and the session document after it.
-use Rattle.std.proofs.Common.{◌≡◌, ◌≢◌, ◌++◌, ◌+◌, ◌≤◌, ◌==◌, ℕ, zero, suc, Bool, true, false, List, [], ◌∷◌, Option, Some, None, Result, Ok, Err, refl, sym, ap, ◌∙◌, inl, inr, arith, subst, slice_get, if◌then◌else◌}
+use Rattle.std.proofs.Common.{◌≡◌, ◌≢◌, ◌++◌, ◌+◌, ◌≤◌, ◌==◌, ℕ, zero, suc, Bool, true, false, List, [], ◌∷◌, Option, Some, None, Result, Ok, Err, refl, sym}
+use Rattle.std.proofs.Common.{ap, ◌∙◌, inl, inr, arith, subst, slice_get, if◌then◌else◌}
 use Rattle.wire_msgs.specs.Found.{find, nth}
 use Rattle.container_model.specs.Saves.{image, session_after}
 use Rattle.container_model.specs.declared.answer.FrameDocument.{FrameDocument}
@@ -13,7 +14,8 @@ use Rattle.world_model.specs.World.{IsImageOf, World, file_bytes, file_of, is_fi
 use Rattle.world_facts.proofs.Lookups.{among_old}
 use Rattle.world_files.specs.Files.{Apart, Bears}
 use Rattle.story_model.specs.SafeStory.{AreOf, IsStopped}
-use Rattle.story_model.specs.Story.{AreImages, Chosen, Epoch, Story, document_by, epoch_of, epochs, is_among, made_name, may_stop, passed, past_by, put_kept, stopped}
+use Rattle.story_model.specs.Story.{AreImages, Chosen, Epoch, Story, document_by, epoch_of, epochs, is_among, made_name, may_stop, passed, past_by, put_kept}
+use Rattle.story_model.specs.Story.{stopped}
 use Rattle.story_model.specs.declared.moment.Moment.TheVariants as moment
 use Rattle.story_safety.specs.Holding.{DocumentStands, HasDocument}
 use Rattle.story_safety.proofs.Lists.{each_run}

@@ -1,5 +1,6 @@
 -- A run among others, and the same run by itself: an event makes the same of both, and sends the same messages.
-use Rattle.std.proofs.Common.{◌≡◌, ◌≢◌, ◌==◌, ℕ, zero, suc, true, false, List, [], ◌∷◌, ◌++◌, map, Option, Some, None, Result, Ok, Err, refl, sym, ap, ◌∙◌, subst, inl, inr, append-nil, eq-eqb, eqb-true, slice_get, if◌then◌else◌}
+use Rattle.std.proofs.Common.{◌≡◌, ◌≢◌, ◌==◌, ℕ, zero, suc, true, false, List, [], ◌∷◌, ◌++◌, map, Option, Some, None, Result, Ok, Err, refl, sym, ap, ◌∙◌}
+use Rattle.std.proofs.Common.{subst, inl, inr, append-nil, eq-eqb, eqb-true, slice_get, if◌then◌else◌}
 use Rattle.wire_msgs.specs.Found.{find, nth, set_nth}
 use Rattle.wire_msgs.specs.declared.message.Message.{Message}
 use Rattle.wire_msgs.specs.declared.message.Said.{Said}
@@ -36,7 +37,10 @@ use Rattle.world_model.specs.declared.logs.File.{File}
 use Rattle.world_model.specs.declared.logs.Sent.{Sent}
 use Rattle.world_model.specs.declared.logs.ServerDone.{ServerDone}
 use Rattle.world_model.specs.declared.logs.Taken.{Taken}
-use Rattle.world_model.specs.World.{World, Instance, ask, called, called_in, called_wanting, commanded, counted_by, crash, crashed, delivered_said, done_imaged, done_in, done_taken, ended, in_run, in_session, is_of, link_of, messages_of, of_container, only_taken, put_file, reap, scribble, served, spoken, spoken_by, stocked, taken_at, taken_by, taken_link, taken_of, taken_said, took, view_in, with_taken}
+use Rattle.world_model.specs.World.{World, Instance, ask, called, called_in, called_wanting, commanded, counted_by, crash, crashed, delivered_said, done_imaged}
+use Rattle.world_model.specs.World.{done_in, done_taken, ended, in_run, in_session, is_of, link_of, messages_of, of_container, only_taken, put_file, reap}
+use Rattle.world_model.specs.World.{scribble, served, spoken, spoken_by, stocked, taken_at, taken_by, taken_link, taken_of, taken_said, took, view_in}
+use Rattle.world_model.specs.World.{with_taken}
 use Rattle.world_model.specs.Safe.{Among, messages}
 use Rattle.world_facts.proofs.Lookups.{among_map, among_mapped}
 use Rattle.world_safety.specs.Holding.{Holds}
