@@ -101,7 +101,7 @@ module _ (a : World) (rec : Record) (files : List File) (sent : List Sent) where
     follows_called_in i Ended v e = subst (Follows a rec files sent (called_in u s inc act n op i Ended)) (ok_is _ v e) (silent a.instances _ _)
     follows_called_in i Reaped v e = subst (Follows a rec files sent (called_in u s inc act n op i Reaped)) (ok_is _ v e) (silent a.instances _ _)
 
-    follows_called : (i : Option Instance) (v : World) → called a s inc act n op i ≡ Ok v → Follows a rec files sent (called u s inc act n op i) v
+    pub follows_called : (i : Option Instance) (v : World) → called a s inc act n op i ≡ Ok v → Follows a rec files sent (called u s inc act n op i) v
     follows_called None v e = subst (Follows a rec files sent (called u s inc act n op None)) (ok_is _ v e) (silent a.instances _ _)
     follows_called (Some i) v e = follows_called_in i i.life v e
 

@@ -56,8 +56,9 @@ use Rattle.world_safety.proofs.Held.{held_happened}
 use Rattle.story_model.specs.SafeStory.{IsGrantedIn}
 use Rattle.story_model.specs.Story.{session_at, session_of, session_of_call}
 use Rattle.story_safety.specs.Holding.{mirror, sent_in}
-use Rattle.story_safety.specs.Steps.{Counts, CountsBy, CountsNone, Goes, IsInputOf, KeepsFirst, Steps, made_by, rec_stays, rec_steps, twin}
+use Rattle.story_safety.specs.Steps.{Counts, CountsBy, CountsNone, Goes, IsInputOf, KeepsFirst, Steps, left_of, made_by, rec_stays, rec_steps, twin}
 use Rattle.story_safety.proofs.Elsewhere.{reset}
+use Rattle.story_safety.proofs.Following.{follows_ask, follows_called, follows_crash, follows_scribble}
 use Rattle.story_safety.proofs.Members.{place_in, sent_among}
 use Rattle.story_safety.proofs.Twins.{Both, landed, logged_is, ok_is, taken_placed, twins_ask, twins_commanded, twins_crash, twins_delivered, twins_done}
 use Rattle.story_safety.proofs.Twins.{twins_only, twins_reap, twins_run, twins_scribble, twins_took}
@@ -89,56 +90,14 @@ commanded_after : (w : World) (c : Command) (told : Result Took ContainerFault) 
 commanded_after w c (Err fault) = record { rec = refl; keeps = λ d at. at }
 commanded_after w c (Ok t) = record { rec = refl; keeps = joined_keeps w t }
 
--- servers leave both
-module _ (w : World) (s inc act n : ℕ) (op : Operation) where
-  served_after : (i : Instance) (stock : List Kind) (told : Result Served ServerFault) → IsAfter w (served w s inc act n i stock told) w.rec
-  served_after i stock (Err fault) = record { rec = refl; keeps = λ d at. at }
-  served_after i stock (Ok a) = record { rec = refl; keeps = λ d at. at }
+-- what goes on at a server leaves both
+left_after : (w v : World) → left_of w v ≡ v → IsAfter w v w.rec
+left_after w v stays = record { rec = ap (λ (y : World). y.rec) (sym stays); keeps = λ d at. ap (λ (y : World). nth y.counted 1) (sym stays) ∙ at }
 
-  stocked_after : (i : Instance) (class : List ℕ) (kind : Option Kind) (v : World) → stocked w s inc act n op i class kind ≡ Ok v → IsAfter w v w.rec
-  stocked_after i class None v e = cc
-  stocked_after i class (Some kind) v e = after_ok w _ v w.rec e (served_after i _ (on_call i.core (in_session s (Call inc act n op)) (Some kind)))
-
-  wanting_after : (i : Instance) (class : Option (List ℕ)) (v : World) → called_wanting w s inc act n op i class ≡ Ok v → IsAfter w v w.rec
-  wanting_after i None v e = after_ok w _ v w.rec e (served_after i w.stock (on_call i.core (in_session s (Call inc act n op)) None))
-  wanting_after i (Some class) v e = stocked_after i class (find (is_of class) w.stock) v e
-
-  called_in_after : (i : Instance) (life : Life) (v : World) → called_in w s inc act n op i life ≡ Ok v → IsAfter w v w.rec
-  called_in_after i Running v e = wanting_after i (wanted i.core (in_session s (Call inc act n op))) v e
-  called_in_after i Ended v e = after_ok w _ v w.rec e (record { rec = refl; keeps = λ d at. at })
-  called_in_after i Reaped v e = after_ok w _ v w.rec e (record { rec = refl; keeps = λ d at. at })
-
-  called_after : (i : Option Instance) (v : World) → called w s inc act n op i ≡ Ok v → IsAfter w v w.rec
-  called_after None v e = after_ok w _ v w.rec e (record { rec = refl; keeps = λ d at. at })
-  called_after (Some i) v e = called_in_after i i.life v e
+called_after : (w : World) (m : Message) (inc act n : ℕ) (op : Operation) (v : World) → called w m.session inc act n op (nth w.instances inc) ≡ Ok v → IsAfter w v w.rec
+called_after w m inc act n op v e = left_after w v (follows_called w w.rec [] [] m.session inc act n op (nth w.instances inc) v e).stays
 
 module _ (w : World) (inc : ℕ) where
-  crashed_after : (i : Instance) (life : Life) (v : World) → crashed w inc i life ≡ Ok v → IsAfter w v w.rec
-  crashed_after i Running v e = after_ok w _ v w.rec e (record { rec = refl; keeps = λ d at. at })
-  crashed_after i Ended v e = cc
-  crashed_after i Reaped v e = cc
-
-  crash_after : (i : Option Instance) (v : World) → crash w inc i ≡ Ok v → IsAfter w v w.rec
-  crash_after None v e = cc
-  crash_after (Some i) v e = crashed_after i i.life v e
-
-  spoken_by_after : (act : ℕ) (i : Instance) (told : Result Told ServerFault) → IsAfter w (spoken_by w inc act i told) w.rec
-  spoken_by_after act i (Err fault) = record { rec = refl; keeps = λ d at. at }
-  spoken_by_after act i (Ok t) = record { rec = refl; keeps = λ d at. at }
-
-  spoken_after : (act : ℕ) (i : Instance) (life : Life) (told : Result Told ServerFault) (v : World) → spoken w inc act i life told ≡ Ok v → IsAfter w v w.rec
-  spoken_after act i Running told v e = after_ok w _ v w.rec e (spoken_by_after act i told)
-  spoken_after act i Ended told v e = cc
-  spoken_after act i Reaped told v e = cc
-
-  scribble_after : (act : ℕ) (i : Option Instance) (v : World) → scribble w inc act i ≡ Ok v → IsAfter w v w.rec
-  scribble_after act None v e = cc
-  scribble_after act (Some i) v e = spoken_after act i i.life (server.scribble i.core act) v e
-
-  ask_after : (act : ℕ) (i : Option Instance) (v : World) → ask w inc act i ≡ Ok v → IsAfter w v w.rec
-  ask_after act None v e = cc
-  ask_after act (Some i) v e = spoken_after act i i.life (server.ask_deactivate i.core act) v e
-
   -- what a server's end leaves
   ended_after : (i : Instance) (life : Life) (v : World) → ended w inc i life ≡ Ok v → IsAfter w v (rec_after w.rec (on_reap w.rec inc))
   ended_after i Running v e = cc
@@ -173,7 +132,7 @@ module _ (w : World) (choice : Choice) (p : ℕ) where
       told_steps w choice (event.Deliver p) tt v (Input.Told (link_of m) m) told (link_of m, m, refl) (λ k. k) refl (after_ok w _ v _ e (took_after w told))
 
   said_steps : (m : Message) (x : Said) (v : World) → delivered_said w m x ≡ Ok v → Steps w v choice (event.Deliver p)
-  said_steps m (Call inc act n op) v e = same_steps w choice (event.Deliver p) tt v (called_after w m.session inc act n op (nth w.instances inc) v e)
+  said_steps m (Call inc act n op) v e = same_steps w choice (event.Deliver p) tt v (called_after w m inc act n op v e)
   said_steps m (Reply inc act n answer) v e = message_steps m v e
   said_steps m (Write inc act s n content) v e = message_steps m v e
   said_steps m (Ask inc act g) v e = message_steps m v e
@@ -261,8 +220,8 @@ steps w choice (event.Command c) v ok =
 steps w choice (event.Deliver p) v ok = deliver_steps w choice p (nth w.sent p) v ok
 steps w choice (event.Forge inc m) v ok = (let told = on_message w.rec (link_to w inc) m in
     told_steps w choice (event.Forge inc m) tt v (Input.Told (link_to w inc) m) told (link_to w inc, refl) (λ k. k) refl (forge_after w inc m (nth w.instances inc) v ok))
-steps w choice (event.Crash s inc) v ok =
-    same_steps w choice (event.Crash s inc) tt v (crash_after w inc (nth w.instances inc) v (in_run_ok w s (crash w inc (nth w.instances inc)) v ok))
+steps w choice (event.Crash s inc) v ok = (let i = nth w.instances inc in
+    same_steps w choice (event.Crash s inc) tt v (left_after w v (follows_crash w w.rec [] [] inc i v (in_run_ok w s (crash w inc i) v ok)).stays))
 steps w choice (event.Reap inc) v ok =
     told_steps w choice (event.Reap inc) tt v (Input.Reaped inc) (on_reap w.rec inc) refl (λ k. k) refl (reap_after w inc (nth w.instances inc) v ok)
 steps w choice (event.Done f) v ok = (let k = done_made w f choice.file v ok in rec_steps (Input.Committed f) k.0 refl k.1 k.2 k.3)
@@ -271,10 +230,10 @@ steps w choice (event.Resolve f true) v ok = (let k = kept_made w f choice.file 
 steps w choice (event.Resolve f false) v ok = only_steps w choice (event.Resolve f false) (Input.Resolved f false) (resolve w.rec f false) v refl (λ k. k) refl ok
 steps w choice (event.Open name x y) v ok = (let told = opened w.rec name x y choice.given in
     told_steps w choice (event.Open name x y) tt v (Input.Opened name x y choice.given) told refl (λ k. k) refl (after_ok w _ v _ ok (took_after w told)))
-steps w choice (event.Scribble s inc act) v ok =
-    same_steps w choice (event.Scribble s inc act) tt v (scribble_after w inc act (nth w.instances inc) v (in_run_ok w s (scribble w inc act (nth w.instances inc)) v ok))
-steps w choice (event.Ask s inc act) v ok =
-    same_steps w choice (event.Ask s inc act) tt v (ask_after w inc act (nth w.instances inc) v (in_run_ok w s (ask w inc act (nth w.instances inc)) v ok))
+steps w choice (event.Scribble s inc act) v ok = (let i = nth w.instances inc in
+    same_steps w choice (event.Scribble s inc act) tt v (left_after w v (follows_scribble w w.rec [] [] inc act i v (in_run_ok w s (scribble w inc act i) v ok)).stays))
+steps w choice (event.Ask s inc act) v ok = (let i = nth w.instances inc in
+    same_steps w choice (event.Ask s inc act) tt v (left_after w v (follows_ask w w.rec [] [] inc act i v (in_run_ok w s (ask w inc act i) v ok)).stays))
 
 -- ---- the greatest number stays
 

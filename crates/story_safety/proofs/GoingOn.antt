@@ -1,5 +1,5 @@
 -- What happens at a server of an earlier run is an event of that run by itself.
-use Rattle.std.proofs.Common.{◌≡◌, ◌≢◌, ℕ, List, ◌++◌, Option, Some, None, Result, Ok, Err, refl, sym, ◌∙◌, subst}
+use Rattle.std.proofs.Common.{◌≡◌, ◌≢◌, ℕ, List, [], ◌++◌, Option, Some, None, Result, Ok, Err, refl, sym, ◌∙◌, subst}
 use Rattle.wire_msgs.specs.Found.{nth}
 use Rattle.container_model.specs.Record.{Record}
 use Rattle.world_model.specs.declared.event.Event.{Event}
@@ -14,7 +14,7 @@ use Rattle.world_safety.specs.Holding.{Holds}
 use Rattle.world_safety.proofs.Held.{held_happened}
 use Rattle.story_model.specs.Story.{Epoch, as_of, goes_on, session_at, session_of}
 use Rattle.story_safety.specs.Holding.{mirror_of, sent_in}
-use Rattle.story_safety.specs.Steps.{HasGoneOn, twin}
+use Rattle.story_safety.specs.Steps.{HasGoneOn, left_of, twin}
 use Rattle.story_safety.proofs.Elsewhere.{new_sent, reset}
 use Rattle.story_safety.proofs.Following.{Follows, by_itself, follows_ask, follows_crash, follows_delivered, follows_here, follows_scribble, own_call}
 use Rattle.story_safety.proofs.Members.{place_in}
@@ -84,3 +84,8 @@ module _ (w : World) (e : Epoch) (rec : Record) (files : List File) (v : World) 
 pub goes_on_held : (w : World) (e : Epoch) (x : Event) (rec : Record) (files : List File) (v : World) → rec.session ≡ e.session
     → Holds (mirror_of w e rec files) → session_of w x ≡ e.session → e.session ≢ w.rec.session → goes_on (as_of w e) x ≡ Ok v → HasGoneOn w e v rec files
 goes_on_held w e x rec files v same h is apart ok = goes w e rec files v same h (followed w e rec files v x is apart ok)
+
+-- it leaves the record, the files and most logs as they are
+pub goes_left : (w : World) (e : Epoch) (x : Event) (v : World) → session_of w x ≡ e.session → e.session ≢ w.rec.session → goes_on (as_of w e) x ≡ Ok v
+    → left_of (as_of w e) v ≡ v
+goes_left w e x v is apart ok = (followed w e w.rec [] v x is apart ok).follows.stays

@@ -556,9 +556,9 @@ within_ok : (s : Story) (r : Result Story Stop) (next : Story) → within s r �
 within_ok s (Err stop) next e = cc
 within_ok s (Ok after) next e = elim (nat_le MOST_EVENTS (length s.now.answers)) as (λ b. (if b then Err EventLimit else Ok after) ≡ Ok next → ◌≡◌ {A = Result Story Stop} (Ok after) (Ok next)) [ true ↦ (λ g. cc) | false ↦ (λ g. g) ] e
 
-pub sound_told : (s : Story) (ms : List Moment) (after : Story) → Sound s → Tells s ms after → Sound after
-sound_told s [] after h t = subst Sound (sym t) h
-sound_told s (m ∷ ms) after h t = sound_told t.1 ms after (moment_sound s t.0 m t.1 h t.2 (within_ok s (passed s t.0 m) t.1 t.3)) t.4
+pub sound_told : (s : Story) (ms : List Moment) (end : Story) → Sound s → Tells s ms end → Sound end
+sound_told s [] end h t = subst Sound (sym t) h
+sound_told s (m ∷ ms) end h t = sound_told t.1 ms end (moment_sound s t.0 m t.1 h t.2 (within_ok s (passed s t.0 m) t.1 t.3)) t.4
 
 pub empty_sound : (numbers : ℕ) (stock : List Kind) → Sound (empty_story numbers stock)
 empty_sound numbers stock = record {

@@ -1,130 +1,18 @@
 -- An earlier run in the place of the present one, an event at a server of it, and back.
-use Rattle.std.proofs.Common.{◌≡◌, ◌<◌, ℕ, zero, suc, true, false, List, [], ◌∷◌, map, Option, Some, None, Result, Ok, Err, OnOk, length, get_or, set, refl, ap, sym, ◌∙◌, subst, arith, append-nil, if◌then◌else◌}
-use Rattle.std.specs.Prelude.{IfErr, IfSome, slice_get}
+use Rattle.std.proofs.Common.{◌≡◌, ◌<◌, ℕ, zero, suc, true, false, List, [], ◌∷◌, map, Option, Some, None, Result, Ok, length, get_or, set, refl, ap, sym, ◌∙◌, subst, arith, if◌then◌else◌}
+use Rattle.std.specs.Prelude.{IfSome, slice_get}
 use Rattle.std.proofs.lemmas.Bool.{eqb-true}
 use Rattle.std.proofs.lemmas.List.{map-set, set-set}
-use Rattle.embed_core.specs.Kinds.{Kind}
-use Rattle.wire_msgs.specs.Found.{IsPlace, find, nth, put}
-use Rattle.wire_msgs.specs.declared.message.Message.{Message}
-use Rattle.wire_msgs.specs.declared.message.Said.{Said}
-use Rattle.wire_msgs.specs.declared.message.Said.TheVariants.{Call, Reply, Write, Ask}
-use Rattle.wire_msgs.specs.declared.operation.Operation.{Operation}
-use Rattle.server_model.specs.Server.{Served, Told, ask_deactivate, on_call, scribble, wanted}
-use Rattle.server_model.specs.declared.fault.ServerFault.{ServerFault}
+use Rattle.wire_msgs.specs.Found.{IsPlace, find, put}
 use Rattle.world_model.specs.declared.event.Event.{Event}
-use Rattle.world_model.specs.declared.event.Event.TheVariants as event
 use Rattle.world_model.specs.declared.event.Stop.{Stop}
 use Rattle.world_model.specs.declared.event.Stop.TheVariants.{NotEnabled}
-use Rattle.world_model.specs.declared.life.Life.{Life}
-use Rattle.world_model.specs.declared.life.Life.TheVariants.{Running, Ended, Reaped}
-use Rattle.world_model.specs.declared.logs.Sent.{Sent}
-use Rattle.world_model.specs.World as world
-use Rattle.world_model.specs.World.{Instance, Refuses, World, ask, called, called_in, called_wanting, crash, crashed, deliver, delivered_said, in_session, is_of, limited, link_of, served, spoken, spoken_by, stocked, taken_said, with_taken, without_first}
-use Rattle.story_model.specs.Story.{Epoch, RefusesMoment, Story, as_of, earlier, goes_on, is_session, session_at, session_of, session_of_call, within}
+use Rattle.world_model.specs.World.{Refuses, World, limited}
+use Rattle.story_model.specs.Story.{Epoch, RefusesMoment, Story, as_of, earlier, goes_on, is_session, session_of, within}
+use Rattle.story_safety.proofs.GoingOn.{goes_left}
 use Rattle.world_run.specs.Passes.{left_at, swapped}
 use Rattle.world_run.proofs.Passing.{left, left_refused, left_taken, limited_ok}
 use Rattle.world_state.proofs.Servers.{seen_at}
-
--- ---- what happens at a server leaves the record and the files
-record Unmoved (w v : World) : Type 0 where
-  pub rec : v.rec ≡ w.rec
-  pub files : v.files ≡ w.files
-
-unmoved : (w u v : World) → Unmoved w u → ◌≡◌ {A = Result World Stop} (Ok u) (Ok v) → Unmoved w v
-unmoved w u v h e = (let is : u ≡ v = cc in subst (Unmoved w) is h)
-
-served_unmoved : (w : World) (s inc act n : ℕ) (i : Instance) (stock : List Kind) (told : Result Served ServerFault) → Unmoved w (served w s inc act n i stock told)
-served_unmoved w s inc act n i stock (Err fault) = record { rec = refl; files = refl }
-served_unmoved w s inc act n i stock (Ok x) = record { rec = refl; files = refl }
-
-spoken_unmoved : (w : World) (inc act : ℕ) (i : Instance) (told : Result Told ServerFault) → Unmoved w (spoken_by w inc act i told)
-spoken_unmoved w inc act i (Err fault) = record { rec = refl; files = refl }
-spoken_unmoved w inc act i (Ok x) = record { rec = refl; files = refl }
-
-module _ (w v : World) where
-  stocked_leaves : (s inc act n : ℕ) (op : Operation) (i : Instance) (class : List ℕ) (kind : Option Kind) → stocked w s inc act n op i class kind ≡ Ok v → Unmoved w v
-  stocked_leaves s inc act n op i class None e = cc
-  stocked_leaves s inc act n op i class (Some kind) e =
-      unmoved w _ v (served_unmoved w s inc act n i (without_first (is_of class) w.stock) (on_call i.core (in_session s (Call inc act n op)) (Some kind))) e
-
-  wanting_leaves : (s inc act n : ℕ) (op : Operation) (i : Instance) (class : Option (List ℕ)) → called_wanting w s inc act n op i class ≡ Ok v → Unmoved w v
-  wanting_leaves s inc act n op i None e = unmoved w _ v (served_unmoved w s inc act n i w.stock (on_call i.core (in_session s (Call inc act n op)) None)) e
-  wanting_leaves s inc act n op i (Some class) e = stocked_leaves s inc act n op i class (find (is_of class) w.stock) e
-
-  life_leaves : (s inc act n : ℕ) (op : Operation) (i : Instance) (life : Life) → called_in w s inc act n op i life ≡ Ok v → Unmoved w v
-  life_leaves s inc act n op i Running e = wanting_leaves s inc act n op i (wanted i.core (in_session s (Call inc act n op))) e
-  life_leaves s inc act n op i Ended e = unmoved w _ v (record { rec = refl; files = refl }) e
-  life_leaves s inc act n op i Reaped e = unmoved w _ v (record { rec = refl; files = refl }) e
-
-  called_leaves : (s inc act n : ℕ) (op : Operation) (i : Option Instance) → called w s inc act n op i ≡ Ok v → Unmoved w v
-  called_leaves s inc act n op None e = unmoved w _ v (record { rec = refl; files = refl }) e
-  called_leaves s inc act n op (Some i) e = life_leaves s inc act n op i i.life e
-
-module _ (w v : World) where
-  said_leaves : (p : ℕ) (m : Message) (x : Said) → (session_of_call w.rec.session m x ≡ w.rec.session → ⊥)
-      → with_taken w (taken_said w.rec (Some p) (link_of m) m x) (delivered_said w m x) ≡ Ok v → Unmoved w v
-  said_leaves p m (Call inc act n op) apart e = at (called w m.session inc act n op (nth w.instances inc)) (λ u is. called_leaves w u m.session inc act n op (nth w.instances inc) is) e
-    where
-      at : (r : Result World Stop) → ((u : World) → r ≡ Ok u → Unmoved w u) → with_taken w [] r ≡ Ok v → Unmoved w v
-      at (Err stop) h e = cc
-      at (Ok u) h e = (let k = h u refl in unmoved w (record u { taken = w.taken ++ [] }) v (record { rec = k.rec; files = k.files }) e)
-  said_leaves p m (Reply inc act n answer) apart e = absurd (apart refl)
-  said_leaves p m (Write inc act s number content) apart e = absurd (apart refl)
-  said_leaves p m (Ask inc act g) apart e = absurd (apart refl)
-
-  sent_leaves : (p : ℕ) (x : Option Sent) → (session_at w.rec.session x ≡ w.rec.session → ⊥) → deliver w p x ≡ Ok v → Unmoved w v
-  sent_leaves p None apart e = cc
-  sent_leaves p (Some x) apart e = said_leaves p x.message x.message.said apart e
-
-  crashed_leaves : (inc : ℕ) (i : Instance) (life : Life) → crashed w inc i life ≡ Ok v → Unmoved w v
-  crashed_leaves inc i Running e = unmoved w _ v (record { rec = refl; files = refl }) e
-  crashed_leaves inc i Ended e = cc
-  crashed_leaves inc i Reaped e = cc
-
-  crash_leaves : (inc : ℕ) (i : Option Instance) → crash w inc i ≡ Ok v → Unmoved w v
-  crash_leaves inc None e = cc
-  crash_leaves inc (Some i) e = crashed_leaves inc i i.life e
-
-  spoken_leaves : (inc act : ℕ) (i : Instance) (life : Life) (told : Result Told ServerFault) → spoken w inc act i life told ≡ Ok v → Unmoved w v
-  spoken_leaves inc act i Running told e = unmoved w _ v (spoken_unmoved w inc act i told) e
-  spoken_leaves inc act i Ended told e = cc
-  spoken_leaves inc act i Reaped told e = cc
-
-  scribble_leaves : (inc act : ℕ) (i : Option Instance) → world.scribble w inc act i ≡ Ok v → Unmoved w v
-  scribble_leaves inc act None e = cc
-  scribble_leaves inc act (Some i) e = spoken_leaves inc act i i.life (scribble i.core act) e
-
-  ask_leaves : (inc act : ℕ) (i : Option Instance) → ask w inc act i ≡ Ok v → Unmoved w v
-  ask_leaves inc act None e = cc
-  ask_leaves inc act (Some i) e = spoken_leaves inc act i i.life (ask_deactivate i.core act) e
-
-  -- what isn't of the present session is a call
-  goes_leaves : (e : Event) → (session_of w e ≡ w.rec.session → ⊥) → goes_on w e ≡ Ok v → Unmoved w v
-  goes_leaves (event.Command c) apart e = cc
-  goes_leaves (event.Deliver p) apart e = sent_leaves p (nth w.sent p) apart e
-  goes_leaves (event.Forge inc m) apart e = cc
-  goes_leaves (event.Crash session inc) apart e = crash_leaves inc (nth w.instances inc) e
-  goes_leaves (event.Reap inc) apart e = cc
-  goes_leaves (event.Done f) apart e = cc
-  goes_leaves (event.Fail f) apart e = cc
-  goes_leaves (event.Resolve f is_kept) apart e = cc
-  goes_leaves (event.Open name width height) apart e = cc
-  goes_leaves (event.Scribble session inc act) apart e = scribble_leaves inc act (nth w.instances inc) e
-  goes_leaves (event.Ask session inc act) apart e = ask_leaves inc act (nth w.instances inc) e
-
--- the session of an event is the same in the place of another run
-session_there : (w : World) (x : Epoch) (e : Event) → session_of (as_of w x) e ≡ session_of w e
-session_there w x (event.Command c) = refl
-session_there w x (event.Deliver p) = refl
-session_there w x (event.Forge inc m) = refl
-session_there w x (event.Crash session inc) = refl
-session_there w x (event.Reap inc) = refl
-session_there w x (event.Done f) = refl
-session_there w x (event.Fail f) = refl
-session_there w x (event.Resolve f is_kept) = refl
-session_there w x (event.Open name width height) = refl
-session_there w x (event.Scribble session inc act) = refl
-session_there w x (event.Ask session inc act) = refl
 
 -- ---- places in lists
 set_here : {A : Type 0} (xs : List A) (i : ℕ) (a : A) → i < length xs → slice_get (set xs i a) i ≡ Some a
@@ -198,16 +86,21 @@ module _ (s : Story) (n i : ℕ) (e : Event) (p : IsPlace (is_session n) s.past 
         ∙ (ap (λ (y : Story). swapped y away i) (is_second same)
         ∙ ap (λ es. record s { now = as_of v away; past = es }) (set-set s.past i away (left_at x.session v)))
 
-    pub goes_taken : (session_of s.now e ≡ s.now.rec.session → ⊥) → limited first.now (goes_on first.now e) ≡ Ok v → within s (earlier s e (find (is_session n) s.past)) ≡ Ok third
-    goes_taken apart h =
+    pub goes_taken : session_of s.now e ≡ n → (n ≡ s.now.rec.session → ⊥) → limited first.now (goes_on first.now e) ≡ Ok v
+        → within s (earlier s e (find (is_session n) s.past)) ≡ Ok third
+    goes_taken is apart h =
+        let own = found_passes n s.past x found in
+        let after = left_at x.session v in
         let gone : limited (as_of s.now x) (goes_on (as_of s.now x) e) ≡ Ok v = subst (λ (y : Story). limited y.now (goes_on y.now e) ≡ Ok v) is_first h in
-        let k = goes_leaves (as_of s.now x) v e (λ q. apart (sym (session_there s.now x e) ∙ q)) (limited_ok (as_of s.now x) (goes_on (as_of s.now x) e) v gone) in
-        let same : v.rec ≡ first.now.rec = k.rec ∙ sym (ap (λ (y : Story). y.now.rec) is_first) in
-        let now : as_of v away ≡ record s.now { stock = v.stock; sent = v.sent; answers = v.answers } = ap (λ r. record (as_of v away) { rec = r }) k.rec ∙ ap (λ fs. record (as_of v away) { rec = s.now.rec; files = fs }) k.files in
-        let past : set s.past i (left_at x.session v) ≡ put (is_session x.session) (left_at x.session v) s.past = sym (p.puts (left_at x.session v)) ∙ ap (λ m. put (is_session m) (left_at x.session v) s.past) (sym (found_passes n s.past x found)) in
+        let k = goes_left s.now x e v (is ∙ sym own) (λ q. apart (sym own ∙ q)) (limited_ok (as_of s.now x) (goes_on (as_of s.now x) e) v gone) in
+        let same : v.rec ≡ first.now.rec = ap (λ (y : World). y.rec) (sym k) ∙ sym (ap (λ (y : Story). y.now.rec) is_first) in
+        let now : as_of v away ≡ record s.now { stock = v.stock; sent = v.sent; answers = v.answers } = ap (λ (y : World). as_of y away) (sym k) in
+        let past : set s.past i after ≡ put (is_session x.session) after s.past = sym (p.puts after) ∙ ap (λ m. put (is_session m) after s.past) (sym own) in
         ap (λ o. within s (earlier s e o)) found
         ∙ (left_taken s x (goes_on (as_of s.now x) e) v gone
-        ∙ ap Ok (sym (is_third same ∙ (ap (λ w. record s { now = w; past = set s.past i (left_at x.session v) }) now ∙ ap (λ es. record s { now = record s.now { stock = v.stock; sent = v.sent; answers = v.answers }; past = es }) past))))
+        ∙ ap Ok (sym (is_third same
+        ∙ (ap (λ w. record s { now = w; past = set s.past i after }) now
+        ∙ ap (λ es. record s { now = record s.now { stock = v.stock; sent = v.sent; answers = v.answers }; past = es }) past))))
 
     pub goes_kept : v ≡ first.now → third ≡ s
     goes_kept h =

@@ -16,7 +16,7 @@ returns-clause-taken g c =
     let v = seen (λ s. (goal.Embedded-dyn g (s.boxed.vtable, s.boxed.value)).content s.boxed.value) c.go_on-outcome.new.state in
     on_ok c.go_on-outcome.result (goes_taken s c.args.session c.in-Some.i c.args.event.now p (told (λ s. (goal.Embedded-dyn g (s.boxed.vtable, s.boxed.value)).content s.boxed.value) c.swap.new.self) c.swap.ensures v _ (told (λ s. (goal.Embedded-dyn g (s.boxed.vtable, s.boxed.value)).content s.boxed.value) c.swap-2.new.self)
     (λ same. ap (λ r. record (told (λ s. (goal.Embedded-dyn g (s.boxed.vtable, s.boxed.value)).content s.boxed.value) c.swap.new.self) { now = v; document = document_of r c.swap.new.self.has_document c.swap.new.self.document }) same)
-    c.swap-2.ensures (λ q. c.requires.earlier (c.requires.session ∙ (sym (session_seen c.args.self.now.state.host s.now.instances s.now.stock c.args.event.now) ∙ q))))
+    c.swap-2.ensures (session_seen c.args.self.now.state.host s.now.instances s.now.stock c.args.event.now ∙ sym c.requires.session) c.requires.earlier)
     c.go_on-outcome.ensures.taken
 
 pub returns-clause-refused : goal.returns-clause-refused
