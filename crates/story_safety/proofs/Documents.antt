@@ -81,36 +81,27 @@ first_in r t frame e at = ap (λ (y : Record). nth y.frames 1) (sym e) ∙ at
 session_in : (r t : Record) → t ≡ r → t.session ≡ r.session
 session_in r t e = ap (λ (y : Record). y.session) e
 
-unchanged : (s : Story) (v : World) → DocumentStands s s.document → v.rec ≡ s.now.rec → KeepsFirst s.now v → v.files ≡ s.now.files → DocumentStands (record s { now = v }) s.document
+unchanged : (s : Story) (v : World) → DocumentStands s s.document → v.rec ≡ s.now.rec → KeepsFirst s.now v → v.files ≡ s.now.files
+    → DocumentStands (record s { now = v }) s.document
 unchanged s v d rec keeps files =
-    stays_in s v s.document s.kept s.document d (session_in s.now.rec v.rec rec) keeps (λ name h is. same_file s.now v name files) (λ name h is frame at. h.framed frame (first_in s.now.rec v.rec frame rec at))
+    stays_in s v s.document s.kept s.document d (session_in s.now.rec v.rec rec) keeps (λ name h is. same_file s.now v name files)
+    (λ name h is frame at. h.framed frame (first_in s.now.rec v.rec frame rec at))
 
 -- ---- steps that make and open no frame, and count none
 abbrev IsStill : Input → Type 0
 IsStill (Input.Ordered c) = ⊥
-IsStill (Input.Told link m) = Unit {0}
-IsStill (Input.Reaped inc) = Unit {0}
-IsStill (Input.Committed f) = ⊥
-IsStill (Input.Failed f) = Unit {0}
-IsStill (Input.Resolved f true) = ⊥
-IsStill (Input.Resolved f false) = Unit {0}
 IsStill (Input.Opened name w h given) = ⊥
+IsStill x = Unit {0}
 
-still_counts_none : (x : Input) (f : ℕ) → IsStill x → Commits x f → ⊥
-still_counts_none (Input.Ordered c) f s k = k
-still_counts_none (Input.Told link m) f s k = k
-still_counts_none (Input.Reaped inc) f s k = k
-still_counts_none (Input.Committed g) f s k = s
-still_counts_none (Input.Failed g) f s k = k
-still_counts_none (Input.Resolved g true) f s k = s
-still_counts_none (Input.Resolved g false) f s k = k
-still_counts_none (Input.Opened name w h given) f s k = k
+abbrev Still : World → World → Input → Type 0
+Still w v x = IsStill x × ((f : ℕ) → Commits x f → ⊥) × (CountsBy w v x → KeepsFirst w v)
 
-still_stays : (r : Record) (x : Input) (t : Took) → IsStill x → FramesGo r x t → FramesStay r.session r.frames t.rec.frames × (t.rec.session ≡ r.session)
-still_stays r x t s (frames_stay stay session) = (stay, session)
-still_stays r x t s (frame_made name w h q frames session) = absurd (subst IsStill q s)
-still_stays r x t s (frame_opened name w h d q frames session) = absurd (subst IsStill q s)
-still_stays r x t s (frame_counted f frame c at busy made) = absurd (still_counts_none x f s c)
+still_stays : (w v : World) (x : Input) (t : Took) → Still w v x → FramesGo w.rec x t
+    → FramesStay w.rec.session w.rec.frames t.rec.frames × (t.rec.session ≡ w.rec.session)
+still_stays w v x t k (frames_stay stay session) = (stay, session)
+still_stays w v x t k (frame_made name a b q frames session) = absurd (subst IsStill q k.0)
+still_stays w v x t k (frame_opened name a b d q frames session) = absurd (subst IsStill q k.0)
+still_stays w v x t k (frame_counted f frame c at busy made) = absurd (k.1 f c)
 
 stayed : (s : Story) (v : World) (t : Took) → DocumentStands s s.document → FramesStay s.now.rec.session s.now.rec.frames t.rec.frames → t.rec.session ≡ s.now.rec.session → v.rec ≡ t.rec
     → KeepsFirst s.now v → v.files ≡ s.now.files → DocumentStands (record s { now = v }) s.document
@@ -120,17 +111,12 @@ stayed s v t d stay session rec keeps files =
     let b = h.framed p.0 p.1 in
     (p.2.name ∙ b.0, p.2.session_same ∙ b.1)))
 
--- and keep what was counted of frame 1
-abbrev Still : World → World → Input → Type 0
-Still w v x = IsStill x × (CountsBy w v x → KeepsFirst w v)
-
-still_step : (s : Story) (v : World) (choice : Choice) (e : Event) → DocumentStands s s.document → Steps s.now v choice e → ((x : Input) → IsInputOf x choice e → Still s.now v x)
-    → v.files ≡ s.now.files
-    → DocumentStands (record s { now = v }) s.document
+still_step : (s : Story) (v : World) (choice : Choice) (e : Event) → DocumentStands s s.document → Steps s.now v choice e
+    → ((x : Input) → IsInputOf x choice e → Still s.now v x) → v.files ≡ s.now.files → DocumentStands (record s { now = v }) s.document
 still_step s v choice e d (rec_stays none rec keeps) still files = unchanged s v d rec keeps files
 still_step s v choice e d (rec_steps x t input ok rec counts) still files = (let k = still x input in
-    let p = still_stays s.now.rec x t k.0 (steps_move_frames s.now.rec x t ok) in
-    stayed s v t d p.0 p.1 rec (k.1 counts) files)
+    let p = still_stays s.now v x t k (steps_move_frames s.now.rec x t ok) in
+    stayed s v t d p.0 p.1 rec (k.2 counts) files)
 
 -- ---- a new frame
 none_first : (frames : List Frame) → 1 ≡ suc (length frames) → nth frames 1 ≡ None
@@ -143,8 +129,8 @@ made_first (Some x) document name may none there = cc
 made_first None None name may none there = cc
 made_first None (Some d) name may none there = cc
 
-command_goes : (s : Story) (v : World) (c : Command) (x : Input) (t : Took) → DocumentStands s s.document → x ≡ Input.Ordered c → v.rec ≡ t.rec → KeepsFirst s.now v → v.files ≡ s.now.files
-    → may_command s c ≡ true → FramesGo s.now.rec x t → DocumentStands (record s { now = v }) s.document
+command_goes : (s : Story) (v : World) (c : Command) (x : Input) (t : Took) → DocumentStands s s.document → x ≡ Input.Ordered c → v.rec ≡ t.rec
+    → KeepsFirst s.now v → v.files ≡ s.now.files → may_command s c ≡ true → FramesGo s.now.rec x t → DocumentStands (record s { now = v }) s.document
 command_goes s v c x t d input rec keeps files may (frames_stay stay session) = stayed s v t d stay session rec keeps files
 command_goes s v c x t d input rec keeps files may (frame_made name w h q frames session) =
     let both : Input.Ordered c ≡ Input.Ordered (command.New name w h) = sym input ∙ q in
@@ -155,12 +141,12 @@ command_goes s v c x t d input rec keeps files may (frame_made name w h q frames
       | inl old ↦ own.framed frame old
       | inr new ↦ absurd (made_first (nth s.now.rec.frames 1) s.document other free (none_first s.now.rec.frames new.1) there)
     ])
-command_goes s v c x t d input rec keeps files may (frame_opened name w h given q frames session) = (let both : Input.Ordered c ≡ Input.Opened name w h (Given.Holding given) = sym input ∙ q in cc)
+command_goes s v c x t d input rec keeps files may (frame_opened name w h given q frames session) =
+    (let both : Input.Ordered c ≡ Input.Opened name w h (Given.Holding given) = sym input ∙ q in cc)
 command_goes s v c x t d input rec keeps files may (frame_counted f frame counts at busy made) = absurd (subst (λ (y : Input). Commits y f) input counts)
 
-command_step : (s : Story) (v : World) (choice : Choice) (c : Command) → DocumentStands s s.document → Steps s.now v choice (event.Command c) → v.files ≡ s.now.files
-    → may_command s c ≡ true
-    → DocumentStands (record s { now = v }) s.document
+command_step : (s : Story) (v : World) (choice : Choice) (c : Command) → DocumentStands s s.document → Steps s.now v choice (event.Command c)
+    → v.files ≡ s.now.files → may_command s c ≡ true → DocumentStands (record s { now = v }) s.document
 command_step s v choice c d (rec_stays none rec keeps) files may = unchanged s v d rec keeps files
 command_step s v choice c d (rec_steps x t input ok rec counts) files may =
     command_goes s v c x t d input rec (subst (CountsBy s.now v) input counts) files may (steps_move_frames s.now.rec x t ok)
@@ -186,7 +172,8 @@ open_step : (s : Story) (v : World) (choice : Choice) (name : List ℕ) (width h
 open_step s v choice name width height d (rec_stays none rec keeps) files read may = unchanged s v d rec keeps files
 open_step s v choice name width height d (rec_steps x t input ok rec counts) files read may =
     let o = is_opened s.now.rec name width height choice.given t (subst (λ (y : Input). on_input s.now.rec y ≡ Ok t) input ok) in
-    stays_in s v s.document s.kept s.document d (session_in t.rec v.rec rec ∙ sym (ap (λ (y : Took). y.rec.session) o.made)) (subst (CountsBy s.now v) input counts) (λ own h is. same_file s.now v own files)
+    stays_in s v s.document s.kept s.document d (session_in t.rec v.rec rec ∙ sym (ap (λ (y : Took). y.rec.session) o.made))
+    (subst (CountsBy s.now v) input counts) (λ own h is. same_file s.now v own files)
     (λ own h there frame at. elim (nth_one s.now.rec.frames (opened_frame name width height o.d.session) 1 frame (ap (λ (y : Took). nth y.rec.frames 1) o.made ∙ first_in t.rec v.rec frame rec at)) [
       | inl old ↦ h.framed frame old
       | inr new ↦ (let is : own ≡ name = opened_first (nth s.now.rec.frames 1) s.document name own may (none_first s.now.rec.frames new.1) there in (
@@ -205,17 +192,19 @@ session_other session f frame None h other = refl
 session_other session f frame (Some n) h other = absurd (other h.1)
 
 -- what a session document was raised to, and the session that was there before
-session_raised : (session f : ℕ) (frame : Frame) (raised : Option ℕ) → MayRaise session f frame raised → (session ≢ 0 → frame.session ≡ session) → session_after session raised ≢ 0
-    → session_after frame.session raised ≡ session_after session raised
+session_raised : (session f : ℕ) (frame : Frame) (raised : Option ℕ) → MayRaise session f frame raised → (session ≢ 0 → frame.session ≡ session)
+    → session_after session raised ≢ 0 → session_after frame.session raised ≡ session_after session raised
 session_raised session f frame None h same there = same there
 session_raised session f frame (Some n) h same there = refl
 
 -- frame 1 is of the session of its run
-frame_session : (s : Story) (d : Option (List ℕ)) (frame : Frame) → DocumentStands s d → nth s.now.rec.frames 1 ≡ Some frame → s.now.rec.session ≢ 0 → frame.session ≡ s.now.rec.session
+frame_session : (s : Story) (d : Option (List ℕ)) (frame : Frame) → DocumentStands s d → nth s.now.rec.frames 1 ≡ Some frame → s.now.rec.session ≢ 0
+    → frame.session ≡ s.now.rec.session
 frame_session s None frame d at there = absurd (there d.1)
 frame_session s (Some name) frame d at there = (d.framed frame at).1 ∙ (d.raised there).0
 
-module _ (s : Story) (v : World) (bytes : List ℕ) (f : ℕ) (d : DocumentStands s s.document) (apart : Apart s.now.rec.frames) (ses : InSession s.now.rec) (aligned : length s.now.counted ≡ length s.now.rec.frames)
+module _ (s : Story) (v : World) (bytes : List ℕ) (f : ℕ) (d : DocumentStands s s.document)
+    (apart : Apart s.now.rec.frames) (ses : InSession s.now.rec) (aligned : length s.now.counted ≡ length s.now.rec.frames)
     (c : Counts s.now v f) (of : AreOf bytes c.saved) (files : v.files ≡ put_file (made_name c.frame) bytes s.now.files) where
   abbrev frame : Frame
   frame = c.frame
@@ -244,7 +233,8 @@ module _ (s : Story) (v : World) (bytes : List ℕ) (f : ℕ) (d : DocumentStand
       let there = nth_aligned s.now.rec.frames s.now.counted f c.frame (sym aligned) c.at in
       record {
         bytes = bytes;
-        file = ap (λ (fs : List File). file_bytes (find (is_file (made_name c.frame)) fs)) files ∙ ap file_bytes (found_put (made_name c.frame) bytes s.now.files);
+        file =
+            ap (λ (fs : List File). file_bytes (find (is_file (made_name c.frame)) fs)) files ∙ ap file_bytes (found_put (made_name c.frame) bytes s.now.files);
         saved = c.saved;
         is = of;
         above = epoch_above s v c.saved.session (λ e g. (let le : e.session ≤ c.frame.session = before e g in omega arith)) (omega arith);
@@ -253,10 +243,13 @@ module _ (s : Story) (v : World) (bytes : List ℕ) (f : ℕ) (d : DocumentStand
           | inr p ↦ absurd (p.0 (sym one))
         ];
         raised = λ ne. (let same : c.saved.session ≡ v.rec.session = session
-            ∙ (session_raised s.now.rec.session f c.frame c.frame.raised may_raise (frame_session s s.document c.frame d first) (λ z. ne (own ∙ z)) ∙ sym own) in
+            ∙ (session_raised s.now.rec.session f c.frame c.frame.raised may_raise (frame_session s s.document c.frame d first)
+            (λ z. ne (own ∙ z)) ∙ sym own) in
             (same, record {
               document = c.document;
-              first = counted_in (Some c.document) (subst (λ (n : ℕ). nth (set_nth s.now.counted f (Some c.document)) n ≡ Some (Some c.document)) one (nth-set_same s.now.counted f there.0 (Some c.document) there.1));
+              first = counted_in (Some c.document)
+                  (subst (λ (n : ℕ). nth (set_nth s.now.counted f (Some c.document)) n ≡ Some (Some c.document)) one
+                  (nth-set_same s.now.counted f there.0 (Some c.document) there.1));
               bears = c.bears ∙ same;
             }));
       }
@@ -266,7 +259,8 @@ module _ (s : Story) (v : World) (bytes : List ℕ) (f : ℕ) (d : DocumentStand
       (raised_session ∙ session_other s.now.rec.session f c.frame c.frame.raised may_raise other)
       (λ x at. counted_in (Some x) (nth-set_other s.now.counted f 1 (Some c.document) other ∙ at))
       (λ name h there. (let x = first_there s.now.rec.frames f c.frame c.at in
-      let free : name ≢ made_name c.frame = λ q. other (apart f 1 c.frame x.0 name c.at x.1 (subst (Bears c.frame) (sym q) (bears_made c.frame)) (inl (h.framed x.0 x.1).0)) in
+      let free : name ≢ made_name c.frame = λ q. other (apart f 1 c.frame x.0 name c.at x.1 (subst (Bears c.frame) (sym q) (bears_made c.frame))
+      (inl (h.framed x.0 x.1).0)) in
       ap (λ (fs : List File). file_bytes (find (is_file name) fs)) files ∙ ap file_bytes (found_other (made_name c.frame) name bytes s.now.files free)))
       (λ name h there new found. elim (nth_set_apart s.now.rec.frames f 1 (committed_frame c.frame) new (in_set new found)) [
         | inl p ↦ absurd (other (sym p.0))
@@ -276,10 +270,12 @@ module _ (s : Story) (v : World) (bytes : List ℕ) (f : ℕ) (d : DocumentStand
   counted_document : DocumentStands (committed_by s f v) (document_by f (nth s.now.rec.frames f) s.document)
   counted_document = subst (λ (found : Option Frame). DocumentStands (committed_by s f v) (document_by f found s.document)) (sym c.at) (elim (eqb_tells f 1) [
     | inl one ↦ subst (λ (b : Bool). DocumentStands (committed_by s f v) (if b then Some (made_name c.frame) else s.document)) (sym one.0) (first_counted one.1)
-    | inr other ↦ subst (λ (b : Bool). DocumentStands (committed_by s f v) (if b then Some (made_name c.frame) else s.document)) (sym other.0) (other_counted other.1)
+    | inr other ↦ subst (λ (b : Bool). DocumentStands (committed_by s f v) (if b then Some (made_name c.frame) else s.document)) (sym other.0)
+        (other_counted other.1)
   ])
 
-commit_step : (s : Story) (v : World) (choice : Choice) (f : ℕ) → DocumentStands s s.document → Apart s.now.rec.frames → InSession s.now.rec → length s.now.counted ≡ length s.now.rec.frames → Counts s.now v f
+commit_step : (s : Story) (v : World) (choice : Choice) (f : ℕ) → DocumentStands s s.document → Apart s.now.rec.frames → InSession s.now.rec
+    → length s.now.counted ≡ length s.now.rec.frames → Counts s.now v f
     → IsImageOf s.now f choice.file → v.files ≡ put_committed choice.file (nth s.now.rec.frames f) s.now.files
     → DocumentStands (committed_by s f v) (document_by f (nth s.now.rec.frames f) s.document)
 commit_step s v choice f d apart ses aligned c makes files =
@@ -295,24 +291,31 @@ pub record Standing (s : Story) : Type 0 where
   pub in_session : InSession s.now.rec
   pub aligned : length s.now.counted ≡ length s.now.rec.frames
 
-pub document_follows : (s : Story) (choice : Choice) (e : Event) (v : World) → Standing s → Steps s.now v choice e → v.files ≡ made_by s.now choice e s.now.files
+pub document_follows : (s : Story) (choice : Choice) (e : Event) (v : World) → Standing s → Steps s.now v choice e
+    → v.files ≡ made_by s.now choice e s.now.files
     → MakesImage s.now choice e → IsImage s.now choice e → may_begin s e ≡ true → DocumentStands (followed s e v) (followed s e v).document
 document_follows s choice (event.Command c) v k st files makes read may = command_step s v choice c k.document st files may
-document_follows s choice (event.Deliver p) v k st files makes read may = still_step s v choice (event.Deliver p) k.document st (λ x input. subst (Still s.now v) (sym input.2) (tt, λ c. c)) files
+document_follows s choice (event.Deliver p) v k st files makes read may =
+    still_step s v choice (event.Deliver p) k.document st (λ x input. subst (Still s.now v) (sym input.2) (tt, (λ f c. c), λ c. c)) files
 document_follows s choice (event.Forge inc m) v k st files makes read may =
-    still_step s v choice (event.Forge inc m) k.document st (λ x input. subst (Still s.now v) (sym input.1) (tt, λ c. c)) files
-document_follows s choice (event.Crash session inc) v k st files makes read may = still_step s v choice (event.Crash session inc) k.document st (λ x input. absurd input) files
-document_follows s choice (event.Reap inc) v k st files makes read may = still_step s v choice (event.Reap inc) k.document st (λ x input. subst (Still s.now v) (sym input) (tt, λ c. c)) files
-document_follows s choice (event.Done f) v k st files makes read may = commit_step s v choice f k.document k.apart k.in_session k.aligned (done_counts s.now v choice f st) makes files
-document_follows s choice (event.Fail f) v k st files makes read may = still_step s v choice (event.Fail f) k.document st (λ x input. subst (Still s.now v) (sym input) (tt, λ c. c)) files
+    still_step s v choice (event.Forge inc m) k.document st (λ x input. subst (Still s.now v) (sym input.1) (tt, (λ f c. c), λ c. c)) files
+document_follows s choice (event.Crash session inc) v k st files makes read may =
+    still_step s v choice (event.Crash session inc) k.document st (λ x input. absurd input) files
+document_follows s choice (event.Reap inc) v k st files makes read may =
+    still_step s v choice (event.Reap inc) k.document st (λ x input. subst (Still s.now v) (sym input) (tt, (λ f c. c), λ c. c)) files
+document_follows s choice (event.Done f) v k st files makes read may =
+    commit_step s v choice f k.document k.apart k.in_session k.aligned (done_counts s.now v choice f st) makes files
+document_follows s choice (event.Fail f) v k st files makes read may =
+    still_step s v choice (event.Fail f) k.document st (λ x input. subst (Still s.now v) (sym input) (tt, (λ f c. c), λ c. c)) files
 document_follows s choice (event.Resolve f true) v k st files makes read may =
     commit_step s v choice f k.document k.apart k.in_session k.aligned (kept_counts s.now v choice f st) makes files
 document_follows s choice (event.Resolve f false) v k st files makes read may =
-    still_step s v choice (event.Resolve f false) k.document st (λ x input. subst (Still s.now v) (sym input) (tt, λ c. c)) files
+    still_step s v choice (event.Resolve f false) k.document st (λ x input. subst (Still s.now v) (sym input) (tt, (λ f c. c), λ c. c)) files
 document_follows s choice (event.Open name width height) v k st files makes read may = open_step s v choice name width height k.document st files read may
 document_follows s choice (event.Scribble session inc act) v k st files makes read may =
     still_step s v choice (event.Scribble session inc act) k.document st (λ x input. absurd input) files
-document_follows s choice (event.Ask session inc act) v k st files makes read may = still_step s v choice (event.Ask session inc act) k.document st (λ x input. absurd input) files
+document_follows s choice (event.Ask session inc act) v k st files makes read may =
+    still_step s v choice (event.Ask session inc act) k.document st (λ x input. absurd input) files
 
 -- ---- before a session is raised
 none_before : (session f : ℕ) (frame : Frame) (raised : Option ℕ) → MayRaise session f frame raised → session_after session raised ≡ 0 → session ≡ 0
@@ -339,7 +342,8 @@ goes_unraised r x t idle ses (frame_counted g counted counts there busy made) f 
 
 pub unraised_follows : (w v : World) (choice : Choice) (e : Event) → AreUnraised w.rec → InSession w.rec → Steps w v choice e → AreUnraised v.rec
 unraised_follows w v choice e idle ses (rec_stays none rec keeps) = subst AreUnraised (sym rec) idle
-unraised_follows w v choice e idle ses (rec_steps x t input ok rec counts) = subst AreUnraised (sym rec) (goes_unraised w.rec x t idle ses (steps_move_frames w.rec x t ok))
+unraised_follows w v choice e idle ses (rec_steps x t input ok rec counts) =
+    subst AreUnraised (sym rec) (goes_unraised w.rec x t idle ses (steps_move_frames w.rec x t ok))
 
 goes_none : (r : Record) (x : Input) (t : Took) → InSession r → FramesGo r x t → t.rec.session ≡ 0 → r.session ≡ 0
 goes_none r x t ses (frames_stay stay session) unraised = sym session ∙ unraised
@@ -364,8 +368,8 @@ none_counted : (w v : World) (f : ℕ) → AreUnraised w.rec → InSession w.rec
 none_counted w v f idle ses c unraised = raises_one w.rec f c.frame c.frame.raised idle c.at refl (ses.raising f c.frame c.at) c.busy
     (sym (session_in (commit_made w.rec f c.frame).rec v.rec c.rec) ∙ unraised)
 
-pub none_made_follows : (w v : World) (choice : Choice) (e : Event) (mine : List File) → (w.rec.session ≡ 0 → mine ≡ []) → AreUnraised w.rec → InSession w.rec → Steps w v choice e
-    → v.rec.session ≡ 0 → made_by w choice e mine ≡ []
+pub none_made_follows : (w v : World) (choice : Choice) (e : Event) (mine : List File) → (w.rec.session ≡ 0 → mine ≡ []) → AreUnraised w.rec
+    → InSession w.rec → Steps w v choice e → v.rec.session ≡ 0 → made_by w choice e mine ≡ []
 none_made_follows w v choice e mine none idle ses st unraised = at e st (none (none_follows w v choice e ses st unraised))
   where
     at : (x : Event) → Steps w v choice x → mine ≡ [] → made_by w choice x mine ≡ []

@@ -1,8 +1,6 @@
 -- What happens elsewhere leaves a run by itself as it is; and a run that begins, and one that is over.
-use Rattle.std.proofs.Common.{◌≡◌, ◌≢◌, ◌⊎◌, ◌==◌, ℕ, zero, suc, Bool, true, false, List, [], ◌∷◌, ◌++◌, Option, Some, refl, sym, ap, ◌∙◌, subst, inl, inr}
-use Rattle.std.proofs.Common.{slice_get, if◌then◌else◌}
-use Rattle.std.proofs.lemmas.List.{append-nil, map-append}
-use Rattle.std.proofs.lemmas.Bool.Decides.{eqb_tells}
+use Rattle.std.proofs.Common.{◌≡◌, ◌≢◌, ◌⊎◌, ℕ, List, [], ◌++◌, Some, refl, sym, ap, ◌∙◌, subst}
+use Rattle.std.proofs.lemmas.List.{map-append}
 use Rattle.wire_msgs.specs.Found.{nth}
 use Rattle.wire_msgs.specs.declared.message.Message.{Message}
 use Rattle.wire_msgs.specs.declared.message.Said.{Said}
@@ -11,12 +9,12 @@ use Rattle.wire_msgs.specs.declared.operation.Operation.TheVariants.{Close}
 use Rattle.wire_msgs.specs.declared.answer.Answer.TheVariants as told
 use Rattle.object_state.specs.declared.operations.CloseOption.TheVariants.{SaveIfDirty}
 use Rattle.embed_core.specs.Kinds.{Kind}
-use Rattle.container_model.specs.Record.{Record, empty}
+use Rattle.container_model.specs.Record.{Record}
 use Rattle.world_model.specs.declared.logs.File.{File}
 use Rattle.world_model.specs.declared.logs.Sent.{Sent}
 use Rattle.world_model.specs.declared.logs.Taken.{Taken}
 use Rattle.world_model.specs.Safe.{Among, BringsBy, WasSent, messages}
-use Rattle.world_model.specs.World.{Instance, World, in_session}
+use Rattle.world_model.specs.World.{World, in_session}
 use Rattle.world_facts.proofs.Lookups.{among_join, among_new, among_old, nth_old}
 use Rattle.world_safety.specs.Holding.{Holds}
 use Rattle.world_safety.proofs.Held.{empty_held}
@@ -111,5 +109,6 @@ over w files h raised bears v es en = record {
   numbers = sym en;
   raised = raised;
   bears = bears;
-  holds = moved w (mirror_of v (epoch_of w) w.rec files) files (sent_in w.rec.session w.sent) (sent_in w.rec.session v.sent) refl (ap (sent_in w.rec.session) es) h;
+  holds =
+      moved w (mirror_of v (epoch_of w) w.rec files) files (sent_in w.rec.session w.sent) (sent_in w.rec.session v.sent) refl (ap (sent_in w.rec.session) es) h;
 }

@@ -21,8 +21,7 @@ use Rattle.world_model.specs.declared.logs.File.{File}
 use Rattle.world_model.specs.declared.logs.Sent.{Sent}
 use Rattle.world_model.specs.declared.logs.ServerDone.{ServerDone}
 use Rattle.world_model.specs.World.{Instance, World, ask, called, called_in, called_wanting, counted_by, crash, crashed, deliver, delivered_said, in_run}
-use Rattle.world_model.specs.World.{in_session}
-use Rattle.world_model.specs.World.{is_of, link_of, scribble, served, spoken, spoken_by, stocked, taken_said, view_in, with_taken}
+use Rattle.world_model.specs.World.{in_session, is_of, link_of, scribble, served, spoken, spoken_by, stocked, taken_said, view_in, with_taken}
 use Rattle.world_model.proofs.InRun.{in_run_here}
 use Rattle.story_model.specs.Story.{session_at, session_of_call}
 use Rattle.story_safety.specs.Steps.{left_of, quieted, twin}
@@ -106,7 +105,8 @@ module _ (a : World) (rec : Record) (files : List File) (sent : List Sent) where
     follows_called (Some i) v e = follows_called_in i i.life v e
 
   -- A delivery of a call. It has another place among the messages of the run.
-  follows_taken : (told : Result World Stop) (v : World) → Follows a rec files sent told v → Follows a rec files sent (with_taken u [] told) (record v { taken = a.taken ++ [] })
+  follows_taken : (told : Result World Stop) (v : World) → Follows a rec files sent told v
+      → Follows a rec files sent (with_taken u [] told) (record v { taken = a.taken ++ [] })
   follows_taken told v f = record {
     more = f.more;
     grown = f.grown;
@@ -128,8 +128,8 @@ module _ (a : World) (rec : Record) (files : List File) (sent : List Sent) where
   follows_said p q m (Write inc act s number content) v apart e = absurd (apart refl)
   follows_said p q m (Ask inc act g) v apart e = absurd (apart refl)
 
-  pub follows_delivered : (p q : ℕ) (x : Sent) (v : World) → nth sent q ≡ Some x → session_at a.rec.session (Some x) ≢ a.rec.session → deliver a p (Some x) ≡ Ok v
-      → Follows a rec files sent (deliver u q (nth sent q)) v
+  pub follows_delivered : (p q : ℕ) (x : Sent) (v : World) → nth sent q ≡ Some x → session_at a.rec.session (Some x) ≢ a.rec.session
+      → deliver a p (Some x) ≡ Ok v → Follows a rec files sent (deliver u q (nth sent q)) v
   follows_delivered p q x v at apart e = subst (λ y. Follows a rec files sent (deliver u q y) v) (sym at) (follows_said p q x.message x.message.said v apart e)
 
   -- a server crashes

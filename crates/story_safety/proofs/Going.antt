@@ -2,7 +2,7 @@
 use Rattle.std.proofs.Common.{◌≡◌, ◌==◌, ℕ, zero, suc, true, false, not, List, [], ◌∷◌, ◌++◌, Option, Some, None, Result, Ok, Err, refl, sym, ap, ◌∙◌, subst}
 use Rattle.std.proofs.Common.{inl, inr, append-nil, eq-eqb, eqb-true}
 use Rattle.std.proofs.lemmas.Bool.{false≢true}
-use Rattle.wire_msgs.specs.Found.{find, nth, set_nth}
+use Rattle.wire_msgs.specs.Found.{nth, set_nth}
 use Rattle.wire_msgs.specs.declared.message.Message.{Message}
 use Rattle.wire_msgs.specs.declared.message.Said.{Said}
 use Rattle.wire_msgs.specs.declared.message.Said.TheVariants.{Call, Reply, Write, Ask}
@@ -11,10 +11,6 @@ use Rattle.wire_msgs.specs.declared.operation.Operation.TheVariants.{Close}
 use Rattle.wire_msgs.specs.declared.answer.Answer.TheVariants.{Content}
 use Rattle.wire_msgs.specs.declared.answer.Answer.TheVariants as told
 use Rattle.object_state.specs.declared.operations.CloseOption.TheVariants.{SaveIfDirty}
-use Rattle.embed_core.specs.Kinds.{Kind}
-use Rattle.server_model.specs.Server.{Served, Told, on_call, wanted}
-use Rattle.server_model.specs.Server as server
-use Rattle.server_model.specs.declared.fault.ServerFault.{ServerFault}
 use Rattle.container_model.specs.Record.{Record, Took, unless}
 use Rattle.container_model.specs.Commands.{on_command}
 use Rattle.container_model.specs.Inputs.{Input, on_input}
@@ -41,10 +37,9 @@ use Rattle.world_model.specs.declared.logs.EventAnswer.TheVariants as answered
 use Rattle.world_model.specs.declared.logs.File.{File}
 use Rattle.world_model.specs.declared.logs.Sent.{Sent}
 use Rattle.world_model.specs.declared.logs.Taken.{Taken}
-use Rattle.world_model.specs.World.{Choice, Instance, World, ask, called, called_in, called_wanting, commanded, crash, crashed, deliver, delivered}
-use Rattle.world_model.specs.World.{delivered_said, done_imaged, done_in, done_taken, ended, forge, forged, forged_on, happened, in_session, is_of, joined}
-use Rattle.world_model.specs.World.{link_of, link_to, only_taken, reap, scribble, served, spoken, spoken_by, stocked, taken_at, taken_by, taken_said, took}
-use Rattle.world_model.specs.World.{uncounted, with_taken}
+use Rattle.world_model.specs.World.{Choice, Instance, World, ask, called, commanded, crash, deliver, delivered}
+use Rattle.world_model.specs.World.{delivered_said, done_imaged, done_in, done_taken, ended, forge, forged, forged_on, happened, in_session, joined}
+use Rattle.world_model.specs.World.{link_of, link_to, only_taken, reap, scribble, taken_at, taken_by, taken_said, took, uncounted, with_taken}
 use Rattle.world_model.specs.Safe.{Among, BringsBy, IsGranted, IsHonest, WasSent, messages}
 use Rattle.world_model.proofs.InRun.{in_run_ok}
 use Rattle.world_facts.proofs.Honest.{honest_before}
@@ -94,7 +89,8 @@ commanded_after w c (Ok t) = record { rec = refl; keeps = joined_keeps w t }
 left_after : (w v : World) → left_of w v ≡ v → IsAfter w v w.rec
 left_after w v stays = record { rec = ap (λ (y : World). y.rec) (sym stays); keeps = λ d at. ap (λ (y : World). nth y.counted 1) (sym stays) ∙ at }
 
-called_after : (w : World) (m : Message) (inc act n : ℕ) (op : Operation) (v : World) → called w m.session inc act n op (nth w.instances inc) ≡ Ok v → IsAfter w v w.rec
+called_after : (w : World) (m : Message) (inc act n : ℕ) (op : Operation) (v : World) → called w m.session inc act n op (nth w.instances inc) ≡ Ok v
+    → IsAfter w v w.rec
 called_after w m inc act n op v e = left_after w v (follows_called w w.rec [] [] m.session inc act n op (nth w.instances inc) v e).stays
 
 module _ (w : World) (inc : ℕ) where
@@ -140,7 +136,8 @@ module _ (w : World) (choice : Choice) (p : ℕ) where
   -- what is taken is logged besides
   logged_same : (a : World) (more : List Taken) → Steps w a choice (event.Deliver p) → Steps w (record a { taken = more }) choice (event.Deliver p)
   logged_same a more (rec_stays none r k) = rec_stays none r k
-  logged_same a more (rec_steps x t is q r c) = rec_steps x t is q r (subst (λ y. CountsBy w a y → CountsBy w (record a { taken = more }) y) (sym is.2) (λ k. k) c)
+  logged_same a more (rec_steps x t is q r c) =
+      rec_steps x t is q r (subst (λ y. CountsBy w a y → CountsBy w (record a { taken = more }) y) (sym is.2) (λ k. k) c)
 
   logged_steps : (more : List Taken) (told : Result World Stop) (v : World) → ((a : World) → told ≡ Ok a → Steps w a choice (event.Deliver p)) → with_taken w more told ≡ Ok v
       → Steps w v choice (event.Deliver p)
@@ -171,19 +168,20 @@ module _ (w : World) (inc : ℕ) (m : Message) where
       subst (λ y. IsAfter w y (rec_after w.rec told)) (sym (forge_is i v e)) (forged_after told (w.taken ++ taken_at w.rec None (link_to w inc) m) (w.hostile ++ inc ∷ [])))
 
 -- a step of the container that happens only where it is taken
-only_steps : (w : World) (choice : Choice) (e : Event) (x : Input) (told : Result Took ContainerFault) (v : World) → IsInputOf x choice e → (KeepsFirst w v → CountsBy w v x)
-    → on_input w.rec x ≡ told → only_taken w told ≡ Ok v → Steps w v choice e
+only_steps : (w : World) (choice : Choice) (e : Event) (x : Input) (told : Result Took ContainerFault) (v : World) → IsInputOf x choice e
+    → (KeepsFirst w v → CountsBy w v x) → on_input w.rec x ≡ told → only_taken w told ≡ Ok v → Steps w v choice e
 only_steps w choice e x (Err fault) v is counts q ok = cc
 only_steps w choice e x (Ok t) v is counts q ok =
     (let same = ok_is _ v ok in rec_steps x t is q (ap (λ (y : World). y.rec) (sym same)) (counts (subst (KeepsFirst w) same (joined_keeps w t))))
 
 -- a commit that is counted
-module _ (w : World) (f : ℕ) (bytes : List ℕ) (told : Result Took ContainerFault) (commits : (frame : Frame) → nth w.rec.frames f ≡ Some frame → IsCommitOf w.rec f frame told) where
+module _ (w : World) (f : ℕ) (bytes : List ℕ) (told : Result Took ContainerFault)
+    (commits : (frame : Frame) → nth w.rec.frames f ≡ Some frame → IsCommitOf w.rec f frame told) where
   abbrev Made : World → Type 0
   Made v = (t : Took) × (told ≡ Ok t) × (v.rec ≡ t.rec) × Counts w v f
 
-  made_taken : (frame : Frame) (saved : FrameDocument) (r : Result Took ContainerFault) (v : World) → nth w.rec.frames f ≡ Some frame → image_at w.rec f (Some frame) ≡ Ok saved → told ≡ r
-      → done_taken w f bytes frame saved r ≡ Ok v → Made v
+  made_taken : (frame : Frame) (saved : FrameDocument) (r : Result Took ContainerFault) (v : World) → nth w.rec.frames f ≡ Some frame
+      → image_at w.rec f (Some frame) ≡ Ok saved → told ≡ r → done_taken w f bytes frame saved r ≡ Ok v → Made v
   made_taken frame saved (Err fault) v at im is ok = cc
   made_taken frame saved (Ok t) v at im is ok = (let c = commits frame at t is in subst Made (ok_is _ v ok) (t, is, refl, record {
     frame = frame;
@@ -198,8 +196,8 @@ module _ (w : World) (f : ℕ) (bytes : List ℕ) (told : Result Took ContainerF
     counted = refl;
   }))
 
-  made_imaged : (frame : Frame) (saved : Result FrameDocument ContainerFault) (v : World) → nth w.rec.frames f ≡ Some frame → image_at w.rec f (Some frame) ≡ saved
-      → done_imaged w f bytes frame told saved ≡ Ok v → Made v
+  made_imaged : (frame : Frame) (saved : Result FrameDocument ContainerFault) (v : World) → nth w.rec.frames f ≡ Some frame
+      → image_at w.rec f (Some frame) ≡ saved → done_imaged w f bytes frame told saved ≡ Ok v → Made v
   made_imaged frame (Err fault) v at im ok = cc
   made_imaged frame (Ok saved) v at im ok = made_taken frame saved told v at im refl ok
 
@@ -207,19 +205,23 @@ module _ (w : World) (f : ℕ) (bytes : List ℕ) (told : Result Took ContainerF
   made_in None v at ok = cc
   made_in (Some frame) v at ok = made_imaged frame (image w.rec f) v at (ap (image_at w.rec f) (sym at)) ok
 
-pub done_made : (w : World) (f : ℕ) (bytes : List ℕ) (v : World) → done_in w f bytes (commit_done w.rec f) (nth w.rec.frames f) ≡ Ok v → Made w f bytes (commit_done w.rec f) (done_commits w.rec f) v
+pub done_made : (w : World) (f : ℕ) (bytes : List ℕ) (v : World) → done_in w f bytes (commit_done w.rec f) (nth w.rec.frames f) ≡ Ok v
+    → Made w f bytes (commit_done w.rec f) (done_commits w.rec f) v
 done_made w f bytes v ok = made_in w f bytes (commit_done w.rec f) (done_commits w.rec f) (nth w.rec.frames f) v refl ok
 
-pub kept_made : (w : World) (f : ℕ) (bytes : List ℕ) (v : World) → done_in w f bytes (resolve w.rec f true) (nth w.rec.frames f) ≡ Ok v → Made w f bytes (resolve w.rec f true) (kept_commits w.rec f) v
+pub kept_made : (w : World) (f : ℕ) (bytes : List ℕ) (v : World) → done_in w f bytes (resolve w.rec f true) (nth w.rec.frames f) ≡ Ok v
+    → Made w f bytes (resolve w.rec f true) (kept_commits w.rec f) v
 kept_made w f bytes v ok = made_in w f bytes (resolve w.rec f true) (kept_commits w.rec f) (nth w.rec.frames f) v refl ok
 
 -- of the record each event makes what the container does, if it is an input of it
 pub steps : (w : World) (choice : Choice) (e : Event) (v : World) → happened w choice e ≡ Ok v → Steps w v choice e
 steps w choice (event.Command c) v ok =
-    told_steps w choice (event.Command c) tt v (Input.Ordered c) (on_command w.rec c) refl (λ k. k) refl (after_ok w _ v _ ok (commanded_after w c (on_command w.rec c)))
+    told_steps w choice (event.Command c) tt v (Input.Ordered c) (on_command w.rec c) refl (λ k. k) refl
+    (after_ok w _ v _ ok (commanded_after w c (on_command w.rec c)))
 steps w choice (event.Deliver p) v ok = deliver_steps w choice p (nth w.sent p) v ok
 steps w choice (event.Forge inc m) v ok = (let told = on_message w.rec (link_to w inc) m in
-    told_steps w choice (event.Forge inc m) tt v (Input.Told (link_to w inc) m) told (link_to w inc, refl) (λ k. k) refl (forge_after w inc m (nth w.instances inc) v ok))
+    told_steps w choice (event.Forge inc m) tt v (Input.Told (link_to w inc) m) told (link_to w inc, refl) (λ k. k) refl
+    (forge_after w inc m (nth w.instances inc) v ok))
 steps w choice (event.Crash s inc) v ok = (let i = nth w.instances inc in
     same_steps w choice (event.Crash s inc) tt v (left_after w v (follows_crash w w.rec [] [] inc i v (in_run_ok w s (crash w inc i) v ok)).stays))
 steps w choice (event.Reap inc) v ok =
@@ -227,11 +229,13 @@ steps w choice (event.Reap inc) v ok =
 steps w choice (event.Done f) v ok = (let k = done_made w f choice.file v ok in rec_steps (Input.Committed f) k.0 refl k.1 k.2 k.3)
 steps w choice (event.Fail f) v ok = only_steps w choice (event.Fail f) (Input.Failed f) (commit_failed w.rec f) v refl (λ k. k) refl ok
 steps w choice (event.Resolve f true) v ok = (let k = kept_made w f choice.file v ok in rec_steps (Input.Resolved f true) k.0 refl k.1 k.2 k.3)
-steps w choice (event.Resolve f false) v ok = only_steps w choice (event.Resolve f false) (Input.Resolved f false) (resolve w.rec f false) v refl (λ k. k) refl ok
+steps w choice (event.Resolve f false) v ok =
+    only_steps w choice (event.Resolve f false) (Input.Resolved f false) (resolve w.rec f false) v refl (λ k. k) refl ok
 steps w choice (event.Open name x y) v ok = (let told = opened w.rec name x y choice.given in
     told_steps w choice (event.Open name x y) tt v (Input.Opened name x y choice.given) told refl (λ k. k) refl (after_ok w _ v _ ok (took_after w told)))
 steps w choice (event.Scribble s inc act) v ok = (let i = nth w.instances inc in
-    same_steps w choice (event.Scribble s inc act) tt v (left_after w v (follows_scribble w w.rec [] [] inc act i v (in_run_ok w s (scribble w inc act i) v ok)).stays))
+    same_steps w choice (event.Scribble s inc act) tt v
+    (left_after w v (follows_scribble w w.rec [] [] inc act i v (in_run_ok w s (scribble w inc act i) v ok)).stays))
 steps w choice (event.Ask s inc act) v ok = (let i = nth w.instances inc in
     same_steps w choice (event.Ask s inc act) tt v (left_after w v (follows_ask w w.rec [] [] inc act i v (in_run_ok w s (ask w inc act i) v ok)).stays))
 
@@ -253,8 +257,7 @@ brings_over u v session (Write inc act s number content) t q over b = b
 brings_over u v session (Ask inc act g) t q over b = absurd b
 
 granted_over : (u v : World) (session : ℕ) (t : Taken) (q : Option ℕ) (p : ℕ) (m : Message) → ((y : Sent) → Among u.sent y → Among v.sent y) → (g : IsGranted u (record t { place = q }))
-    → m ≡ g.message → m.session ≡ session
-    → t.place ≡ Some p → nth (messages v.sent) p ≡ Some m → IsGrantedIn v session t
+    → m ≡ g.message → m.session ≡ session → t.place ≡ Some p → nth (messages v.sent) p ≡ Some m → IsGrantedIn v session t
 granted_over u v session t q p m over g same is at delivered = (let s = g.sent in record {
   granted = record {
     message = g.message;
@@ -296,8 +299,8 @@ refused_is : (w : World) (p : Option ℕ) (inc act : ℕ) (told : Result Took Co
     → record w { answers = w.answers ++ answered.Refused fault ∷ []; taken = w.taken ++ [] } ≡ v
 refused_is w p inc act told fault v q ok = ok_is _ v (subst (λ y. with_taken w (taken_by w.rec p inc act y) (Ok (took w y)) ≡ Ok v) q ok)
 
-pub stale_is : (w : World) (p : Option ℕ) (m : Message) (said : Said) (v : World) → (m.session == w.rec.session) ≡ false → session_of_call w.rec.session m said ≡ w.rec.session
-    → with_taken w (taken_said w.rec p (link_of m) m said) (delivered_said w m said) ≡ Ok v
+pub stale_is : (w : World) (p : Option ℕ) (m : Message) (said : Said) (v : World) → (m.session == w.rec.session) ≡ false
+    → session_of_call w.rec.session m said ≡ w.rec.session → with_taken w (taken_said w.rec p (link_of m) m said) (delivered_said w m said) ≡ Ok v
     → (fault : ContainerFault) × (record w { answers = w.answers ++ answered.Refused fault ∷ []; taken = w.taken ++ [] } ≡ v)
 stale_is w p m (Call inc act n op) v apart is ok = absurd (false≢true (sym apart ∙ eq-eqb m.session w.rec.session is))
 stale_is w p m (Reply inc act n answer) v apart is ok = (let k = stale w.rec m apart in (k.0, refused_is w p inc act (on_message w.rec (link_of m) m) k.0 v k.1 ok))
@@ -330,7 +333,8 @@ module _ (w : World) (mine : List File) (choice : Choice) (h : Holds (mirror w m
 
   -- what has sent xs and then more, and what has sent all that was sent before, and then the same
   over_all : (more : List Sent) (y : Sent) → Among (xs ++ more) y → Among (w.sent ++ more) y
-  over_all more y a = elim (among_join xs more y a) [ inl old ↦ among_old w.sent more y (sent_among w.rec.session w.sent y old) | inr new ↦ among_new w.sent more y new ]
+  over_all more y a =
+      elim (among_join xs more y a) [ inl old ↦ among_old w.sent more y (sent_among w.rec.session w.sent y old) | inr new ↦ among_new w.sent more y new ]
 
   module _ (p : ℕ) (x : Sent) (at : nth w.sent p ≡ Some x) where
     abbrev taken_here : Option ℕ → List Taken

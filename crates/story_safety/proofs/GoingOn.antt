@@ -38,7 +38,8 @@ module _ (w : World) (e : Epoch) (rec : Record) (files : List File) (v : World) 
   abbrev Followed : Type 0
   Followed = IsFollowed (as_of w e) rec files own v
 
-  delivered : (p : ℕ) (x : Option Sent) → nth w.sent p ≡ x → session_at w.rec.session x ≡ e.session → e.session ≢ w.rec.session → deliver (as_of w e) p x ≡ Ok v → Followed
+  delivered : (p : ℕ) (x : Option Sent) → nth w.sent p ≡ x → session_at w.rec.session x ≡ e.session → e.session ≢ w.rec.session
+      → deliver (as_of w e) p x ≡ Ok v → Followed
   delivered p None at is apart ok = refused v Followed ok
   delivered p (Some x) at is apart ok = (let k = place_in e.session w.sent p x at (own_call w.rec.session e.session x.message x.message.said is apart) in
       record { event = event.Deliver k.0; image = tt; follows = follows_delivered (as_of w e) rec files own p k.0 x v k.1 (λ z. apart (sym is ∙ z)) ok })

@@ -1,7 +1,6 @@
 -- A message of an earlier session changes neither the record nor a server of the present run.
 use Rattle.std.proofs.Common.{◌≡◌, ◌≢◌, ◌==◌, ◌&&◌, not, ℕ, zero, suc, true, false, List, [], ◌∷◌, ◌++◌, Option, Some, None, Result, Ok, Err, refl, sym, ap}
-use Rattle.std.proofs.Common.{◌∙◌, subst, inl, inr}
-use Rattle.std.proofs.Common.{append-nil, if◌then◌else◌, ne_eqb, slice_get}
+use Rattle.std.proofs.Common.{◌∙◌, subst, inl, inr, append-nil, if◌then◌else◌, ne_eqb, slice_get}
 use Rattle.std.proofs.lemmas.Bool.Decides.{eqb_tells}
 use Rattle.wire_msgs.specs.Found.{find, nth, put}
 use Rattle.wire_msgs.specs.declared.message.Message.{Message}
@@ -70,11 +69,13 @@ earlier_stays s p m choice next at apart e = (let x = sent_at s.now.sent p m at 
 -- ---- a forged message
 -- one of another session than the link's is refused
 refused_off : (r : Record) (link : ServerLink) (m : Message) → m.session ≢ link.session → on_message r link m ≡ Err WrongLink
-refused_off r link m apart = ap (λ b. unless (not (b && is_said_by link.inc m.said)) WrongLink (unless (not (link.session == r.session)) Stale (said_to r m.said)))
+refused_off r link m apart =
+    ap (λ b. unless (not (b && is_said_by link.inc m.said)) WrongLink (unless (not (link.session == r.session)) Stale (said_to r m.said)))
     (ne_eqb m.session link.session apart)
 
 -- and brings nothing, whatever it says
-none_said : (r : Record) (p : Option ℕ) (link : ServerLink) (m : Message) (x : Said) (fault : ContainerFault) → on_message r link m ≡ Err fault → taken_said r p link m x ≡ []
+none_said : (r : Record) (p : Option ℕ) (link : ServerLink) (m : Message) (x : Said) (fault : ContainerFault) → on_message r link m ≡ Err fault
+    → taken_said r p link m x ≡ []
 none_said r p link m (Call inc act n op) fault e = refl
 none_said r p link m (Reply inc act n answer) fault e = ap (taken_by r p inc act) e
 none_said r p link m (Write inc act g n content) fault e = ap (taken_by r p inc act) e
@@ -92,7 +93,8 @@ forged_now : (s : Story) (inc : ℕ) (m : Message) (r : Result World Stop) (next
 forged_now s inc m (Err stop) next e = cc
 forged_now s inc m (Ok v) next e = (let same : record s { now = v } ≡ next = cc in ap Ok (ap (λ (x : Story). x.now) same))
 
-no_earlier : (s : Story) (inc : ℕ) (m : Message) (e : Option Epoch) (next : Story) → earlier s (event.Forge inc m) e ≡ Ok next → IsSameButHostile s.now inc next.now
+no_earlier : (s : Story) (inc : ℕ) (m : Message) (e : Option Epoch) (next : Story) → earlier s (event.Forge inc m) e ≡ Ok next
+    → IsSameButHostile s.now inc next.now
 no_earlier s inc m None next is = cc
 no_earlier s inc m (Some e) next is = cc
 
@@ -104,6 +106,7 @@ forged_stays s inc m choice next apart e =
     let n = w.rec.session in
     elim (n == n) as (λ b. (if b then follow s (event.Forge inc m) (forge w inc m i) else earlier s (event.Forge inc m) (find (is_session n) s.past)) ≡ Ok next
     → IsSameButHostile w inc next.now) [
-      | true ↦ (λ g. subst (IsSameButHostile w inc) (sym (forge_is w inc m i next.now (forged_now s inc m (forge w inc m i) next g))) (forged_world w inc m apart))
+      | true ↦ (λ g. subst (IsSameButHostile w inc) (sym (forge_is w inc m i next.now (forged_now s inc m (forge w inc m i) next g)))
+          (forged_world w inc m apart))
       | false ↦ (λ g. no_earlier s inc m (find (is_session n) s.past) next g)
     ] e

@@ -1,5 +1,5 @@
 -- Lists of runs, by their sessions, which rise.
-use Rattle.std.proofs.Common.{◌≡◌, ◌≢◌, ◌<◌, ◌≤◌, ◌==◌, ◌⊎◌, ◌++◌, ℕ, zero, suc, Bool, true, false, List, [], ◌∷◌, Option, Some, None, refl, sym, ap, ◌∙◌}
+use Rattle.std.proofs.Common.{◌≡◌, ◌≢◌, ◌<◌, ◌⊎◌, ◌++◌, ℕ, zero, suc, Bool, List, [], ◌∷◌, Some, refl, sym, ap, ◌∙◌}
 use Rattle.std.proofs.Common.{subst, inl, inr, arith, if◌then◌else◌, slice_get}
 use Rattle.std.proofs.lemmas.Bool.Decides.{eqb_tells}
 use Rattle.wire_msgs.specs.Found.{find, nth, put}
@@ -12,7 +12,8 @@ use Rattle.story_model.specs.Story.{Epoch, is_session}
 use Rattle.story_safety.proofs.SafeRuns.{rising_above}
 
 -- one of these, or the last one
-pub each_run : (P : Epoch → Type 0) (past : List Epoch) (now : Epoch) → ((x : Epoch) → Among past x → P x) → P now → (x : Epoch) → Among (past ++ now ∷ []) x → P x
+pub each_run : (P : Epoch → Type 0) (past : List Epoch) (now : Epoch) → ((x : Epoch) → Among past x → P x) → P now → (x : Epoch)
+    → Among (past ++ now ∷ []) x → P x
 each_run P past now before here x g = elim (among_join past (now ∷ []) x g) [ inl old ↦ before x old | inr new ↦ last new ]
   where
     last : Among (now ∷ []) x → P x
@@ -39,7 +40,8 @@ put_later : (n : ℕ) (a x : Epoch) (es : List Epoch) (e : Epoch) → x.session 
 put_later n a x es e apart rest (inl q) = inr (inl q, λ same. apart (ap (λ (y : Epoch). y.session) (sym q) ∙ same))
 put_later n a x es e apart rest (inr k) = elim (rest k) [ inl q ↦ inl q | inr p ↦ inr (inr p.0, p.1) ]
 
-put_members : (n last : ℕ) (a : Epoch) (es : List Epoch) (e : Epoch) → AreRising last es → Among (put (is_session n) a es) e → (e ≡ a) ⊎ (Among es e × (e.session ≢ n))
+put_members : (n last : ℕ) (a : Epoch) (es : List Epoch) (e : Epoch) → AreRising last es → Among (put (is_session n) a es) e
+    → (e ≡ a) ⊎ (Among es e × (e.session ≢ n))
 put_members n last a [] e r g = absurd g
 put_members n last a (x ∷ es) e r g = elim (eqb_tells x.session n) [
   | inl t ↦ put_first n last a x es e r t.1 (subst (λ b. Among (Put n a x es b) e) t.0 g)

@@ -1,25 +1,23 @@
 -- Each run of a story is safe, since by itself it is a world of one run.
-use Rattle.std.proofs.Common.{◌≡◌, ◌≢◌, ◌≤◌, ◌<◌, ◌==◌, ℕ, Bool, true, false, List, [], ◌∷◌, ◌++◌, Option, Some, None, Ok, refl, sym, ap, ◌∙◌, subst, inl, inr}
-use Rattle.std.proofs.Common.{arith, if◌then◌else◌}
+use Rattle.std.proofs.Common.{◌≡◌, ◌<◌, ◌==◌, ℕ, true, false, List, [], ◌∷◌, Option, Some, None, refl, sym, ap, ◌∙◌, subst, inl, inr, arith, if◌then◌else◌}
 use Rattle.std.proofs.lemmas.Bool.Decides.{eqb_tells}
 use Rattle.wire_msgs.specs.Found.{find, nth}
 use Rattle.wire_msgs.specs.declared.message.Message.{Message}
 use Rattle.wire_msgs.specs.declared.message.Said.TheVariants.{Reply}
-use Rattle.wire_msgs.specs.declared.answer.Answer.{Answer}
 use Rattle.container_model.specs.Record.{Record, is_doubtful}
 use Rattle.container_model.specs.declared.record.Frame.{Frame}
 use Rattle.world_model.specs.declared.logs.Document.{Document}
 use Rattle.world_model.specs.declared.logs.File.{File}
 use Rattle.world_model.specs.declared.logs.ServerDone.{ServerDone}
 use Rattle.world_model.specs.declared.logs.Taken.{Taken}
-use Rattle.world_model.specs.Safe.{Among, Commit, HoldsFrame, IsCounted, IsHolder, IsHonest, IsKept, IsShared, Safe, WasAnswered, WasSent, sayings, saved_of}
-use Rattle.world_model.specs.World.{World, called, file_bytes, file_of, frame_file_in, in_session, is_file}
+use Rattle.world_model.specs.Safe.{Among, Commit, HoldsFrame, IsHolder, IsHonest, IsKept, IsShared, Safe, WasSent}
+use Rattle.world_model.specs.World.{World, file_bytes, file_of, frame_file_in, in_session, is_file}
 use Rattle.world_safety.specs.Holding.{Holds}
 use Rattle.world_safety.proofs.Events.{said_in_log}
 use Rattle.world_safety.proofs.Held.{safe_held}
 use Rattle.world_safety.proofs.Once.{called_same}
 use Rattle.story_model.specs.SafeStory.{AreRising, IsCommitted, IsGrantedIn, SafeNow, SafeRun}
-use Rattle.story_model.specs.Story.{Epoch, as_of, epoch_of}
+use Rattle.story_model.specs.Story.{Epoch, as_of}
 use Rattle.story_safety.specs.Holding.{HoldsPast, IsThere, mirror, mirror_of, sent_in}
 use Rattle.story_safety.proofs.Members.{among_in, in_among}
 

@@ -1,6 +1,6 @@
 -- What every story keeps makes it safe.
-use Rattle.std.proofs.Common.{◌≡◌, ◌≢◌, ◌≤◌, ◌<◌, ◌==◌, ◌⊎◌, ◌++◌, ℕ, zero, suc, Bool, true, false, List, [], ◌∷◌, Option, Some, None, Ok, Err, Result, refl}
-use Rattle.std.proofs.Common.{sym, ap, ◌∙◌, subst, inl, inr, arith, append-nil, cond, if◌then◌else◌, slice_get}
+use Rattle.std.proofs.Common.{◌≡◌, ◌≢◌, ◌≤◌, ◌==◌, ℕ, zero, suc, true, false, List, Option, Some, None, refl}
+use Rattle.std.proofs.Common.{sym, ap, ◌∙◌, subst, inl, inr, arith, cond, if◌then◌else◌}
 use Rattle.std.proofs.lemmas.Bool.Decides.{eqb_tells}
 use Rattle.wire_msgs.specs.Found.{find, nth}
 use Rattle.wire_msgs.specs.declared.message.Message.{Message}
@@ -17,21 +17,17 @@ use Rattle.world_files.proofs.InTurn.{last_is}
 use Rattle.world_model.specs.declared.life.Life.{Life}
 use Rattle.world_model.specs.declared.logs.Document.{Document}
 use Rattle.world_model.specs.declared.logs.File.{File}
-use Rattle.world_model.specs.declared.logs.Sent.{Sent}
-use Rattle.world_model.specs.declared.logs.Taken.{Taken}
-use Rattle.world_model.specs.Safe.{Among, Commit, GivesCommit, IsHonest, IsWithin, Safe, WasSent, act_at, acts_of, messages, sayings}
-use Rattle.world_model.specs.World.{Instance, World, document_in, file_bytes, file_of, in_session, is_file}
+use Rattle.world_model.specs.Safe.{Among, Commit, GivesCommit, IsWithin, WasSent, act_at, acts_of, sayings}
+use Rattle.world_model.specs.World.{Instance, World, document_in, file_bytes, in_session, is_file}
 use Rattle.world_safety.specs.Holding.{Holds}
 use Rattle.world_safety.proofs.Events.{said_in_log}
 use Rattle.world_safety.proofs.Held.{safe_held}
-use Rattle.story_model.specs.SafeStory.{AreOf, Gives, GivesCounted, GivesSaved, HasSession, IsGrantedIn, IsOfRun, IsOfServer, IsRaised, SafeNow, SafeRun}
-use Rattle.story_model.specs.SafeStory.{SafeStory, is_kept}
+use Rattle.story_model.specs.SafeStory.{Gives, GivesCounted, GivesSaved, HasSession, IsOfRun, IsOfServer, IsRaised, SafeNow, SafeRun, SafeStory, is_kept}
 use Rattle.story_model.specs.Story.{Epoch, Story, epoch_of, epochs}
-use Rattle.story_safety.specs.Holding.{CountsSession, DocumentStands, HasDocument, HoldsPast, IsFrom, IsOfRuns, IsSaved, IsThere, Sound, mirror, mirror_of}
-use Rattle.story_safety.specs.Holding.{sent_in}
+use Rattle.story_safety.specs.Holding.{CountsSession, DocumentStands, IsFrom, IsOfRuns, IsSaved, IsThere, Sound, mirror, mirror_of, sent_in}
 use Rattle.story_safety.proofs.Laws.{earlier_stays, forged_stays}
 use Rattle.story_safety.proofs.Members.{among_in}
-use Rattle.story_safety.proofs.SafeRuns.{Held, now_safe, past_commits, past_each, run_safe}
+use Rattle.story_safety.proofs.SafeRuns.{now_safe, past_commits, past_each, run_safe}
 use Rattle.story_safety.proofs.Sounding.{bears_now, here, old, other, which}
 use Rattle.story_safety.proofs.Stopping.{is_stopped}
 
@@ -125,18 +121,21 @@ module _ (s : Story) (h : Sound s) where
         (λ x k at. (safe_held (mirror_of s.now x (h.records x.session) (h.archive x.session)) (h.past x k).holds).opened name given (subst (λ (y : Option File). IsReadAs (file_bytes y) given) (sym at) read)) e g there),
   )
 
-  given_counted : (name : List ℕ) (file : File) (given : Given) → IsOfRuns h.mine s.past h.archive name file → IsReadAs (Some file.bytes) given → GivesCounted s commits given
+  given_counted : (name : List ℕ) (file : File) (given : Given) → IsOfRuns h.mine s.past h.archive name file → IsReadAs (Some file.bytes) given
+      → GivesCounted s commits given
   given_counted name file given (inl there) read = given_here name file given there read
   given_counted name file given (inr k) read = given_there name file given k.0 k.1 k.2 read
 
   given_file : (name : List ℕ) (file : File) (given : Given) → IsFrom s h.mine h.archive name file → IsReadAs (Some file.bytes) given → Gives s commits name given
-  given_file name file given from read = elim (is_kept name s.kept) as (λ b. cond b (IsSaved file) (IsOfRuns h.mine s.past h.archive name file) → cond b (GivesSaved given) (GivesCounted s commits given)) [
+  given_file name file given from read = elim (is_kept name s.kept) as (λ b. cond b (IsSaved file) (IsOfRuns h.mine s.past h.archive name file)
+      → cond b (GivesSaved given) (GivesCounted s commits given)) [
     | true ↦ (λ k. given_saved file given k read)
     | false ↦ (λ k. given_counted name file given k read)
   ] from
 
   given_none : (name : List ℕ) → Gives s commits name Given.Missing
-  given_none name = elim (is_kept name s.kept) as (λ b. cond b (GivesSaved Given.Missing) (GivesCounted s commits Given.Missing)) [ true ↦ tt | false ↦ (epoch_of s.now, here s h, tt) ]
+  given_none name = elim (is_kept name s.kept) as (λ b. cond b (GivesSaved Given.Missing) (GivesCounted s commits Given.Missing))
+      [ true ↦ tt | false ↦ (epoch_of s.now, here s h, tt) ]
 
   given : (name : List ℕ) (x : Option File) (told : Given) → find (is_file name) s.now.files ≡ x → IsReadAs (file_bytes x) told → Gives s commits name told
   given name None Given.Missing f read = given_none name

@@ -7,18 +7,16 @@ use Rattle.wire_msgs.specs.Found.{find, nth, put}
 use Rattle.wire_msgs.specs.declared.message.Message.{Message}
 use Rattle.container_frames.specs.Frames.{AreUnraised, FramesGo, frame_counted, frame_made, frame_opened, frames_stay}
 use Rattle.container_model.specs.Record.{Record, Took, empty}
-use Rattle.container_model.specs.Saves.{commit_made, session_after}
+use Rattle.container_model.specs.Saves.{session_after}
 use Rattle.container_model.specs.declared.record.Frame.{Frame}
-use Rattle.container_numbers.specs.Sessions.{InSession, MayRaise}
+use Rattle.container_numbers.specs.Sessions.{MayRaise}
 use Rattle.world_facts.proofs.Lookups.{among_new, among_old}
-use Rattle.world_files.specs.Files.{MakesImage}
 use Rattle.world_files.proofs.Kept.{images_make}
 use Rattle.world_model.specs.declared.event.Event.{Event}
 use Rattle.world_model.specs.declared.event.Event.TheVariants as event
 use Rattle.world_model.specs.declared.event.Stop.{Stop}
 use Rattle.world_model.specs.declared.event.Stop.TheVariants.{EventLimit, NotEnabled}
 use Rattle.world_model.specs.declared.logs.File.{File}
-use Rattle.world_model.specs.declared.logs.Sent.{Sent}
 use Rattle.world_model.specs.declared.logs.Taken.{Taken}
 use Rattle.world_model.specs.Safe.{Among, IsHonest, WasSent, messages}
 use Rattle.world_model.specs.World.{Choice, IsImage, IsImageOf, MOST_EVENTS, World, happened, put_file}
@@ -26,12 +24,11 @@ use Rattle.world_safety.specs.Holding.{Holds}
 use Rattle.world_safety.proofs.Held.{empty_held}
 use Rattle.story_model.specs.declared.moment.Moment.{Moment}
 use Rattle.story_model.specs.declared.moment.Moment.TheVariants as moment
-use Rattle.story_model.specs.SafeStory.{AreOf, AreRising, IsGrantedIn, is_kept}
-use Rattle.story_model.specs.Story.{AreImages, Chosen, Epoch, Story, Tells, as_of, begun, committed_by, document_by, earlier, empty_story, epoch_of, epochs}
-use Rattle.story_model.specs.Story.{follow, followed, goes_on, is_among, is_session, kept_by, left_by, made_name, may_begin, may_stop, pass, passed, past_by}
+use Rattle.story_model.specs.SafeStory.{AreRising, IsGrantedIn, is_kept}
+use Rattle.story_model.specs.Story.{AreImages, Chosen, Epoch, Story, Tells, as_of, committed_by, document_by, earlier, empty_story, epoch_of, epochs}
+use Rattle.story_model.specs.Story.{follow, followed, goes_on, is_among, is_session, kept_by, left_by, made_name, may_begin, may_stop, passed, past_by}
 use Rattle.story_model.specs.Story.{present, rested, session_of, stopped, within, without}
-use Rattle.story_safety.specs.Holding.{AreGranted, CountsSession, DocumentStands, HasDocument, HoldsPast, IsFrom, IsOfRuns, IsSaved, IsThere, Sound, mirror}
-use Rattle.story_safety.specs.Holding.{mirror_of, sent_in}
+use Rattle.story_safety.specs.Holding.{AreGranted, CountsSession, DocumentStands, HoldsPast, IsFrom, IsOfRuns, IsSaved, IsThere, Sound, sent_in}
 use Rattle.story_safety.specs.Steps.{Counts, Goes, HasGoneOn, Steps, made_by, put_committed, rec_stays, rec_steps, twin}
 use Rattle.story_safety.proofs.Documents.{document_follows, done_counts, kept_counts, none_made_follows, unraised_follows}
 use Rattle.story_safety.proofs.Elsewhere.{begun_held, elsewhere_now, elsewhere_past, granted_grows, over, sent_grows}
@@ -191,7 +188,8 @@ module _ (s : Story) (h : Sound s) (choice : Choice) (e : Event) (v : World) (k 
           ]
 
   granted_at : (x : Epoch) → Among (s.past ++ epoch_of v ∷ []) x → AreGranted v x
-  granted_at = each_run (AreGranted v) s.past (epoch_of v) (λ x p t a honest. granted_grows s.now v k.more x.session t k.sent (h.granted x (old s h x p) t a honest))
+  granted_at =
+      each_run (AreGranted v) s.past (epoch_of v) (λ x p t a honest. granted_grows s.now v k.more x.session t k.sent (h.granted x (old s h x p) t a honest))
       (λ t a honest. granted_later t (granted_now t a honest))
 
   pub goes_sound : (document : Option (List ℕ)) (kept : List (List ℕ)) → AreUnraised v.rec → (v.rec.session ≡ 0 → made_by s.now choice e h.mine ≡ [])
@@ -225,13 +223,15 @@ module _ (s : Story) (h : Sound s) (choice : Choice) (e : Event) (v : World) (k 
       stands
 
   -- and one that makes the file of a frame
-  pub made_sound : (f : ℕ) (frame : Frame) (document : Option (List ℕ)) → nth s.now.rec.frames f ≡ Some frame → ((fs : List File) → made_by s.now choice e fs ≡ put_committed choice.file (nth s.now.rec.frames f) fs)
+  pub made_sound : (f : ℕ) (frame : Frame) (document : Option (List ℕ)) → nth s.now.rec.frames f ≡ Some frame
+      → ((fs : List File) → made_by s.now choice e fs ≡ put_committed choice.file (nth s.now.rec.frames f) fs)
       → DocumentStands (record { now = v; past = s.past; document = document; kept = kept_by (nth s.now.rec.frames f) s.kept }) document
       → Sound (record { now = v; past = s.past; document = document; kept = kept_by (nth s.now.rec.frames f) s.kept })
   made_sound f frame document at shape stands =
       let name = made_name frame in
       let bytes = choice.file in
-      let made : (fs : List File) → made_by s.now choice e fs ≡ put_file (made_name frame) choice.file fs = (λ fs. shape fs ∙ ap (λ x. put_committed choice.file x fs) at) in
+      let made : (fs : List File) → made_by s.now choice e fs ≡ put_file (made_name frame) choice.file fs =
+      (λ fs. shape fs ∙ ap (λ x. put_committed choice.file x fs) at) in
       let without_it : kept_by (nth s.now.rec.frames f) s.kept ≡ without (made_name frame) s.kept = ap (λ x. kept_by x s.kept) at in
       let facts = files_made h.mine s.now.files s.kept s.past h.archive name bytes h.mine_there h.files in
       let there : MineThere (made_by s.now choice e h.mine) v.files (kept_by (nth s.now.rec.frames f) s.kept) =
@@ -275,7 +275,8 @@ module _ (s : Story) (h : Sound s) (choice : Choice) (v : World) where
   quiet e k made same = quiet_sound s h choice e v (went e k) (session_follows s h v choice e (stepped e k)) (unraised_now e k) (none_now e k)
       (made h.mine) ((went e k).files ∙ made s.now.files) (subst (λ (x : Story). DocumentStands x x.document) same (stands_now e k))
 
-  commits : (e : Event) → Known e → (f : ℕ) → Counts s.now v f → ((fs : List File) → made_by s.now choice e fs ≡ put_committed choice.file (nth s.now.rec.frames f) fs)
+  commits : (e : Event) → Known e → (f : ℕ) → Counts s.now v f
+      → ((fs : List File) → made_by s.now choice e fs ≡ put_committed choice.file (nth s.now.rec.frames f) fs)
       → DocumentStands (committed_by s f v) (committed_by s f v).document → Sound (committed_by s f v)
   commits e k f c shape stands = made_sound s h choice e v (went e k) (session_follows s h v choice e (stepped e k)) (unraised_now e k) (none_now e k)
       f c.frame (document_by f (nth s.now.rec.frames f) s.document) c.at shape stands
@@ -297,7 +298,8 @@ module _ (s : Story) (h : Sound s) (choice : Choice) (v : World) where
   event_sound (event.Ask session inc act) k = quiet (event.Ask session inc act) k (λ fs. refl) refl
 
 -- ---- an event at a server of an earlier run
-module _ (s : Story) (h : Sound s) (e : Epoch) (v : World) (g : Among s.past e) (found : find (is_session e.session) s.past ≡ Some e) (k : HasGoneOn s.now e v (h.records e.session) (h.archive e.session)) where
+module _ (s : Story) (h : Sound s) (e : Epoch) (v : World) (g : Among s.past e) (found : find (is_session e.session) s.past ≡ Some e)
+    (k : HasGoneOn s.now e v (h.records e.session) (h.archive e.session)) where
   abbrev after : Epoch
   after = record (epoch_of v) { session = e.session }
 
@@ -327,7 +329,8 @@ module _ (s : Story) (h : Sound s) (e : Epoch) (v : World) (g : Among s.past e) 
 
   held_past : (x : Epoch) → Among past x → HoldsPast now x (h.records x.session) (h.archive x.session)
   held_past = put_each (λ x. HoldsPast now x (h.records x.session) (h.archive x.session)) e.session 0 after s.past h.rising held_after
-      (λ x a apart. elsewhere_past s.now now x (h.records x.session) (h.archive x.session) k.more refl k.sent (λ m b same. apart (sym same ∙ k.of m b)) (h.past x a))
+      (λ x a apart. elsewhere_past s.now now x (h.records x.session) (h.archive x.session) k.more refl k.sent
+      (λ m b same. apart (sym same ∙ k.of m b)) (h.past x a))
 
   -- a run stays, as far as its session goes
   still : (x : Epoch) → Among (epochs s) x → (y : Epoch) × Among (past ++ epoch_of now ∷ []) y × (y.session ≡ x.session)
@@ -341,7 +344,8 @@ module _ (s : Story) (h : Sound s) (e : Epoch) (v : World) (g : Among s.past e) 
   Was x = (y : Epoch) × Among (epochs s) y × (y.session ≡ x.session)
 
   was : (x : Epoch) → Among (past ++ epoch_of now ∷ []) x → Was x
-  was = each_run Was past (epoch_of now) (put_each Was e.session 0 after s.past h.rising (e, old s h e g, refl) (λ x a apart. (x, old s h x a, refl))) (epoch_of s.now, here s h, refl)
+  was = each_run Was past (epoch_of now)
+      (put_each Was e.session 0 after s.past h.rising (e, old s h e g, refl) (λ x a apart. (x, old s h x a, refl))) (epoch_of s.now, here s h, refl)
 
   run_of : (m : Message) → WasSent now m → (x : Epoch) × Among (past ++ epoch_of now ∷ []) x × (m.session ≡ x.session) × (x.session ≢ 0)
   run_of m a = elim (sent_grows s.now now k.more k.sent m a) [
@@ -354,10 +358,12 @@ module _ (s : Story) (h : Sound s) (e : Epoch) (v : World) (g : Among s.past e) 
 
   granted_after : AreGranted now after
   granted_after t b honest =
-      granted_in e (old s h e g) t (subst (λ (y : World). Among y.taken t) (sym k.stays) b) (subst (λ (y : World). IsHonest y.hostile t.inc) (sym k.stays) honest)
+      granted_in e (old s h e g) t (subst (λ (y : World). Among y.taken t) (sym k.stays) b)
+      (subst (λ (y : World). IsHonest y.hostile t.inc) (sym k.stays) honest)
 
   granted_past : (x : Epoch) → Among (past ++ epoch_of now ∷ []) x → AreGranted now x
-  granted_past = each_run (AreGranted now) past (epoch_of now) (put_each (AreGranted now) e.session 0 after s.past h.rising granted_after (λ x a apart. granted_in x (old s h x a)))
+  granted_past = each_run (AreGranted now) past (epoch_of now)
+      (put_each (AreGranted now) e.session 0 after s.past h.rising granted_after (λ x a apart. granted_in x (old s h x a)))
       (granted_in (epoch_of s.now) (here s h))
 
   from_past : (name : List ℕ) (file : File) → IsOfRuns h.mine s.past h.archive name file → IsOfRuns h.mine past h.archive name file
@@ -365,7 +371,8 @@ module _ (s : Story) (h : Sound s) (e : Epoch) (v : World) (g : Among s.past e) 
   from_past name file (inr p) = (let q = put_keeps e.session after s.past p.0 refl p.1 in inr (q.0, q.1, subst (λ n. IsThere (h.archive n) name file) (sym q.2) p.2))
 
   from_still : (name : List ℕ) (file : File) → IsFrom s h.mine h.archive name file → IsFrom next h.mine h.archive name file
-  from_still name file is = elim (is_kept name s.kept) as (λ b. cond b (IsSaved file) (IsOfRuns h.mine s.past h.archive name file) → cond b (IsSaved file) (IsOfRuns h.mine past h.archive name file)) [
+  from_still name file is = elim (is_kept name s.kept) as (λ b. cond b (IsSaved file) (IsOfRuns h.mine s.past h.archive name file)
+      → cond b (IsSaved file) (IsOfRuns h.mine past h.archive name file)) [
     | true ↦ (λ x. x)
     | false ↦ from_past name file
   ] is
@@ -386,7 +393,8 @@ module _ (s : Story) (h : Sound s) (e : Epoch) (v : World) (g : Among s.past e) 
   }
 
   above_still : (x : Epoch) → Among past x → s.now.rec.session ≢ 0 → x.session < s.now.rec.session
-  above_still x a there = put_each (λ y. y.session < s.now.rec.session) e.session 0 after s.past h.rising (h.above e g there) (λ y b apart. h.above y b there) x a
+  above_still x a there =
+      put_each (λ y. y.session < s.now.rec.session) e.session 0 after s.past h.rising (h.above e g there) (λ y b apart. h.above y b there) x a
 
   pub earlier_sound : Sound next
   earlier_sound = record {

@@ -1,6 +1,6 @@
 -- A stop: the files that it keeps, and the session document after it.
 use Rattle.std.proofs.Common.{◌≡◌, ◌≢◌, ◌++◌, ◌+◌, ◌≤◌, ◌==◌, ℕ, zero, suc, Bool, true, false, List, [], ◌∷◌, Option, Some, None, Result, Ok, Err, refl, sym}
-use Rattle.std.proofs.Common.{ap, ◌∙◌, inl, inr, arith, subst, slice_get, if◌then◌else◌}
+use Rattle.std.proofs.Common.{ap, ◌∙◌, inl, arith, subst, slice_get, if◌then◌else◌}
 use Rattle.wire_msgs.specs.Found.{find, nth}
 use Rattle.container_model.specs.Saves.{image, session_after}
 use Rattle.container_model.specs.declared.answer.FrameDocument.{FrameDocument}
@@ -98,7 +98,8 @@ pub document_above : (s : Story) (document : Option (List ℕ)) (frame : Frame) 
     → e.session ≤ frame.session
 document_above s None frame d at = each_run (λ x. x.session ≤ frame.session) s.past (epoch_of s.now) (λ x old. absurd (subst (λ xs. Among xs x) d.0 old))
     (let b : s.now.rec.session ≡ 0 = d.1 in let le : s.now.rec.session ≤ frame.session = omega arith in le)
-document_above s (Some name) frame d at = λ e g. (let a : e.session ≤ d.saved.session = d.above e g in let b : frame.session ≡ d.saved.session = (d.framed frame at).1 in omega arith)
+document_above s (Some name) frame d at =
+    λ e g. (let a : e.session ≤ d.saved.session = d.above e g in let b : frame.session ≡ d.saved.session = (d.framed frame at).1 in omega arith)
 
 pub raises : (session f : ℕ) (frame : Frame) (raised : Option ℕ) → MayRaise session f frame raised → frame.session ≤ session_after frame.session raised
 raises session f frame None h = omega arith
@@ -118,7 +119,8 @@ module _ (s : Story) (fs : List ℕ) (images : ℕ → List ℕ) where
   after = stopped s images fs
 
   above_stopped : (n : ℕ) → ((e : Epoch) → Among (epochs s) e → e.session ≤ n) → (e : Epoch) → Among (epochs (stopped s images fs)) e → e.session ≤ n
-  above_stopped n h = each_run (λ x. x.session ≤ n) (past_by s.now s.past) (epoch_of after.now) (λ x old. h x (past_known s.now s.past x old)) (let le : 0 ≤ n = omega arith in le)
+  above_stopped n h = each_run (λ x. x.session ≤ n) (past_by s.now s.past) (epoch_of after.now)
+      (λ x old. h x (past_known s.now s.past x old)) (let le : 0 ≤ n = omega arith in le)
 
   none_framed : {A : Type 0} (frame : Frame) → nth after.now.rec.frames 1 ≡ Some frame → A
   none_framed frame at = (let z : ◌≡◌ {A = Option Frame} None (Some frame) = at in cc)
@@ -161,8 +163,7 @@ module _ (s : Story) (fs : List ℕ) (images : ℕ → List ℕ) where
   }
 
   kept_first : DocumentStands s s.document → Apart s.now.rec.frames → InSession s.now.rec → may_stop s.now.rec fs ≡ true → ((f : ℕ) → is_among fs f ≡ true → IsImageOf s.now f (images f))
-      → is_among fs 1 ≡ true
-      → DocumentStands (stopped s images fs) (document_by 1 (nth s.now.rec.frames 1) s.document)
+      → is_among fs 1 ≡ true → DocumentStands (stopped s images fs) (document_by 1 (nth s.now.rec.frames 1) s.document)
   kept_first d apart ses may are among =
       let p = images_saved s.now fs images may are 1 among in
       let im = image_frame s.now.rec 1 (nth s.now.rec.frames 1) p.0 refl p.1 in

@@ -221,8 +221,7 @@ module _ (w : World) (mine : List File) (past : List Epoch) (archive : ℕ → L
 pub stop_files : (w : World) (fs : List ℕ) (images : ℕ → List ℕ) (mine : List File) (kept : List (List ℕ)) (past : List Epoch) (archive : ℕ → List File)
     → may_stop w.rec fs ≡ true → ((f : ℕ) → is_among fs f ≡ true → IsImageOf w f (images f))
     → (w.rec.session ≡ 0 → mine ≡ []) → ((e : Epoch) → Among past e → e.session ≢ 0) → ((e : Epoch) → Among past e → w.rec.session ≢ 0 → e.session < w.rec.session)
-    → ComeFrom mine w.files kept past archive
-    → MineThere [] (put_kept images fs 1 w.rec.frames w.files) (names_kept fs 1 w.rec.frames kept)
+    → ComeFrom mine w.files kept past archive → MineThere [] (put_kept images fs 1 w.rec.frames w.files) (names_kept fs 1 w.rec.frames kept)
     × ComeFrom [] (put_kept images fs 1 w.rec.frames w.files) (names_kept fs 1 w.rec.frames kept) (past_by w past) (archived w.rec.session mine archive)
 stop_files w fs images mine kept past archive may are none raised above from =
     let apart : (e : Epoch) → Among past e → e.session ≢ w.rec.session = λ e g q. (let lt = above e g (λ z. raised e g (q ∙ z)) in omega arith) in

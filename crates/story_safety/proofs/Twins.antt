@@ -1,6 +1,6 @@
 -- A run among others, and the same run by itself: an event makes the same of both, and sends the same messages.
-use Rattle.std.proofs.Common.{◌≡◌, ◌≢◌, ◌==◌, ℕ, zero, suc, true, false, List, [], ◌∷◌, ◌++◌, map, Option, Some, None, Result, Ok, Err, refl, sym, ap, ◌∙◌}
-use Rattle.std.proofs.Common.{subst, inl, inr, append-nil, eq-eqb, eqb-true, slice_get, if◌then◌else◌}
+use Rattle.std.proofs.Common.{◌≡◌, ◌==◌, ℕ, true, false, List, [], ◌∷◌, ◌++◌, map, Option, Some, None, Result, Ok, Err, refl, sym, ap, ◌∙◌}
+use Rattle.std.proofs.Common.{subst, inl, inr, append-nil, if◌then◌else◌}
 use Rattle.wire_msgs.specs.Found.{find, nth, set_nth}
 use Rattle.wire_msgs.specs.declared.message.Message.{Message}
 use Rattle.wire_msgs.specs.declared.message.Said.{Said}
@@ -32,7 +32,6 @@ use Rattle.world_model.specs.declared.event.Stop.{Stop}
 use Rattle.world_model.specs.declared.event.Stop.TheVariants.{NotEnabled}
 use Rattle.world_model.specs.declared.life.Life.{Life}
 use Rattle.world_model.specs.declared.life.Life.TheVariants.{Running, Ended, Reaped}
-use Rattle.world_model.specs.declared.logs.EventAnswer.{EventAnswer}
 use Rattle.world_model.specs.declared.logs.File.{File}
 use Rattle.world_model.specs.declared.logs.Sent.{Sent}
 use Rattle.world_model.specs.declared.logs.ServerDone.{ServerDone}
@@ -42,18 +41,16 @@ use Rattle.world_model.specs.World.{done_in, done_taken, ended, in_run, in_sessi
 use Rattle.world_model.specs.World.{scribble, served, spoken, spoken_by, stocked, taken_at, taken_by, taken_link, taken_of, taken_said, took, view_in}
 use Rattle.world_model.specs.World.{with_taken}
 use Rattle.world_model.specs.Safe.{Among, messages}
-use Rattle.world_facts.proofs.Lookups.{among_map, among_mapped}
-use Rattle.world_safety.specs.Holding.{Holds}
 use Rattle.world_safety.proofs.Speaking.{IsTelling, asking_is, writing_is}
 use Rattle.story_model.specs.Story.{made_name}
-use Rattle.story_safety.specs.Holding.{sent_in}
 use Rattle.story_safety.specs.Steps.{put_committed, quieted, twin}
 
 pub ok_is : (x y : World) → ◌≡◌ {A = Result World Stop} (Ok x) (Ok y) → x ≡ y
 ok_is x y e = cc
 
 -- what is made of a message, and the log of what was taken with it
-pub logged_is : (w : World) (more : List Taken) (told : Result World Stop) (v : World) → with_taken w more told ≡ Ok v → (a : World) × (told ≡ Ok a) × (record a { taken = w.taken ++ more } ≡ v)
+pub logged_is : (w : World) (more : List Taken) (told : Result World Stop) (v : World) → with_taken w more told ≡ Ok v
+    → (a : World) × (told ≡ Ok a) × (record a { taken = w.taken ++ more } ≡ v)
 logged_is w more (Err stop) v ok = cc
 logged_is w more (Ok a) v ok = (a, refl, ok_is _ v ok)
 

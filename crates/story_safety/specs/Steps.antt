@@ -1,5 +1,5 @@
 -- What a moment makes of a story's runs, each by itself. No reader has to believe it.
-use Rattle.std.specs.Prelude.{◌≡◌, ◌≢◌, ◌⊎◌, ◌++◌, ◌≤◌, ℕ, Bool, true, false, List, [], ◌∷◌, Option, Some, None, Ok}
+use Rattle.std.specs.Prelude.{◌≡◌, ◌≢◌, ◌⊎◌, ◌++◌, ℕ, true, false, List, [], Option, Some, None, Ok}
 use Rattle.wire_msgs.specs.Found.{nth, set_nth}
 use Rattle.wire_msgs.specs.declared.message.Message.{Message}
 use Rattle.container_model.specs.Inputs.{Input, on_input}
