@@ -1,6 +1,6 @@
 //! Commits that are done, commits that fail, and how one in doubt is resolved.
 
-ghost use Rattle.std.specs.Prelude.{◌≡◌, ◌≤◌, ◌+◌, IfErr, IfOk, OnErr, OnOk, Ok, Some, [], length, true, false, if◌then◌else◌};
+ghost use Rattle.std.specs.Prelude.{◌≡◌, ◌≢◌, ◌≤◌, ◌+◌, IfErr, IfOk, OnErr, OnOk, Ok, Some, [], length, true, false, if◌then◌else◌};
 ghost use Rattle.container_model.specs.Record.{Refuses, is_doubtful};
 ghost use Rattle.wire_msgs.specs.Found.{nth};
 ghost use Rattle.container_model.specs.Numbered.{IsNth};
@@ -29,6 +29,7 @@ fn place_committing(state: &State, f: u32) -> Result<usize, ContainerFault>
     ensures place { IfOk result (IsNth f state.now.frames) }
     ensures told { OnOk result ((frame : declared.Frame) → nth state.now.frames f ≡ Some frame → (is_committing frame.phase ≡ true) × (commit_done state.now f ≡ Ok (commit_made state.now f frame))) }
     ensures refused { IfErr result (Refuses (commit_done state.now f)) }
+    ensures memory { IfErr result (λ fault. fault ≢ NoMemory) }
 {
     let Some(place) = state.frames.place(f) else {
         return Err(ContainerFault::NoSuch);
@@ -47,6 +48,7 @@ fn place_kept(state: &State, f: u32) -> Result<usize, ContainerFault>
     ensures place { IfOk result (IsNth f state.now.frames) }
     ensures told { OnOk result ((frame : declared.Frame) → nth state.now.frames f ≡ Some frame → (is_doubtful frame.phase ≡ true) × (resolve state.now f true ≡ Ok (commit_made state.now f frame))) }
     ensures refused { IfErr result (Refuses (resolve state.now f true)) }
+    ensures memory { IfErr result (λ fault. fault ≢ NoMemory) }
 {
     let Some(place) = state.frames.place(f) else {
         return Err(ContainerFault::NoSuch);
@@ -65,6 +67,7 @@ fn place_lost(state: &State, f: u32) -> Result<usize, ContainerFault>
     ensures place { IfOk result (IsNth f state.now.frames) }
     ensures told { OnOk result ((frame : declared.Frame) → nth state.now.frames f ≡ Some frame → (is_doubtful frame.phase ≡ true) × (resolve state.now f false ≡ Ok (save_dropped state.now f frame))) }
     ensures refused { IfErr result (Refuses (resolve state.now f false)) }
+    ensures memory { IfErr result (λ fault. fault ≢ NoMemory) }
 {
     let Some(place) = state.frames.place(f) else {
         return Err(ContainerFault::NoSuch);
@@ -154,6 +157,7 @@ pub(crate) fn commit_failed(
     ensures taken { IfOk result (λ a. commit_failed state.old f ≡ Ok (record { rec = state.new; answer = a; counted = [] })) }
     ensures few { IfOk result (λ a. length a.actions ≤ length state.old.objects + length state.old.frames + 1) }
     ensures refused { IfErr result (Refuses (commit_failed state.old f)) }
+    ensures memory { IfErr result (λ fault. fault ≢ NoMemory) }
     ensures kept { OnErr result (state.new ≡ state.old) }
 {
     let Some(place) = state.frames.place(f) else {

@@ -63,6 +63,7 @@ impl ContainerCore {
     ghost use Rattle.container_model.specs.Saves as saves;
     ghost use Rattle.container_model.specs.Saves.{commit_done, commit_failed, counted_of, document_tree, image, resolve, session_counted};
     ghost use Rattle.container_model.specs.declared.answer.FrameDocument.{FrameDocument};
+    ghost use Rattle.container_model.specs.declared.fault.ContainerFault.TheVariants.{NoMemory};
     ghost use Rattle.container_numbers.specs.Sessions.{InSession, WantsSession};
     ghost use Rattle.container_screen.specs.Screen.{shown};
     ghost use Rattle.document_model.specs.DocOf.{DocOf};
@@ -291,6 +292,7 @@ impl ContainerCore {
         ensures taken { IfOk result (λ a. commit_failed self.old f ≡ Ok (counts_none self.new a)) }
         ensures few { IfOk result (λ a. length a.actions ≤ length self.old.objects + length self.old.frames + 1) }
         ensures refused { IfErr result (Refuses (commit_failed self.old f)) }
+        ensures memory { IfErr result (λ fault. fault ≢ NoMemory) }
         ensures kept { OnErr result (self.new ≡ self.old) }
         ensures steady { Steady self.new }
         ensures sound { IsSound self.new }

@@ -1,9 +1,10 @@
 //! The documents of frames whose commits are asked for or in doubt, and their files.
 
-ghost use Rattle.std.specs.Prelude.{◌≡◌, ◌≤◌, IfErr, IfOk, Ok, length};
+ghost use Rattle.std.specs.Prelude.{◌≡◌, ◌≢◌, ◌≤◌, IfErr, IfOk, Ok, length};
 ghost use Rattle.container_model.specs.Record.{Refuses};
 ghost use Rattle.container_model.specs.Saves as saves;
 ghost use Rattle.container_model.specs.Saves.{document_tree, image, parts_in};
+ghost use Rattle.container_model.specs.declared.fault.ContainerFault.TheVariants.{NoMemory};
 ghost use Rattle.document_model.specs.DocOf.{DocOf};
 ghost use Rattle.file_model.specs.Denotes.{Denotes};
 ghost use Rattle.file_model.specs.Limits.{MOST_BYTES};
@@ -24,6 +25,7 @@ use wire_msgs::items::Items;
 pub(crate) fn check_image(state: &State, f: u32) -> Result<u32, ContainerFault>
     ensures fine { IfOk result (λ session. image state.now f ≡ Ok (record { session = session; parts = parts_in f state.now.objects })) }
     ensures refused { IfErr result (Refuses (image state.now f)) }
+    ensures memory { IfErr result (λ fault. fault ≢ NoMemory) }
 {
     let Some(place) = state.frames.place(f) else {
         return Err(ContainerFault::NoSuch);

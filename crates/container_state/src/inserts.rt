@@ -1,9 +1,10 @@
 //! New objects.
 
-ghost use Rattle.std.specs.Prelude.{◌≡◌, ◌+◌, ◌≤◌, ◌∷◌, [], ℕ, IfErr, IfOk, Ok, OnErr, OnOk, Some, length};
+ghost use Rattle.std.specs.Prelude.{◌≡◌, ◌≢◌, ◌+◌, ◌≤◌, ◌∷◌, [], ℕ, IfErr, IfOk, Ok, OnErr, OnOk, Some, length};
 ghost use Rattle.container_model.specs.Commands.{insert, insert_at, insert_into, insert_made, kind_of};
 ghost use Rattle.container_model.specs.Record.{Record, Refuses, counts_none, quiet_answer};
 ghost use Rattle.container_model.specs.declared.command.ObjectKind.{ObjectKind};
+ghost use Rattle.container_model.specs.declared.fault.ContainerFault.TheVariants.{NoMemory};
 ghost use Rattle.container_steady.specs.Steady.{Steady};
 
 use crate::state::State;
@@ -25,6 +26,7 @@ const MOST_OBJECTS: usize = 64;
 fn may_insert(frame: &Frame, area: Area) -> Result<(), ContainerFault>
     ensures may { OnOk result ((r : Record) (f : ℕ) (kind : ObjectKind) → insert_at r f (kind_of kind) area (Some frame.now) ≡ insert_into r f (kind_of kind) area) }
     ensures refused { IfErr result (λ e. (r : Record) (f : ℕ) (kind : ObjectKind) → Refuses (insert_at r f (kind_of kind) area (Some frame.now)) e) }
+    ensures memory { IfErr result (λ fault. fault ≢ NoMemory) }
 {
     if checks::is_doubtful(frame.phase) {
         return Err(ContainerFault::InDoubt);

@@ -1,10 +1,11 @@
 //! Where an object and its frame stand, for the steps that are asked of them.
 
-ghost use Rattle.std.specs.Prelude.{◌≡◌, IfErr, IfOk, IfSome, IsSomeAnd, OnOk, Result, slice_get};
+ghost use Rattle.std.specs.Prelude.{◌≡◌, ◌≢◌, IfErr, IfOk, IfSome, IsSomeAnd, OnOk, Result, slice_get};
 ghost use Rattle.container_model.specs.Located.{located, ready};
 ghost use Rattle.container_model.specs.Numbered.{IsNth, IsObjectAt};
 ghost use Rattle.container_model.specs.Record.{Refuses, Took};
 ghost use Rattle.container_model.specs.declared.fault.ContainerFault.{ContainerFault};
+ghost use Rattle.container_model.specs.declared.fault.ContainerFault.TheVariants.{NoMemory};
 ghost use Rattle.container_model.specs.declared.record.Frame.{Frame};
 ghost use Rattle.container_model.specs.declared.record.Object.{Object};
 
@@ -20,6 +21,7 @@ use container_model::record::{Frame, Object};
 fn may_ask(frame: &Frame, object: &Object) -> Result<(), ContainerFault>
     ensures may { OnOk result ((step : Object → Frame → Result Took ContainerFault) → ready step object.now frame.now ≡ step object.now frame.now) }
     ensures refused { IfErr result (λ e. (step : Object → Frame → Result Took ContainerFault) → Refuses (ready step object.now frame.now) e) }
+    ensures memory { IfErr result (λ fault. fault ≢ NoMemory) }
 {
     if checks::is_doubtful(frame.phase) {
         return Err(ContainerFault::InDoubt);
@@ -43,6 +45,7 @@ impl State {
         ensures frame { IfOk result (λ p. IfSome (slice_get self.now.objects p.0) (λ o. IsNth o.frame self.now.frames p.1)) }
         ensures step { IfOk result (λ p. IsSomeAnd (slice_get self.now.objects p.0) (λ o. IsSomeAnd (slice_get self.now.frames p.1) (λ frame. (step : Object → Frame → Result Took ContainerFault) → located self.now object step ≡ step o frame))) }
         ensures refused { IfErr result (λ e. (step : Object → Frame → Result Took ContainerFault) → Refuses (located self.now object step) e) }
+        ensures memory { IfErr result (λ fault. fault ≢ NoMemory) }
     {
         let Some(i) = place_object(&self.objects, object) else {
             return Err(ContainerFault::NoSuch);
@@ -62,6 +65,7 @@ impl State {
         ensures frame { IfOk result (λ p. IfSome (slice_get self.now.objects p.0) (λ o. IsNth o.frame self.now.frames p.1)) }
         ensures step { IfOk result (λ p. IsSomeAnd (slice_get self.now.objects p.0) (λ o. IsSomeAnd (slice_get self.now.frames p.1) (λ frame. (step : Object → Frame → Result Took ContainerFault) → located self.now object (ready step) ≡ step o frame))) }
         ensures refused { IfErr result (λ e. (step : Object → Frame → Result Took ContainerFault) → Refuses (located self.now object (ready step)) e) }
+        ensures memory { IfErr result (λ fault. fault ≢ NoMemory) }
     {
         let (i, at) = match self.place_both(object) {
             Ok(places) => places,

@@ -1,11 +1,12 @@
 //! Frames that are saved.
 
-ghost use Rattle.std.specs.Prelude.{◌+◌, ◌≡◌, ◌≤◌, ℕ, IfErr, IfOk, IfSome, None, Ok, OnErr, OnOk, Result, Some, length, slice_get};
+ghost use Rattle.std.specs.Prelude.{◌+◌, ◌≡◌, ◌≢◌, ◌≤◌, ℕ, IfErr, IfOk, IfSome, None, Ok, OnErr, OnOk, Result, Some, length, slice_get};
 ghost use Rattle.container_model.specs.Commands.{save, save_as, save_numbered, session};
 ghost use Rattle.container_model.specs.Record.{Record, Refuses, Took, counts_none};
 ghost use Rattle.container_model.specs.Numbered.{IsNth};
 ghost use Rattle.container_model.specs.Room.{IsSound};
 ghost use Rattle.container_model.specs.declared.fault.ContainerFault.{ContainerFault};
+ghost use Rattle.container_model.specs.declared.fault.ContainerFault.TheVariants.{NoMemory};
 ghost use Rattle.container_model.specs.declared.record.Frame as declared;
 ghost use Rattle.container_model.specs.declared.record.Phase.TheVariants.{Idle};
 ghost use Rattle.container_steady.specs.Steady.{Steady};
@@ -34,6 +35,7 @@ fn may_save(number: u32, frame: &Frame, objects: &Objects) -> Result<(), Contain
     ensures may { OnOk result ((r : Record) (next : Result Took ContainerFault) → r.objects ≡ objects.now.list.items → unready r number frame.now next ≡ next) }
     ensures idle { OnOk result (frame.now.phase ≡ Idle) }
     ensures refused { IfErr result (λ e. (r : Record) (next : Result Took ContainerFault) → r.objects ≡ objects.now.list.items → Refuses (unready r number frame.now next) e) }
+    ensures memory { IfErr result (λ fault. fault ≢ NoMemory) }
 {
     if checks::is_doubtful(frame.phase) {
         return Err(ContainerFault::InDoubt);
@@ -57,6 +59,7 @@ fn may_save(number: u32, frame: &Frame, objects: &Objects) -> Result<(), Contain
 fn may_follow(session: u32) -> Result<(), ContainerFault>
     ensures may { OnOk result ((r : Record) (f : ℕ) (frame : declared.Frame) → r.session ≡ session → plain r f frame ≡ save_numbered r f frame None None) }
     ensures refused { IfErr result (λ e. (r : Record) (f : ℕ) (frame : declared.Frame) → r.session ≡ session → Refuses (plain r f frame) e) }
+    ensures memory { IfErr result (λ fault. fault ≢ NoMemory) }
 {
     if session == 0 {
         return Err(ContainerFault::WrongState);
@@ -78,6 +81,7 @@ fn may_bear(
     requires { length frames.now ≤ 1000000 }
     ensures may { OnOk result ((r : Record) → r.session ≡ session → r.frames ≡ frames.now → named r number name.now frame.now ≡ save_numbered r number frame.now None (Some name.now)) }
     ensures refused { IfErr result (λ e. (r : Record) → r.session ≡ session → r.frames ≡ frames.now → Refuses (named r number name.now frame.now) e) }
+    ensures memory { IfErr result (λ fault. fault ≢ NoMemory) }
 {
     if checks::is_named_beside(number, name, frames) {
         return Err(ContainerFault::Busy);
@@ -94,6 +98,7 @@ fn may_bear(
 fn may_raise(session: u32, numbers: u32, frame: &Frame) -> Result<u32, ContainerFault>
     ensures may { IfOk result (λ n. (r : Record) → r.session ≡ session → r.numbers ≡ numbers → raising r frame.now ≡ save_numbered r 1 frame.now (Some n) None) }
     ensures refused { IfErr result (λ e. (r : Record) → r.session ≡ session → r.numbers ≡ numbers → Refuses (raising r frame.now) e) }
+    ensures memory { IfErr result (λ fault. fault ≢ NoMemory) }
 {
     if session != 0 {
         return Err(ContainerFault::WrongState);
