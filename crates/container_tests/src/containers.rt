@@ -2,7 +2,7 @@
 //! answer behind ` =>`; and the functions have no contracts: so the test is quick to prove.
 
 use crate::answers::is_answered;
-use crate::events::{event, happens};
+use crate::events::happens;
 use crate::files::{are_sessions, is_document, is_file};
 use crate::messages::{messaged, messaged_in};
 use crate::shown::{are_numbers, are_pending, are_sizes, are_states, is_screen};
@@ -414,8 +414,8 @@ pub(crate) fn tells(
     row: &str,
     words: &mut SplitWhitespace<'_>,
 ) -> bool {
-    match event(rt, alloc, row) {
-        Some(event) => happens(alloc, core, event, words),
+    match happens(rt, alloc, core, row) {
+        Some(answer) => is_answered(answer, words),
         None => hears(rt, alloc, core, row, words),
     }
 }

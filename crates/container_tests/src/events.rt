@@ -1,14 +1,14 @@
 //! What happens to a container, as the program reads it.
 
-use crate::answers::is_answered;
+use crate::shown::seen;
 use container_core::container::ContainerCore;
 use container_model::answer::Answer;
 use container_model::command::Command;
 use container_model::fault::ContainerFault;
 use event_texts::lines::parse_line;
+use refusal_marks::marks::{begin, end};
 use std::alloc::Global;
 use std::process::Abort;
-use std::str::SplitWhitespace;
 use world_model::event::Event;
 
 fn carry_out(
@@ -16,19 +16,31 @@ fn carry_out(
     core: &mut ContainerCore,
     command: Command,
 ) -> Result<Answer, ContainerFault> {
-    core.command(alloc, command)
+    begin(alloc);
+    let answer = core.command(alloc, command);
+    end(alloc);
+    answer
 }
 
 fn reap(alloc: Global, core: &mut ContainerCore, inc: u32) -> Result<Answer, ContainerFault> {
-    core.on_reap(alloc, inc)
+    begin(alloc);
+    let answer = core.on_reap(alloc, inc);
+    end(alloc);
+    answer
 }
 
 fn commit(alloc: Global, core: &mut ContainerCore, f: u32) -> Result<Answer, ContainerFault> {
-    core.commit_done(alloc, f)
+    begin(alloc);
+    let answer = core.commit_done(alloc, f);
+    end(alloc);
+    answer
 }
 
 fn fail(alloc: Global, core: &mut ContainerCore, f: u32) -> Result<Answer, ContainerFault> {
-    core.commit_failed(alloc, f)
+    begin(alloc);
+    let answer = core.commit_failed(alloc, f);
+    end(alloc);
+    answer
 }
 
 fn resolve(
@@ -37,7 +49,10 @@ fn resolve(
     f: u32,
     is_kept: bool,
 ) -> Result<Answer, ContainerFault> {
-    core.resolve(alloc, f, is_kept)
+    begin(alloc);
+    let answer = core.resolve(alloc, f, is_kept);
+    end(alloc);
+    answer
 }
 
 /// The event that a row spells.
@@ -45,19 +60,48 @@ pub(crate) fn event(rt: &impl Abort, alloc: Global, row: &str) -> Option<Event> 
     parse_line(alloc, row.as_bytes()).expect(rt, "memory")
 }
 
-/// Whether a container answers this to a command, the end of a server or a commit that is done, that fails or is resolved.
-pub(crate) fn happens(
+/// What a container answers to a command, the end of a server or a commit that is done, that fails or is resolved.
+fn answer(
     alloc: Global,
     core: &mut ContainerCore,
     event: Event,
-    words: &mut SplitWhitespace<'_>,
-) -> bool {
+) -> Option<Result<Answer, ContainerFault>> {
     match event {
-        Event::Command(command) => is_answered(carry_out(alloc, core, command), words),
-        Event::Reap(inc) => is_answered(reap(alloc, core, inc), words),
-        Event::Done(f) => is_answered(commit(alloc, core, f), words),
-        Event::Fail(f) => is_answered(fail(alloc, core, f), words),
-        Event::Resolve(f, is_kept) => is_answered(resolve(alloc, core, f, is_kept), words),
-        _ => false,
+        Event::Command(command) => Some(carry_out(alloc, core, command)),
+        Event::Reap(inc) => Some(reap(alloc, core, inc)),
+        Event::Done(f) => Some(commit(alloc, core, f)),
+        Event::Fail(f) => Some(fail(alloc, core, f)),
+        Event::Resolve(f, is_kept) => Some(resolve(alloc, core, f, is_kept)),
+        _ => None,
+    }
+}
+
+/// The same of the event that a row spells.
+fn answer_to(
+    rt: &impl Abort,
+    alloc: Global,
+    core: &mut ContainerCore,
+    row: &str,
+) -> Option<Result<Answer, ContainerFault>> {
+    match event(rt, alloc, row) {
+        Some(event) => answer(alloc, core, event),
+        None => None,
+    }
+}
+
+/// The same. Where memory is refused, the container is as before, and is told again.
+pub(crate) fn happens(
+    rt: &impl Abort,
+    alloc: Global,
+    core: &mut ContainerCore,
+    row: &str,
+) -> Option<Result<Answer, ContainerFault>> {
+    let before = seen(rt, alloc, core);
+    match answer_to(rt, alloc, core, row) {
+        Some(Err(ContainerFault::NoMemory)) => {
+            assert!(rt; seen(rt, alloc, core) == before, "{row}");
+            answer_to(rt, alloc, core, row)
+        }
+        told => told,
     }
 }

@@ -5,11 +5,27 @@ use crate::words::{counts, number, word};
 use container_core::container::ContainerCore;
 use container_model::answer::FrameDocument;
 use container_model::fault::ContainerFault;
+use refusal_marks::marks::{begin, end};
 use std::alloc::Global;
 use std::str::SplitWhitespace;
 
+fn document_once(
+    alloc: Global,
+    core: &ContainerCore,
+    f: u32,
+) -> Result<FrameDocument, ContainerFault> {
+    begin(alloc);
+    let document = core.document(alloc, f);
+    end(alloc);
+    document
+}
+
+/// A frame's document, asked for again where memory is refused.
 fn document(alloc: Global, core: &ContainerCore, f: u32) -> Result<FrameDocument, ContainerFault> {
-    core.document(alloc, f)
+    match document_once(alloc, core, f) {
+        Err(ContainerFault::NoMemory) => document_once(alloc, core, f),
+        document => document,
+    }
 }
 
 /// Whether the document of frame 1 has so many objects.
@@ -60,15 +76,40 @@ pub(crate) fn are_sessions(
         && number(word(words)) == k
 }
 
+fn commit_image_once(
+    alloc: Global,
+    core: &ContainerCore,
+) -> Result<(FrameDocument, Vec<u8>), ContainerFault> {
+    begin(alloc);
+    let image = core.commit_image(alloc, 1);
+    end(alloc);
+    image
+}
+
+/// The same of its document with its file.
 fn commit_image(
     alloc: Global,
     core: &ContainerCore,
 ) -> Result<(FrameDocument, Vec<u8>), ContainerFault> {
-    core.commit_image(alloc, 1)
+    match commit_image_once(alloc, core) {
+        Err(ContainerFault::NoMemory) => commit_image_once(alloc, core),
+        image => image,
+    }
 }
 
+fn image_once(alloc: Global, core: &ContainerCore) -> Result<Vec<u8>, ContainerFault> {
+    begin(alloc);
+    let image = core.image(alloc, 1);
+    end(alloc);
+    image
+}
+
+/// The same of its file.
 fn image(alloc: Global, core: &ContainerCore) -> Result<Vec<u8>, ContainerFault> {
-    core.image(alloc, 1)
+    match image_once(alloc, core) {
+        Err(ContainerFault::NoMemory) => image_once(alloc, core),
+        image => image,
+    }
 }
 
 fn is_image(alloc: Global, core: &ContainerCore, file: &[u8]) -> bool {

@@ -1,5 +1,6 @@
 //! Messages of a server, as rows spell them: also such as no server of the program sends.
 
+use crate::shown::seen;
 use crate::words::{halves, number};
 use cfb_names::name::named;
 use container_core::container::ContainerCore;
@@ -8,6 +9,7 @@ use container_model::fault::ContainerFault;
 use container_model::server_link::ServerLink;
 use object_parts::limits::MOST_BYTES;
 use object_state::Menus;
+use refusal_marks::marks::{begin, end};
 use std::alloc::Global;
 use std::process::Abort;
 use stored_streams::stored::Stored;
@@ -95,6 +97,38 @@ fn said(rt: &impl Abort, alloc: Global, from: (u32, u32), row: &str) -> Said {
     }
 }
 
+/// What a container answers to a message.
+fn hear(
+    alloc: Global,
+    core: &mut ContainerCore,
+    link: ServerLink,
+    message: Message,
+) -> Result<Answer, ContainerFault> {
+    begin(alloc);
+    let answer = core.on_message(alloc, link, message);
+    end(alloc);
+    answer
+}
+
+/// The same. Where memory is refused, the container is as before, and hears the message again.
+fn heard(
+    rt: &impl Abort,
+    alloc: Global,
+    core: &mut ContainerCore,
+    link: ServerLink,
+    message: Message,
+) -> Result<Answer, ContainerFault> {
+    let again = message.copy(alloc).expect(rt, "memory");
+    let before = seen(rt, alloc, core);
+    match hear(alloc, core, link, message) {
+        Err(ContainerFault::NoMemory) => {
+            assert!(rt; seen(rt, alloc, core) == before);
+            hear(alloc, core, link, again)
+        }
+        answer => answer,
+    }
+}
+
 /// What a container answers to a message of its own session on the link of a server, which says that it is of this server and this
 /// activation.
 pub(crate) fn messaged(
@@ -108,7 +142,7 @@ pub(crate) fn messaged(
     let session = core.session();
     let link = ServerLink { session, inc: link };
     let said = said(rt, alloc, from, row);
-    core.on_message(alloc, link, Message { session, said })
+    heard(rt, alloc, core, link, Message { session, said })
 }
 
 /// What a container answers to a message that says that it is of session 2, of activation 1 of server 1 there. It comes on the
@@ -122,5 +156,5 @@ pub(crate) fn messaged_in(
 ) -> Result<Answer, ContainerFault> {
     let link = ServerLink { session, inc: 1 };
     let said = said(rt, alloc, (1, 1), row);
-    core.on_message(alloc, link, Message { session: 2, said })
+    heard(rt, alloc, core, link, Message { session: 2, said })
 }

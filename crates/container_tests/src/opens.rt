@@ -6,6 +6,7 @@
 
 use crate::answers::{is_answered, is_fault};
 use crate::containers::tells;
+use crate::shown::seen;
 use crate::words::{halves, number, word};
 use container_core::container::{ContainerCore, Limits};
 use container_model::answer::Answer;
@@ -15,6 +16,7 @@ use object_parts::area::Area;
 use ole_streams::doc::{Doc, DocObject};
 use ole_streams::document_tree::document_tree;
 use ole_streams::names;
+use refusal_marks::marks::{begin, end};
 use std::alloc::Global;
 use std::process::Abort;
 use std::str::SplitWhitespace;
@@ -148,15 +150,36 @@ fn file(rt: &impl Abort, alloc: Global, core: &ContainerCore, word: &str) -> Opt
     }
 }
 
-fn opened_as(
+fn opened_once(
     alloc: Global,
     core: &mut ContainerCore,
     name: Bytes,
-    w: u16,
-    h: u16,
+    size: (u16, u16),
     file: Option<&[u8]>,
 ) -> Result<Answer, ContainerFault> {
-    core.open_file(alloc, name, w, h, file)
+    begin(alloc);
+    let answer = core.open_file(alloc, name, size.0, size.1, file);
+    end(alloc);
+    answer
+}
+
+/// What a container answers to a file that is opened. Where memory is refused, the container is as before, and opens it again.
+fn opened_as(
+    rt: &impl Abort,
+    alloc: Global,
+    core: &mut ContainerCore,
+    name: &str,
+    size: (u16, u16),
+    file: Option<&[u8]>,
+) -> Result<Answer, ContainerFault> {
+    let before = seen(rt, alloc, core);
+    match opened_once(alloc, core, bytes(rt, alloc, name.as_bytes()), size, file) {
+        Err(ContainerFault::NoMemory) => {
+            assert!(rt; seen(rt, alloc, core) == before);
+            opened_once(alloc, core, bytes(rt, alloc, name.as_bytes()), size, file)
+        }
+        answer => answer,
+    }
 }
 
 fn size(word: &str) -> u16 {
@@ -169,11 +192,11 @@ fn opened(
     core: &mut ContainerCore,
     words: &mut SplitWhitespace<'_>,
 ) -> Result<Answer, ContainerFault> {
-    let name = bytes(rt, alloc, word(words).as_bytes());
-    let (w, h) = (size(word(words)), size(word(words)));
+    let name = word(words);
+    let cells = (size(word(words)), size(word(words)));
     match file(rt, alloc, core, word(words)) {
-        Some(file) => opened_as(alloc, core, name, w, h, Some(file.as_slice())),
-        None => opened_as(alloc, core, name, w, h, None),
+        Some(file) => opened_as(rt, alloc, core, name, cells, Some(file.as_slice())),
+        None => opened_as(rt, alloc, core, name, cells, None),
     }
 }
 

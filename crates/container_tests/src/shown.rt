@@ -4,12 +4,13 @@ use crate::answers::{are_calls, is_fault};
 use crate::words::{counts, number, word};
 use container_core::container::ContainerCore;
 use container_model::fault::ContainerFault;
-use container_model::record::{Object, Phase};
+use container_model::record::{Frame, Object, Phase};
 use grant_core::GrantState;
-use std::alloc::Global;
+use refusal_marks::marks::{begin, end};
+use std::alloc::{AllocError, Global};
 use std::process::Abort;
 use std::str::SplitWhitespace;
-use wire_msgs::message::Message;
+use wire_msgs::message::{Message, Said};
 
 fn object_text(object: &Object) -> &'static str {
     match (&object.link, object.work.streams.as_slice().len()) {
@@ -75,12 +76,32 @@ fn are(numbers: &[u32], words: &mut SplitWhitespace<'_>) -> bool {
     true
 }
 
+fn frames_once(alloc: Global, core: &ContainerCore) -> Result<Vec<u32>, AllocError> {
+    begin(alloc);
+    let frames = core.frames(alloc);
+    end(alloc);
+    frames
+}
+
 fn frames(rt: &impl Abort, alloc: Global, core: &ContainerCore) -> Vec<u32> {
-    core.frames(alloc).expect(rt, "memory")
+    match frames_once(alloc, core) {
+        Ok(frames) => frames,
+        Err(_) => frames_once(alloc, core).expect(rt, "memory"),
+    }
+}
+
+fn objects_once(alloc: Global, core: &ContainerCore) -> Result<Vec<u32>, AllocError> {
+    begin(alloc);
+    let objects = core.objects(alloc);
+    end(alloc);
+    objects
 }
 
 fn objects(rt: &impl Abort, alloc: Global, core: &ContainerCore) -> Vec<u32> {
-    core.objects(alloc).expect(rt, "memory")
+    match objects_once(alloc, core) {
+        Ok(objects) => objects,
+        Err(_) => objects_once(alloc, core).expect(rt, "memory"),
+    }
 }
 
 /// Whether these are the numbers of frames, and those of objects.
@@ -95,8 +116,18 @@ pub(crate) fn are_numbers(
         && are(&objects(rt, alloc, core), words)
 }
 
+fn calls_once(alloc: Global, core: &ContainerCore) -> Result<Vec<Message>, AllocError> {
+    begin(alloc);
+    let calls = core.resend(alloc);
+    end(alloc);
+    calls
+}
+
 fn calls(rt: &impl Abort, alloc: Global, core: &ContainerCore) -> Vec<Message> {
-    core.resend(alloc).expect(rt, "memory")
+    match calls_once(alloc, core) {
+        Ok(calls) => calls,
+        Err(_) => calls_once(alloc, core).expect(rt, "memory"),
+    }
 }
 
 /// Whether these calls are pending.
@@ -109,8 +140,18 @@ pub(crate) fn are_pending(
     are_calls(&calls(rt, alloc, core), words)
 }
 
+fn drawn_once(alloc: Global, core: &ContainerCore, f: u32) -> Result<Vec<u8>, ContainerFault> {
+    begin(alloc);
+    let screen = core.screen(alloc, f);
+    end(alloc);
+    screen
+}
+
 fn drawn(alloc: Global, core: &ContainerCore, f: u32) -> Result<Vec<u8>, ContainerFault> {
-    core.screen(alloc, f)
+    match drawn_once(alloc, core, f) {
+        Err(ContainerFault::NoMemory) => drawn_once(alloc, core, f),
+        screen => screen,
+    }
 }
 
 /// A frame of 12 by 4 cells with a note that was never run.
@@ -128,4 +169,50 @@ pub(crate) fn is_screen(
         Ok(screen) => word(words) == "note" && screen.as_slice() == FRAME.as_bytes(),
         Err(fault) => is_fault(fault, words),
     }
+}
+
+fn add(rt: &impl Abort, text: &mut Vec<u8>, word: &str) {
+    text.extend_from_slice(word.as_bytes()).expect(rt, "memory");
+}
+
+fn add_number(rt: &impl Abort, text: &mut Vec<u8>, number: u32) {
+    text.extend_from_slice(&number.to_le_bytes())
+        .expect(rt, "memory");
+}
+
+fn add_frame(rt: &impl Abort, text: &mut Vec<u8>, frame: &Frame) {
+    add(rt, text, phase_text(frame.phase));
+    add(rt, text, grant_text(&frame.ui.state()));
+    add(rt, text, if frame.stored { "stored" } else { "none" });
+    add_number(rt, text, frame.k);
+    add_number(rt, text, frame.session);
+}
+
+fn add_call(rt: &impl Abort, text: &mut Vec<u8>, call: &Message) {
+    if let Said::Call { inc, act, n, .. } = &call.said {
+        add_number(rt, text, *inc);
+        add_number(rt, text, *act);
+        add_number(rt, text, *n);
+    }
+}
+
+/// What is seen of a container's frames, its objects, the calls that wait for an answer, and the cells of frame 1.
+pub(crate) fn seen(rt: &impl Abort, alloc: Global, core: &ContainerCore) -> Vec<u8> {
+    let mut text = Vec::new(alloc);
+    add_number(rt, &mut text, core.session());
+    for frame in core.all_frames() {
+        add_frame(rt, &mut text, frame);
+    }
+    for object in core.all_objects() {
+        add(rt, &mut text, object_text(object));
+    }
+    let calls = core.resend(alloc).expect(rt, "memory");
+    for call in calls.as_slice() {
+        add_call(rt, &mut text, call);
+    }
+    match core.screen(alloc, 1) {
+        Ok(screen) => text.extend_from_slice(&screen).expect(rt, "memory"),
+        Err(fault) => add(rt, &mut text, fault.name()),
+    }
+    text
 }

@@ -75,7 +75,7 @@ fn write(rt: &impl Abort, alloc: Global) -> Frame {
 }
 
 /// Frames of each kind, each operation and each answer.
-fn frame_at(rt: &impl Abort, alloc: Global, at: u32) -> Frame {
+pub(crate) fn frame_at(rt: &impl Abort, alloc: Global, at: u32) -> Frame {
     match at {
         0 => call(Operation::InitNew(ClassId::from_bytes([7; 16]))),
         1 => load(rt, alloc),

@@ -12,6 +12,8 @@ mod long_frames;
 #[cfg(test)]
 mod pieces;
 #[cfg(test)]
+mod refusals;
+#[cfg(test)]
 mod texts;
 #[cfg(test)]
 mod values;

@@ -41,7 +41,7 @@ fn call(operation: Operation) -> Frame {
 }
 
 /// The four that have blobs.
-fn frame_at(rt: &impl Abort, alloc: Global, at: u32) -> Frame {
+pub(crate) fn frame_at(rt: &impl Abort, alloc: Global, at: u32) -> Frame {
     match at {
         0 => call(Operation::Edit(bytes(rt, alloc, 90))),
         1 => call(Operation::Load(ClassId::from_bytes([7; 16]), content(rt, alloc))),

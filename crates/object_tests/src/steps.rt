@@ -6,6 +6,7 @@ use cfb_names::name::named;
 use embed_core::embedded::Embedded;
 use embed_core::fault::EmbedFault;
 use embed_core::{Bytes, Streams};
+use refusal_marks::marks::{begin, end};
 use std::alloc::Global;
 use std::process::Abort;
 use stored_streams::streams::NamedStream;
@@ -78,22 +79,75 @@ fn init(object: &mut Box<dyn Embedded>) -> &'static str {
     "Ok"
 }
 
+fn edited(alloc: Global, object: &mut Box<dyn Embedded>, bytes: &[u8]) -> Result<(), EmbedFault> {
+    begin(alloc);
+    let answer = object.edit(alloc, bytes);
+    end(alloc);
+    answer
+}
+
+fn loaded(
+    alloc: Global,
+    object: &mut Box<dyn Embedded>,
+    streams: &Streams,
+) -> Result<(), EmbedFault> {
+    begin(alloc);
+    let answer = object.load(alloc, streams);
+    end(alloc);
+    answer
+}
+
+/// What an object is stored as.
+fn saved(rt: &impl Abort, alloc: Global, object: &Box<dyn Embedded>) -> Streams {
+    object.save(alloc).expect(rt, "memory")
+}
+
+fn same(one: &[NamedStream], other: &[NamedStream]) -> bool {
+    match (one, other) {
+        ([one], [other]) => one.bytes.as_slice() == other.bytes.as_slice(),
+        _ => false,
+    }
+}
+
+/// Whether an object is stored as it was before.
+fn is_as(rt: &impl Abort, alloc: Global, object: &Box<dyn Embedded>, before: &Streams) -> bool {
+    same(saved(rt, alloc, object).as_slice(), before.as_slice())
+}
+
+/// Edits an object. Where memory is refused, it is as before, and is edited again.
 fn edit(
     rt: &impl Abort,
     alloc: Global,
     object: &mut Box<dyn Embedded>,
     text: &str,
 ) -> &'static str {
-    told(object.edit(alloc, &spelled(rt, alloc, text)))
+    let bytes = spelled(rt, alloc, text);
+    let before = saved(rt, alloc, object);
+    match edited(alloc, object, &bytes) {
+        Err(EmbedFault::NoMemory) => {
+            assert!(rt; is_as(rt, alloc, object, &before));
+            told(edited(alloc, object, &bytes))
+        }
+        answer => told(answer),
+    }
 }
 
+/// The same of streams that it loads.
 fn load(
     rt: &impl Abort,
     alloc: Global,
     object: &mut Box<dyn Embedded>,
     text: &str,
 ) -> &'static str {
-    told(object.load(alloc, &streams_of(rt, alloc, text)))
+    let streams = streams_of(rt, alloc, text);
+    let before = saved(rt, alloc, object);
+    match loaded(alloc, object, &streams) {
+        Err(EmbedFault::NoMemory) => {
+            assert!(rt; is_as(rt, alloc, object, &before));
+            told(loaded(alloc, object, &streams))
+        }
+        answer => told(answer),
+    }
 }
 
 /// `Ok`, or the fault's name.
@@ -123,8 +177,38 @@ fn push(rt: &impl Abort, alloc: Global, streams: &mut Streams, text: &str) {
         .expect(rt, "the next name");
 }
 
+fn drawn_once(alloc: Global, object: &Box<dyn Embedded>) -> Result<Vec<u8>, EmbedFault> {
+    begin(alloc);
+    let picture = object.render(alloc);
+    end(alloc);
+    picture
+}
+
+/// What an object looks like, asked for again where memory is refused.
+fn drawn(rt: &impl Abort, alloc: Global, object: &Box<dyn Embedded>) -> Vec<u8> {
+    match drawn_once(alloc, object) {
+        Err(EmbedFault::NoMemory) => drawn_once(alloc, object).expect(rt, "memory"),
+        picture => picture.expect(rt, "a picture"),
+    }
+}
+
 fn is_drawn(rt: &impl Abort, alloc: Global, object: &Box<dyn Embedded>, want: &[u8]) -> bool {
-    object.render(alloc).expect(rt, "memory").as_slice() == want
+    drawn(rt, alloc, object).as_slice() == want
+}
+
+fn stored_once(alloc: Global, object: &Box<dyn Embedded>) -> Result<Streams, EmbedFault> {
+    begin(alloc);
+    let streams = object.save(alloc);
+    end(alloc);
+    streams
+}
+
+/// What it is stored as, asked for again where memory is refused.
+fn stored(rt: &impl Abort, alloc: Global, object: &Box<dyn Embedded>) -> Streams {
+    match stored_once(alloc, object) {
+        Err(EmbedFault::NoMemory) => stored_once(alloc, object).expect(rt, "memory"),
+        streams => streams.expect(rt, "streams"),
+    }
 }
 
 /// Whether an object is stored in one stream, of this name and with these bytes.
@@ -135,7 +219,7 @@ fn is_stored(
     name: &str,
     want: &[u8],
 ) -> bool {
-    let streams = object.save(alloc).expect(rt, "memory");
+    let streams = stored(rt, alloc, object);
     match streams.as_slice() {
         [stream] => { stream.name.as_bytes() == name.as_bytes() && stream.bytes.as_slice() == want }
         _ => false,

@@ -4,7 +4,8 @@ use crate::objects::{drawing, note, table};
 use crate::texts::halves;
 use embed_core::embedded::Embedded;
 use embed_core::tally::Tally;
-use std::alloc::Global;
+use refusal_marks::marks::{begin, end};
+use std::alloc::{AllocError, Global};
 use std::process::Abort;
 
 /// Edits an object, and drops it where the edit is refused.
@@ -65,10 +66,40 @@ fn each_object_is_counted_once(rt: HostRuntime) {
     }
 }
 
+fn new_once(alloc: Global) -> Result<Tally, AllocError> {
+    begin(alloc);
+    let tally = Tally::new(alloc);
+    end(alloc);
+    tally
+}
+
+/// A tally, made again where memory is refused.
+fn new_tally(rt: &impl Abort, alloc: Global) -> Tally {
+    match new_once(alloc) {
+        Ok(tally) => tally,
+        Err(_) => new_once(alloc).expect(rt, "memory"),
+    }
+}
+
+fn share_once(alloc: Global, tally: &Tally) -> Result<Tally, AllocError> {
+    begin(alloc);
+    let other = tally.share();
+    end(alloc);
+    other
+}
+
+/// The same tally, shared again where memory is refused.
+fn share(rt: &impl Abort, alloc: Global, tally: &Tally) -> Tally {
+    match share_once(alloc, tally) {
+        Ok(other) => other,
+        Err(_) => share_once(alloc, tally).expect(rt, "memory"),
+    }
+}
+
 #[test]
 fn a_tally_is_shared(rt: HostRuntime) {
-    let tally = Tally::new(rt.alloc()).expect(&rt, "memory");
-    let other = tally.share().expect(&rt, "memory");
+    let tally = new_tally(&rt, rt.alloc());
+    let other = share(&rt, rt.alloc(), &tally);
     assert!(rt; other.count() == 0);
     other.raise();
     tally.raise();

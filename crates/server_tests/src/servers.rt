@@ -7,11 +7,12 @@ use crate::replies::{are_holds, class_name, is_last, is_outcome, is_sent, is_vie
 use crate::words::{halves, number, word};
 use embed_core::embedded::Embedded;
 use embed_core::tally::Tally;
+use refusal_marks::marks::{begin, end};
 use server_core::refusal::{Reaction, Refusal};
 use server_core::server::ServerCore;
 use server_model::fault::ServerFault;
 use server_model::hold::Hold;
-use std::alloc::Global;
+use std::alloc::{AllocError, Global};
 use std::process::Abort;
 use std::str::SplitWhitespace;
 use wire_msgs::message::Message;
@@ -109,13 +110,60 @@ fn new_server(alloc: Global) -> ServerCore {
     ServerCore::new(alloc, SESSION, 1, 9)
 }
 
+/// The greatest number of an activation in these rows.
+const MOST: u32 = 9;
+
+fn seen_of(core: &ServerCore, act: u32) -> [u32; 4] {
+    match core.activation(act) {
+        Some(view) => [view.s, view.last, view.g.unwrap_or(0), view.w],
+        None => [u32::MAX; 4],
+    }
+}
+
+/// What is seen of a server's activations.
+fn seen(rt: &impl Abort, alloc: Global, core: &ServerCore) -> Vec<[u32; 4]> {
+    let mut seen = Vec::new(alloc);
+    for act in 0..=MOST {
+        seen.push(seen_of(core, act)).expect(rt, "memory");
+    }
+    seen
+}
+
 fn on_call(
     core: &mut ServerCore,
     alloc: Global,
     message: Message,
     boxed: Option<Box<dyn Embedded>>,
 ) -> Result<Reaction, Refusal> {
-    core.on_call(alloc, message, boxed)
+    begin(alloc);
+    let outcome = core.on_call(alloc, message, boxed);
+    end(alloc);
+    outcome
+}
+
+/// What a server does with a call. Where memory is refused, it is as before, and is called again with the object that it gives
+/// back.
+fn called(
+    rt: &impl Abort,
+    core: &mut ServerCore,
+    alloc: Global,
+    message: Message,
+    boxed: Option<Box<dyn Embedded>>,
+) -> Result<Reaction, Refusal> {
+    let again = message.copy(alloc).expect(rt, "memory");
+    let before = seen(rt, alloc, core);
+    match on_call(core, alloc, message, boxed) {
+        Err(
+            Refusal {
+                fault: ServerFault::NoMemory,
+                back,
+            },
+        ) => {
+            assert!(rt; seen(rt, alloc, core) == before);
+            on_call(core, alloc, again, back)
+        }
+        outcome => outcome,
+    }
 }
 
 fn is_called(
@@ -129,7 +177,7 @@ fn is_called(
 ) -> bool {
     let (object, message) = call(rt, alloc, session, row);
     let object = handed(rt, alloc, tally, object);
-    is_outcome(&on_call(core, alloc, message, object), tally, words)
+    is_outcome(&called(rt, core, alloc, message, object), tally, words)
 }
 
 fn sends(message: Result<Message, ServerFault>, words: &mut SplitWhitespace<'_>) -> bool {
@@ -139,12 +187,60 @@ fn sends(message: Result<Message, ServerFault>, words: &mut SplitWhitespace<'_>)
     }
 }
 
+fn last_reply_once(
+    alloc: Global,
+    core: &ServerCore,
+    act: u32,
+) -> Result<Option<Message>, AllocError> {
+    begin(alloc);
+    let reply = core.last_reply(alloc, act);
+    end(alloc);
+    reply
+}
+
 fn last_reply(rt: &impl Abort, alloc: Global, core: &ServerCore, act: u32) -> Option<Message> {
-    core.last_reply(alloc, act).expect(rt, "memory")
+    match last_reply_once(alloc, core, act) {
+        Ok(reply) => reply,
+        Err(_) => last_reply_once(alloc, core, act).expect(rt, "memory"),
+    }
+}
+
+fn holds_once(alloc: Global, core: &ServerCore) -> Result<Vec<Hold>, AllocError> {
+    begin(alloc);
+    let holds = core.holds(alloc);
+    end(alloc);
+    holds
 }
 
 fn holds(rt: &impl Abort, alloc: Global, core: &ServerCore) -> Vec<Hold> {
-    core.holds(alloc).expect(rt, "memory")
+    match holds_once(alloc, core) {
+        Ok(holds) => holds,
+        Err(_) => holds_once(alloc, core).expect(rt, "memory"),
+    }
+}
+
+fn scribbled(alloc: Global, core: &mut ServerCore, act: u32) -> Result<Message, ServerFault> {
+    begin(alloc);
+    let message = core.scribble(alloc, act);
+    end(alloc);
+    message
+}
+
+/// What an activation writes. Where memory is refused, its server is as before, and is asked again.
+fn scribble(
+    rt: &impl Abort,
+    alloc: Global,
+    core: &mut ServerCore,
+    act: u32,
+) -> Result<Message, ServerFault> {
+    let before = seen(rt, alloc, core);
+    match scribbled(alloc, core, act) {
+        Err(ServerFault::NoMemory) => {
+            assert!(rt; seen(rt, alloc, core) == before);
+            scribbled(alloc, core, act)
+        }
+        message => message,
+    }
 }
 
 fn wanted(rt: &impl Abort, alloc: Global, core: &ServerCore, row: &str) -> &'static str {
@@ -162,7 +258,7 @@ fn is_asked(
 ) -> bool {
     let (verb, rest) = halves(row, " ");
     match verb.as_bytes() {
-        [b's', ..] => sends(core.scribble(alloc, number(rest)), words),
+        [b's', ..] => sends(scribble(rt, alloc, core, number(rest)), words),
         [b'a', ..] => sends(core.ask_deactivate(number(rest)), words),
         [b'v', ..] => is_view(core.activation(number(rest)), words),
         [b'l', ..] => is_last(last_reply(rt, alloc, core, number(rest)), words),

@@ -6,6 +6,8 @@ mod files;
 #[cfg(test)]
 mod moments;
 #[cfg(test)]
+mod refusals;
+#[cfg(test)]
 mod reports;
 #[cfg(test)]
 mod shown;

@@ -18,7 +18,7 @@ use world_run::stock::Stock;
 use world_run::world::World;
 
 /// A note that is saved.
-const SAVED: &str = "new a 40 10
+pub(crate) const SAVED: &str = "new a 40 10
 session
 done 1
 insert 1 note 0 0 20 5
@@ -85,7 +85,7 @@ session";
 
 /// The container stops, and the next run opens the session document first. A server of the run before it goes on, and what it
 /// writes isn't taken.
-const STOPPED: &str = "stop
+pub(crate) const STOPPED: &str = "stop
 open a 40 10
 session
 done 1
@@ -171,13 +171,13 @@ fn narrow_world(rt: &impl Abort, alloc: Global) -> World {
     World::new(alloc, Limits { numbers: 1 }, stock(rt, alloc))
 }
 
-fn moment(rt: &impl Abort, alloc: Global, line: &str) -> Moment {
+pub(crate) fn moment(rt: &impl Abort, alloc: Global, line: &str) -> Moment {
     parse_moment(alloc, line.as_bytes())
         .expect(rt, "memory")
         .expect(rt, "a moment")
 }
 
-fn moments(rt: &impl Abort, alloc: Global, lines: &str) -> Vec<Moment> {
+pub(crate) fn moments(rt: &impl Abort, alloc: Global, lines: &str) -> Vec<Moment> {
     let mut moments = Vec::new(alloc);
     for line in lines.split('\n') {
         moments.push(moment(rt, alloc, line)).expect(rt, "memory");
