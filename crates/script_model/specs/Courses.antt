@@ -18,12 +18,13 @@ use Rattle.script_model.specs.Events.{Event, Started, Connected, Sent, Heard, En
 -- ---- files
 
 -- What a command did to open a file: nothing; it looked for the disk of this name, and got it or none; it gave back the disk that it
--- had found under this name, which then was this one; it gave what the file holds to the container, of which this is told.
+-- had found under this name, which then was this one; it gave what the file holds to the container, under this name, as a frame so
+-- many columns wide and so many lines high, of which this is told.
 pub data Opening (D : Type 0) : Type 0 where
   Unasked : Opening D
   Looked : List ℕ → Option D → Opening D
   Read : List ℕ → (found disk : D) → Opening D
-  Made : Told → Opening D
+  Made : List ℕ → (w h : ℕ) → Told → Opening D
 
 -- ---- servers
 
@@ -92,7 +93,7 @@ behind_course (step.Committed f) es k = k
 behind_course (step.Failed f) es k = k
 behind_course (step.Resolved f is_kept) es k = k
 behind_course (step.Open name w h session objects) es k =
-    record k { opening = Made (told_opened (opened (record_of es) name w h (Holds.Holding (record { session = session; objects = objects })))) }
+    record k { opening = Made name w h (told_opened (opened (record_of es) name w h (Holds.Holding (record { session = session; objects = objects })))) }
 behind_course step.NoMemory es k = k
 
 -- The disk that was found by the call before is given back. Other disks are given back by saves.

@@ -37,6 +37,10 @@ not_this s l n other = none (l.inc == s) n (λ is. other (eqb-true l.inc s is))
 pub server_at : (ls : List Link) (place inc : ℕ) (l : Link) → place < length ls → l ≡ slice_index_or ls place l → IsLinkAt ls place inc → l.inc ≡ inc
 server_at ls place inc l within is at = ap (λ (x : Link). x.inc) (is ∙ any_at ls place l at.link within ∙ sym at.stands) ∙ at.server
 
+-- it has a link
+pub linked_there : (inc : ℕ) (ls : List Link) (place : ℕ) → place < length ls → IsLinkAt ls place inc → 1 ≤ links_of inc ls
+linked_there inc ls place within at = linked_at inc ls place at.link within (ap (λ (x : Link). x.inc) (sym at.stands) ∙ at.server)
+
 -- ---- what holds
 
 hold_weaker : (f g : ℕ → Bool) (ls : List Link) → ((s : ℕ) → f s ≡ true → g s ≡ true) → HoldFor f ls → HoldFor g ls
