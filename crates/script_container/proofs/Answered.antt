@@ -56,15 +56,15 @@ module _ (c given : Command) (same : given ≡ c) (r now : Record) where
   command_refused told x is refused = err_as told x (Refuses (on_command r c)) is (subst (λ (d : Command). IfErr x (Refuses (on_command r d))) same refused)
 
 -- without a session no server is to be started
-none_with : (s : ℕ) (a : Action) (as : List Action) → s ≡ 0 → SendsIn s a → starts_in as ≡ [] → starts_in (a ∷ as) ≡ []
-none_with s (Send m) as zero sends none = none
-none_with s (Start inc) as zero sends none = absurd (sends zero)
-none_with s (End inc) as zero sends none = none
-none_with s (Commit f) as zero sends none = none
+none_with : (s : ℕ) (a : Action) (actions : List Action) → s ≡ 0 → SendsIn s a → starts_in actions ≡ [] → starts_in (a ∷ actions) ≡ []
+none_with s (Send m) actions zero sends none = none
+none_with s (Start inc) actions zero sends none = absurd (sends zero)
+none_with s (End inc) actions zero sends none = none
+none_with s (Commit f) actions zero sends none = none
 
-none_started : (s : ℕ) (as : List Action) → s ≡ 0 → AllByRecursion (SendsIn s) as → starts_in as ≡ []
+none_started : (s : ℕ) (actions : List Action) → s ≡ 0 → AllByRecursion (SendsIn s) actions → starts_in actions ≡ []
 none_started s [] zero all = refl
-none_started s (a ∷ as) zero all = none_with s a as zero all.0 (none_started s as zero all.1)
+none_started s (a ∷ actions) zero all = none_with s a actions zero all.0 (none_started s actions zero all.1)
 
 none_asked : (law : SessionsStay) (r now : Record) (c : Command) (a : Answer) → InSession r → on_command r c ≡ Ok (counts_none now a) → r.session ≡ 0 → starts_in a.actions ≡ []
 none_asked law r now c a in_session taken zero = none_started r.session a.actions zero (law r (Input.Ordered c) (counts_none now a) in_session taken).sends
@@ -90,5 +90,5 @@ module _ (one : FilesGiveOne) (r : Record) (name : List ℕ) (w h : ℕ) (d : Do
   refused_of (Ok a) err = tt
   refused_of (Err e) err = λ some. ⊎_elim (λ is. absurd (some is)) (λ refused. ap told_opened (refused_with (makes name w h d r) e some refused)) (refuses one r name w h d file e gives err)
 
-  pub file_refused : (told x : Result Answer ContainerFault) → told ≡ x → IfErr x (MayRefuse r name w h file) → IfErr told (λ e. e ≢ fault.NoMemory → told_opened (opened r name w h (Read.Holding d)) ≡ told.Fault e)
-  file_refused told x is err = err_as told x (λ e. e ≢ fault.NoMemory → told_opened (opened r name w h (Read.Holding d)) ≡ told.Fault e) is (refused_of x err)
+  pub file_refused : (given x : Result Answer ContainerFault) → given ≡ x → IfErr x (MayRefuse r name w h file) → IfErr given (λ e. e ≢ fault.NoMemory → told_opened (opened r name w h (Read.Holding d)) ≡ told.Fault e)
+  file_refused given x is err = err_as given x (λ e. e ≢ fault.NoMemory → told_opened (opened r name w h (Read.Holding d)) ≡ told.Fault e) is (refused_of x err)

@@ -362,6 +362,34 @@ fn save<H: Host>(
     }
 }
 
+/// Carries out the commit that an action of the container asks for, if it asks for one.
+fn save_on<H: Host>(
+    alloc: Global,
+    host: &mut H,
+    core: &mut ContainerCore,
+    action: &Action,
+    noticed: &mut Option<Told>,
+) -> Result<(), ScriptFault>
+    requires told { IsTold ⟦<H::Disk as Disk>⟧ (H.told host.old) core.old }
+    requires seen { Tells (notices (H.told host.old)) noticed.old }
+    ensures told { IsTold ⟦<H::Disk as Disk>⟧ (H.told host.new) core.new }
+    ensures still { (s : ℕ) → running s (H.told host.new) ≡ running s (H.told host.old) }
+    ensures quiet { (s : ℕ) → passed s (H.told host.new) ≡ passed s (H.told host.old) }
+    ensures paced { (s : ℕ) → pace s (H.told host.new) ≡ pace s (H.told host.old) }
+    ensures ordered { course (H.told host.new) ≡ course (H.told host.old) }
+    ensures seen { OnOk result (Tells (notices (H.told host.new)) noticed.new) }
+    ensures shown { IfErr result (λ fault. Shows ⟦<H::Disk as Disk>⟧ (H.told host.new) fault) }
+{
+    match action {
+        Action::Commit(frame) => {
+            let lost = save(alloc, host, core, *frame)?;
+            *noticed = first_of(*noticed, lost);
+            Ok(())
+        }
+        Action::Send(_) | Action::Start(_) | Action::End(_) => Ok(()),
+    }
+}
+
 /// Carries out the commits that an answer of the container asks for.
 pub fn save_all<H: Host>(
     alloc: Global,
@@ -381,10 +409,7 @@ pub fn save_all<H: Host>(
     ensures shown { IfErr result (λ fault. Shows ⟦<H::Disk as Disk>⟧ (H.told host.new) fault) }
 {
     for action in answer.actions.as_slice() {
-        if let Action::Commit(frame) = action {
-            let lost = save(alloc, host, core, *frame)?;
-            *noticed = first_of(*noticed, lost);
-        }
+        save_on(alloc, host, core, action, noticed)?;
     }
     Ok(())
 }

@@ -173,23 +173,23 @@ one_tried (Ok x) inc before after incs tried all = subst (λ (ss : List ℕ). Ar
 one_tried (Err e) inc before after incs tried all = tt
 
 -- from a place on
-pub starts_from : (as : List Action) (place : ℕ) (d : Action) → place < length as → starts_in (drop place as) ≡ with_start (slice_index_or as place d) (starts_in (drop (place + 1) as))
+pub starts_from : (actions : List Action) (place : ℕ) (d : Action) → place < length actions → starts_in (drop place actions) ≡ with_start (slice_index_or actions place d) (starts_in (drop (place + 1) actions))
 starts_from [] place d within = absurd (omega (arith, within))
-starts_from (a ∷ as) zero d within = refl
-starts_from (a ∷ as) (suc place) d within = let next : suc place + 1 ≡ suc (place + 1) = omega arith in rw next (starts_from as place d (omega (arith, within)))
+starts_from (a ∷ actions) zero d within = refl
+starts_from (a ∷ actions) (suc place) d within = let next : suc place + 1 ≡ suc (place + 1) = omega arith in rw next (starts_from actions place d (omega (arith, within)))
 
-pub nothing_from : (as : List Action) (place : ℕ) → length as ≤ place → starts_in (drop place as) ≡ []
+pub nothing_from : (actions : List Action) (place : ℕ) → length actions ≤ place → starts_in (drop place actions) ≡ []
 nothing_from [] zero past = refl
 nothing_from [] (suc place) past = refl
-nothing_from (a ∷ as) zero past = absurd (omega (arith, past))
-nothing_from (a ∷ as) (suc place) past = nothing_from as place (omega (arith, past))
+nothing_from (a ∷ actions) zero past = absurd (omega (arith, past))
+nothing_from (a ∷ actions) (suc place) past = nothing_from actions place (omega (arith, past))
 
 none_in : (ss : List ℕ) → AreIn ss [] → ss ≡ []
 none_in [] all = refl
 none_in (s ∷ ss) all = absurd all.0
 
-pub all_tried : (ss : List ℕ) (as : List Action) (place : ℕ) → length as ≤ place → AreIn ss (starts_in (drop place as)) → ss ≡ []
-all_tried ss as place past all = none_in ss (subst (λ (ts : List ℕ). AreIn ss ts) (nothing_from as place past) all)
+pub all_tried : (ss : List ℕ) (actions : List Action) (place : ℕ) → length actions ≤ place → AreIn ss (starts_in (drop place actions)) → ss ≡ []
+all_tried ss actions place past all = none_in ss (subst (λ (ts : List ℕ). AreIn ss ts) (nothing_from actions place past) all)
 
 -- a link's server runs
 pub linked_runs : {D : Type 0} (inc : ℕ) (es : List (Event D)) (ls : List Link) → AreLinked es ls → 1 ≤ links_of inc ls → 1 ≤ running inc es
