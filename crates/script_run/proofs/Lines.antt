@@ -17,7 +17,7 @@ use Rattle.script_container.proofs.Answered.{refused_with}
 use Rattle.script_container.specs.declared.fault.ScriptFault.{ScriptFault}
 use Rattle.script_container.specs.declared.fault.ScriptFault.TheVariants as ends
 use Rattle.script_model.specs.Answers.{further, made_by, told_by, told_line}
-use Rattle.script_model.specs.Bounds.{pace}
+use Rattle.script_model.specs.Bounds.{Pace, linking, pace}
 use Rattle.script_model.specs.Containers.{record_of}
 use Rattle.script_model.specs.Courses.{Course, Opening, but_opening, but_starts, course, is_start, is_unraised, told_of}
 use Rattle.script_model.specs.Events.{Event, Stepped, running}
@@ -179,6 +179,10 @@ cut_none n links none = subst (λ (k : ℕ). IsCut k links) (sym none) tt
 pub cut_some : (n links : ℕ) → 1 ≤ links → IsCut n links
 cut_some zero links some = tt
 cut_some (suc n) links some = some
+
+-- a link that was made anew was made anew at least once
+pub one_link : (p now : Pace) (b : Bool) → now ≡ linking b p → 1 ≤ now.links
+one_link p now b is = subst (λ (q : Pace). 1 ≤ q.links) (sym is) (omega arith)
 
 cut_more : (n links more : ℕ) → links ≤ more → IsCut n links → IsCut n more
 cut_more zero links more less cut = tt

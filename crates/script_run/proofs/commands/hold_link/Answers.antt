@@ -1,4 +1,4 @@
-use Rattle.std.proofs.Common.{◌≤◌, ◌∙◌, ap, subst, sym, List, ℕ}
+use Rattle.std.proofs.Common.{◌≤◌, ◌<◌, ◌∙◌, ap, length, subst, sym, List, ℕ}
 use Rattle.script_links.specs.Links.{IsLinkAt, links_of}
 use Rattle.script_links.specs.declared.links.Link.{Link}
 use Rattle.script_run.proofs.Held.{linked_there}
@@ -15,4 +15,4 @@ pub returns-clause-first : goal.returns-clause-first
 returns-clause-first c = λ n many.
     told_some n
     (subst (λ (k : ℕ). 1 ≤ k) (sym many)
-    (linked_there c.args.inc c.args.links.now.items c.in-Some.place c.in-Some.ensures.within (subst (λ (ls : List Link). IsLinkAt ls c.in-Some.place c.args.inc) c.deref.ensures.value c.in-Some.ensures.there)))
+    (linked_there c.args.inc c.args.links.now.items c.in-Some.place (subst (λ (ls : List Link). c.in-Some.place < length ls) c.deref.ensures.value c.in-Some.ensures.within) (subst (λ (ls : List Link). IsLinkAt ls c.in-Some.place c.args.inc) c.deref.ensures.value c.in-Some.ensures.there)))

@@ -1,4 +1,4 @@
-use Rattle.std.proofs.Common.{◌≡◌, ◌∙◌, List, ap, sym, subst, rules}
+use Rattle.std.proofs.Common.{◌≡◌, ◌∙◌, ◌<◌, ℕ, List, ap, length, sym, subst, rules}
 use Rattle.script_links.specs.Links.{IsLinkAt, links_of}
 use Rattle.script_links.specs.declared.links.Link.{Link}
 use Rattle.std.specs.Result.{IsErrAnd}
@@ -34,4 +34,4 @@ pub returns-clause-first : goal.returns-clause-first
 returns-clause-first g c =
     told_some (running c.args.inc (g.H.Host.told c.args.host.now))
     (linked_runs c.args.inc (g.H.Host.told c.args.host.now) c.args.links.now.items c.requires.linked
-    (linked_there c.args.inc c.args.links.now.items c.in-Some.place (c.in-Some.ensures.within) (subst (λ (ls : List Link). IsLinkAt ls c.in-Some.place c.args.inc) c.deref.ensures.value c.in-Some.ensures.there)))
+    (linked_there c.args.inc c.args.links.now.items c.in-Some.place (subst (λ (ls : List Link). c.in-Some.place < length ls) c.deref.ensures.value c.in-Some.ensures.within) (subst (λ (ls : List Link). IsLinkAt ls c.in-Some.place c.args.inc) c.deref.ensures.value c.in-Some.ensures.there)))
