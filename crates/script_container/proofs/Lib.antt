@@ -1,3 +1,4 @@
+pub mod Answered
 pub mod Causes
 pub mod Filed
 pub mod Given
@@ -5,3 +6,4 @@ pub mod Kept
 pub mod Opened
 pub mod Saved
 pub mod Shown
+pub mod Noticed

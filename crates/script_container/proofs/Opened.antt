@@ -23,7 +23,7 @@ use Rattle.script_container.proofs.Given.{IsBacked, IsBy, as_noted, lost_step, o
 use Rattle.script_container.specs.Told.{IsTold, noted_of}
 
 -- what the container makes of a document
-abbrev makes : List ℕ → ℕ → ℕ → Doc → Record → Result Took ContainerFault
+abbrev pub makes : List ℕ → ℕ → ℕ → Doc → Record → Result Took ContainerFault
 makes name w h d r = opened r name w h (Read.Holding d)
 
 -- how many objects a file gives
@@ -61,7 +61,7 @@ told_or_memory x fault.BadAnswer is = inr is
 told_or_memory x fault.UnknownClass is = inr is
 told_or_memory x fault.NoMemory is = inl refl
 
-refuses : (one : FilesGiveOne) (r : Record) (name : List ℕ) (w h : ℕ) (d : Doc) (file : Option (List ℕ)) (e : ContainerFault)
+pub refuses : (one : FilesGiveOne) (r : Record) (name : List ℕ) (w h : ℕ) (d : Doc) (file : Option (List ℕ)) (e : ContainerFault)
     → IsReadAs file (Read.Holding d) → MayRefuse r name w h file e → (e ≡ fault.NoMemory) ⊎ Refuses (makes name w h d r) e
 refuses one r name w h d file e gives (unread is) = told_or_memory (makes name w h d r) e (named_refused (is_named name r.frames) (not (is_size w h)) _ e is)
 refuses one r name w h d file e gives (as_given given reads refused) = inr (subst (λ (x : Read). Refuses (opened r name w h x) e) (one file given (Read.Holding d) reads gives) refused)

@@ -1,11 +1,18 @@
 //! The container of a script, and what it is given: each thing is noted as it is given.
 
-ghost use Rattle.container_model.specs.Opens.{Given, IsReadAs};
+ghost use Rattle.container_model.specs.Commands.{on_command};
+ghost use Rattle.container_model.specs.Opens.{Given, IsReadAs, opened};
+ghost use Rattle.container_model.specs.Record.{Refuses, counts_none};
+ghost use Rattle.container_model.specs.Saves.{image};
+ghost use Rattle.container_model.specs.declared.fault.ContainerFault.TheVariants as container;
 ghost use Rattle.container_model.specs.declared.command.Command.{Command};
 ghost use Rattle.document_model.specs.declared.object.DocObject.{DocObject};
 ghost use Rattle.script_model.specs.Bounds.{pace};
 ghost use Rattle.script_model.specs.Containers.{record_of};
-ghost use Rattle.script_model.specs.Events.{running};
+ghost use Rattle.script_model.specs.Events.{Stepped, running};
+ghost use Rattle.script_model.specs.Answers.{opened_by, told_opened};
+ghost use Rattle.script_model.specs.Courses.{course, starts_in};
+ghost use Rattle.script_model.specs.Notices.{first_noticed, lost_as, notices, refusal_noticed};
 ghost use Rattle.script_model.specs.Orders.{IsReadied, asked};
 ghost use Rattle.script_model.specs.Origins.{AreNext, giving, passed};
 ghost use Rattle.script_model.specs.Saved.{IsLost, IsReadFrom, IsSavedThere};
@@ -14,7 +21,7 @@ ghost use Rattle.script_container.specs.Beside.{beside};
 ghost use Rattle.script_container.specs.Shown.{Shows};
 ghost use Rattle.script_container.specs.Told.{IsEnded, IsTold, noted_of};
 ghost use Rattle.script_container.specs.declared.fault.ScriptFault.TheVariants.{NoMemory};
-ghost use Rattle.std.specs.Prelude.{◌≡◌, ◌≤◌, ◌∷◌, [], IfErr, IfOk, List, Some, length, ℕ};
+ghost use Rattle.std.specs.Prelude.{◌≡◌, ◌≢◌, ◌≤◌, ◌∷◌, [], IfErr, IfOk, List, Ok, Some, length, ℕ};
 ghost use Rattle.wire_msgs.specs.declared.message.Message.{Message};
 
 use crate::fault::ScriptFault;
@@ -24,7 +31,9 @@ use container_model::answer::Answer;
 use container_model::command::Command;
 use container_model::fault::ContainerFault;
 use container_model::server_link::ServerLink;
+use container_numbers::sound_laws::sessions_stay;
 use ole_streams::doc::Doc;
+use script_model::answer::Told;
 use script_model::host::Host;
 use script_model::step::Step;
 use std::alloc::Global;
@@ -73,7 +82,8 @@ fn noted<H: Host>(
     ensures still { (s : ℕ) → running s (H.told host.new) ≡ running s (H.told host.old) }
     ensures quiet { (s : ℕ) → passed s (H.told host.new) ≡ passed s (H.told host.old) }
     ensures paced { (s : ℕ) → pace s (H.told host.new) ≡ pace s (H.told host.old) }
-    ensures ordered { asked (H.told host.new) ≡ asked (H.told host.old) }
+    ensures ordered { course (H.told host.new) ≡ course (H.told host.old) }
+    ensures noticed { notices (H.told host.new) ≡ notices (H.told host.old) }
 {
     match told {
         Ok(answer) => Ok(answer),
@@ -98,13 +108,20 @@ pub fn command<H: Host>(
     ensures still { (s : ℕ) → running s (H.told host.new) ≡ running s (H.told host.old) }
     ensures quiet { (s : ℕ) → passed s (H.told host.new) ≡ passed s (H.told host.old) }
     ensures paced { (s : ℕ) → pace s (H.told host.new) ≡ pace s (H.told host.old) }
-    ensures ordered { asked (H.told host.new) ≡ Step.Command command ∷ asked (H.told host.old) }
+    ensures ordered { course (H.told host.new) ≡ course (Stepped (Step.Command command) ∷ H.told host.old) }
+    ensures noticed { notices (H.told host.new) ≡ notices (H.told host.old) }
+    ensures answered { IfOk result (λ a. on_command core.old command ≡ Ok (counts_none core.new a)) }
+    ensures refused { IfErr result (Refuses (on_command core.old command)) }
+    ensures session { core.new.session ≡ core.old.session }
+    ensures starts { IfOk result (λ a. core.old.session ≡ 0 → starts_in a.actions ≡ []) }
 {
     let step = Step::Command(command);
     host.note(&step);
     let Some(command) = command_of(step) else {
         return Err(ContainerFault::NoMemory);
     };
+    core.steady();
+    sessions_stay();
     let told = core.command(alloc, command);
     noted(host, told)
 }
@@ -124,7 +141,9 @@ pub fn message<H: Host>(
     ensures apart { (s : ℕ) → beside inc s (H.told host.new) ≡ beside inc s (H.told host.old) }
     ensures given { passed inc (H.told host.new) ≡ giving (message ∷ []) (passed inc (H.told host.old)) }
     ensures paced { (s : ℕ) → pace s (H.told host.new) ≡ pace s (H.told host.old) }
-    ensures ordered { asked (H.told host.new) ≡ asked (H.told host.old) }
+    ensures ordered { course (H.told host.new) ≡ course (H.told host.old) }
+    ensures noticed { IfOk result (λ a. notices (H.told host.new) ≡ first_noticed (notices (H.told host.old)) (refusal_noticed a.refused)) }
+    ensures unnoticed { IfErr result (λ fault. fault ≢ container.NoMemory → notices (H.told host.new) ≡ notices (H.told host.old)) }
 {
     let step = Step::Message(inc, message);
     host.note(&step);
@@ -158,7 +177,10 @@ pub fn opened<H: Host>(
     ensures quiet { (s : ℕ) → passed s (H.told host.new) ≡ passed s (H.told host.old) }
     ensures paced { (s : ℕ) → pace s (H.told host.new) ≡ pace s (H.told host.old) }
     ensures few { IfOk result (λ a. length a.objects ≤ 64) }
-    ensures ordered { asked (H.told host.new) ≡ asked (H.told host.old) }
+    ensures ordered { course (H.told host.new) ≡ course (Stepped (Step.Open name width height document.session document.objects) ∷ H.told host.old) }
+    ensures noticed { notices (H.told host.new) ≡ notices (H.told host.old) }
+    ensures answered { IfOk result (λ a. told_opened (opened core.old name width height (Given.Holding document)) ≡ opened_by a) }
+    ensures refused { IfErr result (λ fault. fault ≢ container.NoMemory → told_opened (opened core.old name width height (Given.Holding document)) ≡ Told.Fault fault) }
 {
     files_give_one();
     let session = document.session();
@@ -184,7 +206,8 @@ pub fn reap<H: Host>(
     ensures still { (s : ℕ) → running s (H.told host.new) ≡ running s (H.told host.old) }
     ensures quiet { (s : ℕ) → passed s (H.told host.new) ≡ passed s (H.told host.old) }
     ensures paced { (s : ℕ) → pace s (H.told host.new) ≡ pace s (H.told host.old) }
-    ensures ordered { asked (H.told host.new) ≡ asked (H.told host.old) }
+    ensures ordered { course (H.told host.new) ≡ course (H.told host.old) }
+    ensures noticed { notices (H.told host.new) ≡ notices (H.told host.old) }
 {
     host.note(&Step::Reap(inc));
     let told = core.on_reap(alloc, inc);
@@ -214,7 +237,8 @@ pub fn committed<H: Host>(
     ensures still { (s : ℕ) → running s (H.told host.new) ≡ running s (H.told host.old) }
     ensures quiet { (s : ℕ) → passed s (H.told host.new) ≡ passed s (H.told host.old) }
     ensures paced { (s : ℕ) → pace s (H.told host.new) ≡ pace s (H.told host.old) }
-    ensures ordered { asked (H.told host.new) ≡ asked (H.told host.old) }
+    ensures ordered { course (H.told host.new) ≡ course (H.told host.old) }
+    ensures noticed { notices (H.told host.new) ≡ notices (H.told host.old) }
     ensures shown { IfErr result (λ fault. Shows ⟦<H::Disk as Disk>⟧ (H.told host.new) fault) }
 {
     host.note(&Step::Committed(frame));
@@ -236,7 +260,8 @@ pub fn failed<H: Host>(
     ensures still { (s : ℕ) → running s (H.told host.new) ≡ running s (H.told host.old) }
     ensures quiet { (s : ℕ) → passed s (H.told host.new) ≡ passed s (H.told host.old) }
     ensures paced { (s : ℕ) → pace s (H.told host.new) ≡ pace s (H.told host.old) }
-    ensures ordered { asked (H.told host.new) ≡ asked (H.told host.old) }
+    ensures ordered { course (H.told host.new) ≡ course (H.told host.old) }
+    ensures noticed { notices (H.told host.new) ≡ first_noticed (notices (H.told host.old)) (Some (lost_as (image core.old frame))) }
     ensures shown { IfErr result (λ fault. Shows ⟦<H::Disk as Disk>⟧ (H.told host.new) fault) }
 {
     host.note(&Step::Failed(frame));
@@ -256,7 +281,8 @@ pub fn dropped<H: Host>(
     ensures still { (s : ℕ) → running s (H.told host.new) ≡ running s (H.told host.old) }
     ensures quiet { (s : ℕ) → passed s (H.told host.new) ≡ passed s (H.told host.old) }
     ensures paced { (s : ℕ) → pace s (H.told host.new) ≡ pace s (H.told host.old) }
-    ensures ordered { asked (H.told host.new) ≡ asked (H.told host.old) }
+    ensures ordered { course (H.told host.new) ≡ course (H.told host.old) }
+    ensures noticed { notices (H.told host.new) ≡ notices (H.told host.old) }
     ensures shown { IfErr result (λ fault. Shows ⟦<H::Disk as Disk>⟧ (H.told host.new) fault) }
 {
     host.note(&Step::Resolved(frame, false));

@@ -3,17 +3,20 @@
 //! are few, and zero, is tested.
 
 ghost use Rattle.container_model.specs.Record.{Record};
+ghost use Rattle.container_model.specs.Saves.{image};
 ghost use Rattle.doc_store.specs.Opened.{disk_of, needs_reopen_of};
 ghost use Rattle.file_model.specs.Denotes.{Denotes};
+ghost use Rattle.script_model.specs.Answers.{first_told};
 ghost use Rattle.script_model.specs.Bounds.{pace};
+ghost use Rattle.script_model.specs.Courses.{course};
 ghost use Rattle.script_model.specs.Errors.{IsUnopened, IsUntoldFor};
 ghost use Rattle.script_model.specs.Events.{running};
-ghost use Rattle.script_model.specs.Orders.{asked};
+ghost use Rattle.script_model.specs.Notices.{Notes, Tells, first_noticed, lost_as, notices};
 ghost use Rattle.script_model.specs.Origins.{passed};
 ghost use Rattle.script_model.specs.Saved.{IsAsGiven, IsLost, IsLostOn, IsMissing, IsRefusedOn, IsSavedOn, IsSavedThere, IsShutWith, IsShutWithout, IsSince, file_name};
 ghost use Rattle.script_container.specs.Shown.{Shows};
 ghost use Rattle.script_container.specs.Told.{IfKept, IfLost, IsAlike, IsFiledOn, IsFiledWith, IsFiledWithout, IsImage, IsLeftOn, IsReplacedOn, IsTold, IsUnfiledOn};
-ghost use Rattle.std.specs.Prelude.{◌≡◌, ◌≤◌, ℕ, IfErr, IfOk, IfSome, OnOk, false};
+ghost use Rattle.std.specs.Prelude.{◌≡◌, ◌≤◌, ℕ, IfErr, IfOk, IfSome, OnOk, Some, false};
 ghost use Rattle.storage_tree.specs.Kept.{kept};
 
 use crate::container::{committed, dropped, failed};
@@ -37,7 +40,9 @@ use store_model::fault::StoreFault;
 use stream_io::read::read_file;
 
 /// The first of what was noticed.
-pub fn first_of(before: Option<Told>, next: Option<Told>) -> Option<Told> {
+pub fn first_of(before: Option<Told>, next: Option<Told>) -> Option<Told>
+    ensures { result ≡ first_told before next }
+{
     match before {
         Some(notice) => Some(notice),
         None => next,
@@ -218,7 +223,8 @@ fn commit_again<H: Host>(
     ensures paced { (s : ℕ) → pace s (H.told host.new) ≡ pace s (H.told host.old) }
     ensures shut { H.Disk.follows_model → IfOk result (λ outcome. IfKept outcome (IsShutWith ⟦<H::Disk as Disk>⟧ (H.told host.new) name.now bytes.now)) }
     ensures left { IsMissing name.now (H.told host.old) → IfOk result (λ outcome. IfLost outcome (IsShutWithout ⟦<H::Disk as Disk>⟧ (H.told host.new) name.now bytes.now)) }
-    ensures ordered { asked (H.told host.new) ≡ asked (H.told host.old) }
+    ensures ordered { course (H.told host.new) ≡ course (H.told host.old) }
+    ensures noticed { notices (H.told host.new) ≡ notices (H.told host.old) }
     ensures unopened { IsMissing name.now (H.told host.old) → IfErr result (λ fault. IsUnopened ⟦<H::Disk as Disk>⟧ name.now fault (H.told host.new)) }
 {
     match host.disk(name) {
@@ -246,7 +252,8 @@ fn commit<H: Host>(
     ensures paced { (s : ℕ) → pace s (H.told host.new) ≡ pace s (H.told host.old) }
     ensures shut { H.Disk.follows_model → IfOk result (λ outcome. IfKept outcome (IsFiledWith ⟦<H::Disk as Disk>⟧ (H.told host.new) name.now file.now)) }
     ensures left { IfOk result (λ outcome. IfLost outcome (IsFiledWithout ⟦<H::Disk as Disk>⟧ (H.told host.new) name.now file.now)) }
-    ensures ordered { asked (H.told host.new) ≡ asked (H.told host.old) }
+    ensures ordered { course (H.told host.new) ≡ course (H.told host.old) }
+    ensures noticed { notices (H.told host.new) ≡ notices (H.told host.old) }
     ensures unopened { IfErr result (λ fault. IsUnopened ⟦<H::Disk as Disk>⟧ name.now fault (H.told host.new)) }
 {
     let given = host.disk(name);
@@ -283,7 +290,8 @@ fn lose<H: Host>(
     ensures still { (s : ℕ) → running s (H.told host.new) ≡ running s (H.told host.old) }
     ensures quiet { (s : ℕ) → passed s (H.told host.new) ≡ passed s (H.told host.old) }
     ensures paced { (s : ℕ) → pace s (H.told host.new) ≡ pace s (H.told host.old) }
-    ensures ordered { asked (H.told host.new) ≡ asked (H.told host.old) }
+    ensures ordered { course (H.told host.new) ≡ course (H.told host.old) }
+    ensures noticed { notices (H.told host.new) ≡ first_noticed (notices (H.told host.old)) (Some (lost_as (image core.old frame))) }
     ensures shown { IfErr result (λ fault. Shows ⟦<H::Disk as Disk>⟧ (H.told host.new) fault) }
 {
     failed(alloc, host, core, frame)?;
@@ -304,7 +312,8 @@ fn save_file<H: Host>(
     ensures still { (s : ℕ) → running s (H.told host.new) ≡ running s (H.told host.old) }
     ensures quiet { (s : ℕ) → passed s (H.told host.new) ≡ passed s (H.told host.old) }
     ensures paced { (s : ℕ) → pace s (H.told host.new) ≡ pace s (H.told host.old) }
-    ensures ordered { asked (H.told host.new) ≡ asked (H.told host.old) }
+    ensures ordered { course (H.told host.new) ≡ course (H.told host.old) }
+    ensures noticed { IfOk result (Notes (notices (H.told host.old)) (notices (H.told host.new))) }
     ensures shown { IfErr result (λ fault. Shows ⟦<H::Disk as Disk>⟧ (H.told host.new) fault) }
 {
     let Some(found) = core.frame(frame) else {
@@ -338,7 +347,8 @@ fn save<H: Host>(
     ensures still { (s : ℕ) → running s (H.told host.new) ≡ running s (H.told host.old) }
     ensures quiet { (s : ℕ) → passed s (H.told host.new) ≡ passed s (H.told host.old) }
     ensures paced { (s : ℕ) → pace s (H.told host.new) ≡ pace s (H.told host.old) }
-    ensures ordered { asked (H.told host.new) ≡ asked (H.told host.old) }
+    ensures ordered { course (H.told host.new) ≡ course (H.told host.old) }
+    ensures noticed { IfOk result (Notes (notices (H.told host.old)) (notices (H.told host.new))) }
     ensures shown { IfErr result (λ fault. Shows ⟦<H::Disk as Disk>⟧ (H.told host.new) fault) }
 {
     match core.image(alloc, frame) {
@@ -352,6 +362,34 @@ fn save<H: Host>(
     }
 }
 
+/// Carries out the commit that an action of the container asks for, if it asks for one.
+fn save_on<H: Host>(
+    alloc: Global,
+    host: &mut H,
+    core: &mut ContainerCore,
+    action: &Action,
+    noticed: &mut Option<Told>,
+) -> Result<(), ScriptFault>
+    requires told { IsTold ⟦<H::Disk as Disk>⟧ (H.told host.old) core.old }
+    requires seen { Tells (notices (H.told host.old)) noticed.old }
+    ensures told { IsTold ⟦<H::Disk as Disk>⟧ (H.told host.new) core.new }
+    ensures still { (s : ℕ) → running s (H.told host.new) ≡ running s (H.told host.old) }
+    ensures quiet { (s : ℕ) → passed s (H.told host.new) ≡ passed s (H.told host.old) }
+    ensures paced { (s : ℕ) → pace s (H.told host.new) ≡ pace s (H.told host.old) }
+    ensures ordered { course (H.told host.new) ≡ course (H.told host.old) }
+    ensures seen { OnOk result (Tells (notices (H.told host.new)) noticed.new) }
+    ensures shown { IfErr result (λ fault. Shows ⟦<H::Disk as Disk>⟧ (H.told host.new) fault) }
+{
+    match action {
+        Action::Commit(frame) => {
+            let lost = save(alloc, host, core, *frame)?;
+            *noticed = first_of(*noticed, lost);
+            Ok(())
+        }
+        Action::Send(_) | Action::Start(_) | Action::End(_) => Ok(()),
+    }
+}
+
 /// Carries out the commits that an answer of the container asks for.
 pub fn save_all<H: Host>(
     alloc: Global,
@@ -360,19 +398,18 @@ pub fn save_all<H: Host>(
     answer: &Answer,
     noticed: &mut Option<Told>,
 ) -> Result<(), ScriptFault>
-    requires { IsTold ⟦<H::Disk as Disk>⟧ (H.told host.old) core.old }
+    requires told { IsTold ⟦<H::Disk as Disk>⟧ (H.told host.old) core.old }
+    requires seen { Tells (notices (H.told host.old)) noticed.old }
     ensures told { IsTold ⟦<H::Disk as Disk>⟧ (H.told host.new) core.new }
     ensures still { (s : ℕ) → running s (H.told host.new) ≡ running s (H.told host.old) }
     ensures quiet { (s : ℕ) → passed s (H.told host.new) ≡ passed s (H.told host.old) }
     ensures paced { (s : ℕ) → pace s (H.told host.new) ≡ pace s (H.told host.old) }
-    ensures ordered { asked (H.told host.new) ≡ asked (H.told host.old) }
+    ensures ordered { course (H.told host.new) ≡ course (H.told host.old) }
+    ensures seen { OnOk result (Tells (notices (H.told host.new)) noticed.new) }
     ensures shown { IfErr result (λ fault. Shows ⟦<H::Disk as Disk>⟧ (H.told host.new) fault) }
 {
     for action in answer.actions.as_slice() {
-        if let Action::Commit(frame) = action {
-            let lost = save(alloc, host, core, *frame)?;
-            *noticed = first_of(*noticed, lost);
-        }
+        save_on(alloc, host, core, action, noticed)?;
     }
     Ok(())
 }

@@ -13,6 +13,9 @@ use Rattle.script_links.proofs.Served.{none_left, not_this, with_this}
 
 -- ---- one server
 
+as_many : (n : ℕ) → n ≤ n
+as_many n = omega arith
+
 one_or_two : (b : Bool) → 1 ≤ (if b then 2 else 1)
 one_or_two true = omega arith
 one_or_two false = omega arith
@@ -20,7 +23,7 @@ one_or_two false = omega arith
 -- a turn that isn't sent again
 next_turn : (n : ℕ) (p : Pace) → p.is_anew ≡ false → p.turns ≤ n → IsReady (n + 1) p
 next_turn n p sent few =
-    let next : sending p ≡ record { turns = p.turns + 1; anew = 0; reads = 0; is_anew = false } = ap (λ b. if b then record { turns = p.turns; anew = p.anew; reads = p.reads; is_anew = false } else record { turns = p.turns + 1; anew = 0; reads = 0; is_anew = false }) sent in
+    let next : sending p ≡ record { turns = p.turns + 1; anew = 0; reads = 0; is_anew = false; links = p.links } = ap (λ b. if b then record { turns = p.turns; anew = p.anew; reads = p.reads; is_anew = false; links = p.links } else record { turns = p.turns + 1; anew = 0; reads = 0; is_anew = false; links = p.links }) sent in
     record {
       first = subst (λ (q : Pace). 1 ≤ q.turns) (sym next) (omega arith);
       turns = subst (λ (q : Pace). q.turns ≤ n + 1) (sym next) (omega (arith, few));
@@ -45,7 +48,15 @@ sent_now true p q one other = one
 sent_now false p q one other = other
 
 is_sent : (p : Pace) → (sending p).is_anew ≡ false
-is_sent p = sent_now p.is_anew (record { turns = p.turns; anew = p.anew; reads = p.reads; is_anew = false }) (record { turns = p.turns + 1; anew = 0; reads = 0; is_anew = false }) refl refl
+is_sent p = sent_now p.is_anew (record { turns = p.turns; anew = p.anew; reads = p.reads; is_anew = false; links = p.links }) (record { turns = p.turns + 1; anew = 0; reads = 0; is_anew = false; links = p.links }) refl refl
+
+same_links_of : (b : Bool) (p q : Pace) (n : ℕ) → p.links ≡ n → q.links ≡ n → (if b then p else q).links ≡ n
+same_links_of true p q n one other = one
+same_links_of false p q n one other = other
+
+-- a turn that is sent makes no link anew
+sent_links : (p : Pace) → (sending p).links ≡ p.links
+sent_links p = same_links_of p.is_anew (record { turns = p.turns; anew = p.anew; reads = p.reads; is_anew = false; links = p.links }) (record { turns = p.turns + 1; anew = 0; reads = 0; is_anew = false; links = p.links }) p.links refl refl
 
 -- its turn is sent
 pub may_send : (p : Pace) → IsReady 1000 p → IsWithin (sending p)
@@ -56,13 +67,13 @@ all_left n p ready = let none = ready.reads in omega (arith, none)
 
 -- it was sent, and isn't read
 pub none_heard : (p now : Pace) (left : ℕ) → now ≡ sending p → HasLeft (sending p) left → GoesOn (sending p) now left
-none_heard p now left is has = subst (λ (q : Pace). GoesOn (sending p) q left) (sym is) (record { turns = refl; anew = refl; sent = is_sent p; reads = has })
+none_heard p now left is has = subst (λ (q : Pace). GoesOn (sending p) q left) (sym is) (record { turns = refl; anew = refl; sent = is_sent p; reads = has; links = as_many (sending p).links })
 
 pub sent_within : (p now : Pace) → now ≡ sending p → IsWithin (sending p) → IsWithin now
 sent_within p now is within = subst (λ (q : Pace). IsWithin q) (sym is) within
 
 pub may_hear : (p now : Pace) (left : ℕ) → now ≡ sending p → HasLeft (sending p) left → GoesOn now now left
-may_hear p now left is has = subst (λ (q : Pace). GoesOn q q left) (sym is) (record { turns = refl; anew = refl; sent = is_sent p; reads = has })
+may_hear p now left is has = subst (λ (q : Pace). GoesOn q q left) (sym is) (record { turns = refl; anew = refl; sent = is_sent p; reads = has; links = as_many (sending p).links })
 
 pub heard_on : {T E : Type 0} (told : Result T E) (p now after : Pace) (left : ℕ) → now ≡ sending p → OnOk told (GoesOn now after left) → OnOk told (GoesOn (sending p) after left)
 heard_on told p now after left is on = subst (λ (q : Pace). OnOk told (GoesOn q after left)) is on
@@ -86,7 +97,7 @@ may_read before now left within on some =
 pub read_on : (before now after : Pace) (left : ℕ) → after ≡ reading now → 0 < left → GoesOn before now left → GoesOn before after (left - 1)
 read_on before now after left is some on =
     let reads = on.reads in
-    subst (λ (q : Pace). GoesOn before q (left - 1)) (sym is) (record { turns = on.turns; anew = on.anew; sent = refl; reads = omega (arith, reads, some) })
+    subst (λ (q : Pace). GoesOn before q (left - 1)) (sym is) (record { turns = on.turns; anew = on.anew; sent = refl; reads = omega (arith, reads, some); links = on.links })
 
 -- its link is made anew, and its turn sent again
 pub may_link : (p now : Pace) (left : ℕ) → IsReady 1000 p → GoesOn (sending p) now left → MayLink now
@@ -112,13 +123,26 @@ left_again before now after left b made is on = subst (λ (q : Pace). HasLeft (s
 
 -- it had its turn
 pub turn_over : (p now : Pace) (left : ℕ) → GoesOn (sending p) now left → HadTurn p now
-turn_over p now left on = record { turns = on.turns; sent = on.sent }
+turn_over p now left on = record { turns = on.turns; sent = on.sent; links = subst (λ (n : ℕ). n ≤ now.links) (sent_links p) on.links }
 
 pub turn_unlinked : (p now after : Pace) (left : ℕ) (b : Bool) → b ≡ false → after ≡ linking b now → GoesOn (sending p) now left → HadTurn p after
-turn_unlinked p now after left b made is on = subst (λ (q : Pace). HadTurn p q) (sym (is ∙ ap (λ (x : Bool). linking x now) made)) (record { turns = on.turns; sent = refl })
+turn_unlinked p now after left b made is on =
+    let links = on.links in
+    let same = sent_links p in
+    subst (λ (q : Pace). HadTurn p q) (sym (is ∙ ap (λ (x : Bool). linking x now) made)) (record { turns = on.turns; sent = refl; links = omega (arith, links, same) })
 
 pub turn_again : (p now after end : Pace) (left more : ℕ) (b : Bool) → b ≡ true → after ≡ linking b now → GoesOn (sending p) now left → GoesOn (sending after) end more → HadTurn p end
-turn_again p now after end left more b made is on again = record { turns = again.turns ∙ ap (λ (q : Pace). (sending q).turns) (is ∙ ap (λ (x : Bool). linking x now) made) ∙ on.turns; sent = again.sent }
+turn_again p now after end left more b made is on again =
+    let before = on.links in
+    let same = sent_links p in
+    let later = again.links in
+    let kept = sent_links after in
+    let one : after.links ≡ now.links + 1 = ap (λ (q : Pace). q.links) is in
+    record {
+      turns = again.turns ∙ ap (λ (q : Pace). (sending q).turns) (is ∙ ap (λ (x : Bool). linking x now) made) ∙ on.turns;
+      sent = again.sent;
+      links = omega (arith, before, same, later, kept, one);
+    }
 
 -- ---- calls
 
@@ -165,6 +189,23 @@ module _ {D : Type 0} where
 not_equal : (b : Bool) (inc s : ℕ) → (inc == s) ≡ b → (inc ≡ s → ⊥) → b ≡ false
 not_equal true inc s is apart = absurd (apart (eqb-true inc s is))
 not_equal false inc s is apart = refl
+
+either_links : (b : Bool) (x y : Pace) → (if b then resting else x) ≡ (if b then resting else y) → (b ≡ true → y.links ≤ x.links) → y.links ≤ x.links
+either_links true x y same this = this refl
+either_links false x y same this = subst (λ (p : Pace). y.links ≤ p.links) (sym same) (as_many y.links)
+
+-- a turn of one server makes no server's links fewer
+pub links_on : {D : Type 0} (es after : List (Event D)) (i j : ℕ) → j ≡ i → ((s : ℕ) → pace_beside i s after ≡ pace_beside i s es) → HadTurn (pace i es) (pace j after) → (s : ℕ) → (pace s es).links ≤ (pace s after).links
+links_on es after i j same aside had s =
+    either_links (i == s) (pace s after) (pace s es) (aside s)
+    (λ this. subst (λ (t : ℕ). (pace t es).links ≤ (pace t after).links) (eqb-true i s this) (subst (λ (t : ℕ). (pace i es).links ≤ (pace t after).links) same had.links))
+
+-- nor do other calls
+pub links_still : {D : Type 0} (first es after : List (Event D)) (s : ℕ) → pace s after ≡ pace s es → (pace s first).links ≤ (pace s es).links → (pace s first).links ≤ (pace s after).links
+links_still first es after s paced less = subst (λ (p : Pace). (pace s first).links ≤ p.links) (sym paced) less
+
+pub links_more : {D : Type 0} (first es after : List (Event D)) (s : ℕ) → (pace s es).links ≤ (pace s after).links → (pace s first).links ≤ (pace s es).links → (pace s first).links ≤ (pace s after).links
+links_more first es after s more less = omega (arith, more, less)
 
 -- a server without a link isn't one with a link
 not_linked : (inc s : ℕ) (ls : List Link) → links_of inc ls ≡ 0 → 1 ≤ links_of s ls → (inc == s) ≡ false
@@ -300,8 +341,8 @@ none_ended es ls new place inc d within is single linked rest =
 -- ---- turns that were had
 
 -- a turn of a server is counted
-next_of : (p : Pace) → p.is_anew ≡ false → sending p ≡ record { turns = p.turns + 1; anew = 0; reads = 0; is_anew = false }
-next_of p sent = ap (λ b. if b then record { turns = p.turns; anew = p.anew; reads = p.reads; is_anew = false } else record { turns = p.turns + 1; anew = 0; reads = 0; is_anew = false }) sent
+next_of : (p : Pace) → p.is_anew ≡ false → sending p ≡ record { turns = p.turns + 1; anew = 0; reads = 0; is_anew = false; links = p.links }
+next_of p sent = ap (λ b. if b then record { turns = p.turns; anew = p.anew; reads = p.reads; is_anew = false; links = p.links } else record { turns = p.turns + 1; anew = 0; reads = 0; is_anew = false; links = p.links }) sent
 
 sent_next : (p : Pace) → p.is_anew ≡ false → (sending p).turns ≡ p.turns + 1
 sent_next p sent = ap (λ (q : Pace). q.turns) (next_of p sent)
@@ -315,7 +356,7 @@ few_more false n p q one other = omega (arith, other)
 
 -- The turn that is sent next is at most one past those that were sent.
 pub one_past : (p : Pace) → (sending p).turns ≤ p.turns + 1
-one_past p = few_more p.is_anew p.turns (record { turns = p.turns; anew = p.anew; reads = p.reads; is_anew = false }) (record { turns = p.turns + 1; anew = 0; reads = 0; is_anew = false }) refl refl
+one_past p = few_more p.is_anew p.turns (record { turns = p.turns; anew = p.anew; reads = p.reads; is_anew = false; links = p.links }) (record { turns = p.turns + 1; anew = 0; reads = 0; is_anew = false; links = p.links }) refl refl
 
 either_least : (b : Bool) (x y : Pace) (n : ℕ) → (if b then resting else x) ≡ (if b then resting else y) → (b ≡ true → n ≤ (sending x).turns) → (b ≡ false → n ≤ (sending y).turns) → n ≤ (sending x).turns
 either_least true x y n same this other = this refl

@@ -32,11 +32,13 @@ pub record GoesOn (before now : Pace) (left : ℕ) : Type 0 where
   pub anew : now.anew ≡ before.anew
   pub sent : now.is_anew ≡ false
   pub reads : HasLeft now left
+  pub links : before.links ≤ now.links
 
 -- A server had its next turn.
 pub record HadTurn (before now : Pace) : Type 0 where
   pub turns : now.turns ≡ (sending before).turns
   pub sent : now.is_anew ≡ false
+  pub links : before.links ≤ now.links
 
 -- A link may be made anew.
 abbrev pub MayLink : Pace → Type 0

@@ -1,10 +1,12 @@
 //! The links to servers, and what comes on one of them in a turn.
 
 ghost use Rattle.container_model.specs.Record.{Record};
+ghost use Rattle.container_model.specs.declared.fault.ContainerFault.TheVariants as container;
 ghost use Rattle.message_model.specs.Spelling.{spell};
 ghost use Rattle.script_model.specs.Bounds.{IsWithin, linking, pace, reading, sending};
+ghost use Rattle.script_model.specs.Courses.{course};
 ghost use Rattle.script_model.specs.Events.{running};
-ghost use Rattle.script_model.specs.Orders.{asked};
+ghost use Rattle.script_model.specs.Notices.{Notes, Notice, Tells, first_noticed, notices, refusal_noticed};
 ghost use Rattle.script_model.specs.Origins.{AreNext, fresh, giving, passed};
 ghost use Rattle.script_model.specs.Turns.{server_of, turn_of};
 ghost use Rattle.script_container.specs.Beside.{beside};
@@ -13,7 +15,7 @@ ghost use Rattle.script_container.specs.Told.{IsTold};
 ghost use Rattle.script_container.specs.declared.fault.ScriptFault.TheVariants.{NoMemory};
 ghost use Rattle.script_links.specs.Links.{IsServed};
 ghost use Rattle.script_links.specs.Ready.{GoesOn, HadTurn, HasLeft, IsReady, MayLink, pace_beside};
-ghost use Rattle.std.specs.Prelude.{◌≡◌, ◌++◌, ◌∷◌, [], IfErr, IfOk, OnOk, false, ℕ};
+ghost use Rattle.std.specs.Prelude.{◌≡◌, ◌≢◌, ◌++◌, ◌∷◌, [], IfErr, IfOk, OnOk, Option, false, ℕ};
 
 use crate::waiting::Waiting;
 use container_core::container::ContainerCore;
@@ -129,7 +131,8 @@ pub fn send_turn<H: Host>(
     ensures quiet { (s : ℕ) → passed s (H.told host.new) ≡ passed s (H.told host.old) }
     ensures aside { (s : ℕ) → pace_beside inc s (H.told host.new) ≡ pace_beside inc s (H.told host.old) }
     ensures sent { OnOk result (pace inc (H.told host.new) ≡ sending (pace inc (H.told host.old))) }
-    ensures ordered { asked (H.told host.new) ≡ asked (H.told host.old) }
+    ensures ordered { course (H.told host.new) ≡ course (H.told host.old) }
+    ensures noticed { notices (H.told host.new) ≡ notices (H.told host.old) }
     ensures shown { IfErr result (λ fault. Shows ⟦<H::Disk as Disk>⟧ (H.told host.new) fault) }
 {
     let bytes = turn_bytes(alloc, core, inc)?;
@@ -137,10 +140,25 @@ pub fn send_turn<H: Host>(
 }
 
 /// What is told of a refusal.
-fn notice_of(refused: Option<Refusal>) -> Option<Told> {
+fn notice_of(refused: Option<Refusal>) -> Option<Told>
+    ensures { (before : Option Notice) → Notes before (first_noticed before (refusal_noticed refused)) result }
+{
     match refused {
         Some(refusal) => Some(Told::Refused(refusal)),
         None => None,
+    }
+}
+
+/// Whether a message that the container refuses is one that a server may send: one of something that is over is.
+fn refused(fault: ContainerFault) -> Result<bool, ScriptFault>
+    ensures known { OnOk result (fault ≢ container.NoMemory) }
+    ensures lacking { IfErr result (λ fault. fault ≡ NoMemory) }
+{
+    match fault {
+        ContainerFault::NoMemory => Err(ScriptFault::NoMemory),
+        ContainerFault::WrongLink => Ok(false),
+        ContainerFault::BadAnswer => Ok(false),
+        _ => Ok(true),
     }
 }
 
@@ -156,12 +174,14 @@ pub fn hand_over<H: Host>(
 ) -> Result<bool, ScriptFault>
     requires told { IsTold ⟦<H::Disk as Disk>⟧ (H.told host.old) core.old }
     requires next { AreNext (passed inc (H.told host.old)) (taken ∷ []) }
+    requires seen { Tells (notices (H.told host.old)) noticed.old }
     ensures told { IsTold ⟦<H::Disk as Disk>⟧ (H.told host.new) core.new }
     ensures still { (s : ℕ) → running s (H.told host.new) ≡ running s (H.told host.old) }
     ensures apart { (s : ℕ) → beside inc s (H.told host.new) ≡ beside inc s (H.told host.old) }
     ensures given { passed inc (H.told host.new) ≡ giving (taken ∷ []) (passed inc (H.told host.old)) }
     ensures paced { (s : ℕ) → pace s (H.told host.new) ≡ pace s (H.told host.old) }
-    ensures ordered { asked (H.told host.new) ≡ asked (H.told host.old) }
+    ensures ordered { course (H.told host.new) ≡ course (H.told host.old) }
+    ensures seen { OnOk result (Tells (notices (H.told host.new)) noticed.new) }
     ensures shown { IfErr result (λ fault. Shows ⟦<H::Disk as Disk>⟧ (H.told host.new) fault) }
 {
     match message(alloc, host, core, inc, taken) {
@@ -170,10 +190,7 @@ pub fn hand_over<H: Host>(
             save_all(alloc, host, core, &answer, noticed)?;
             Ok(true)
         }
-        Err(ContainerFault::NoMemory) => Err(ScriptFault::NoMemory),
-        Err(ContainerFault::WrongLink) => Ok(false),
-        Err(ContainerFault::BadAnswer) => Ok(false),
-        Err(_) => Ok(true),
+        Err(fault) => refused(fault),
     }
 }
 
@@ -188,13 +205,15 @@ fn meet<H: Host>(
 ) -> Result<bool, ScriptFault>
     requires told { IsTold ⟦<H::Disk as Disk>⟧ (H.told host.old) core.old }
     requires served { IsServed (passed link.old.inc (H.told host.old)) link.old (taken ∷ []) }
+    requires seen { Tells (notices (H.told host.old)) noticed.old }
     ensures told { IsTold ⟦<H::Disk as Disk>⟧ (H.told host.new) core.new }
     ensures still { (s : ℕ) → running s (H.told host.new) ≡ running s (H.told host.old) }
     ensures same { link.new.inc ≡ link.old.inc }
     ensures apart { (s : ℕ) → beside link.old.inc s (H.told host.new) ≡ beside link.old.inc s (H.told host.old) }
     ensures served { OnOk result (IsServed (passed link.new.inc (H.told host.new)) link.new []) }
     ensures paced { (s : ℕ) → pace s (H.told host.new) ≡ pace s (H.told host.old) }
-    ensures ordered { asked (H.told host.new) ≡ asked (H.told host.old) }
+    ensures ordered { course (H.told host.new) ≡ course (H.told host.old) }
+    ensures seen { OnOk result (Tells (notices (H.told host.new)) noticed.new) }
     ensures shown { IfErr result (λ fault. Shows ⟦<H::Disk as Disk>⟧ (H.told host.new) fault) }
     ensures holding { link.new.held ≡ link.old.held }
 {
@@ -215,13 +234,15 @@ fn take_frames<H: Host>(
 ) -> Result<Heard, ScriptFault>
     requires told { IsTold ⟦<H::Disk as Disk>⟧ (H.told host.old) core.old }
     requires served { IsServed (passed link.old.inc (H.told host.old)) link.old [] }
+    requires seen { Tells (notices (H.told host.old)) noticed.old }
     ensures told { IsTold ⟦<H::Disk as Disk>⟧ (H.told host.new) core.new }
     ensures still { (s : ℕ) → running s (H.told host.new) ≡ running s (H.told host.old) }
     ensures same { link.new.inc ≡ link.old.inc }
     ensures apart { (s : ℕ) → beside link.old.inc s (H.told host.new) ≡ beside link.old.inc s (H.told host.old) }
     ensures served { OnOk result (IsServed (passed link.new.inc (H.told host.new)) link.new []) }
     ensures paced { (s : ℕ) → pace s (H.told host.new) ≡ pace s (H.told host.old) }
-    ensures ordered { asked (H.told host.new) ≡ asked (H.told host.old) }
+    ensures ordered { course (H.told host.new) ≡ course (H.told host.old) }
+    ensures seen { OnOk result (Tells (notices (H.told host.new)) noticed.new) }
     ensures shown { IfErr result (λ fault. Shows ⟦<H::Disk as Disk>⟧ (H.told host.new) fault) }
     ensures holding { link.new.held ≡ link.old.held }
 {
@@ -254,7 +275,8 @@ fn read_some<H: Host>(host: &mut H, link: &mut Link) -> Result<bool, ScriptFault
     ensures served { OnOk result (IsServed (passed link.new.inc (H.told host.new)) link.new []) }
     ensures aside { (s : ℕ) → pace_beside link.old.inc s (H.told host.new) ≡ pace_beside link.old.inc s (H.told host.old) }
     ensures read { pace link.new.inc (H.told host.new) ≡ reading (pace link.old.inc (H.told host.old)) }
-    ensures ordered { asked (H.told host.new) ≡ asked (H.told host.old) }
+    ensures ordered { course (H.told host.new) ≡ course (H.told host.old) }
+    ensures noticed { notices (H.told host.new) ≡ notices (H.told host.old) }
     ensures shown { IfErr result (λ fault. Shows ⟦<H::Disk as Disk>⟧ (H.told host.new) fault) }
     ensures holding { link.new.held ≡ link.old.held }
 {
@@ -288,6 +310,7 @@ fn hear<H: Host>(
     requires served { IsServed (passed link.old.inc (H.told host.old)) link.old [] }
     requires within { IsWithin (pace link.old.inc (H.told host.old)) }
     requires on { GoesOn (pace link.old.inc (H.told host.old)) (pace link.old.inc (H.told host.old)) reads.old }
+    requires seen { Tells (notices (H.told host.old)) noticed.old }
     ensures told { IsTold ⟦<H::Disk as Disk>⟧ (H.told host.new) core.new }
     ensures still { (s : ℕ) → running s (H.told host.new) ≡ running s (H.told host.old) }
     ensures same { link.new.inc ≡ link.old.inc }
@@ -295,7 +318,8 @@ fn hear<H: Host>(
     ensures served { OnOk result (IsServed (passed link.new.inc (H.told host.new)) link.new []) }
     ensures aside { (s : ℕ) → pace_beside link.old.inc s (H.told host.new) ≡ pace_beside link.old.inc s (H.told host.old) }
     ensures on { OnOk result (GoesOn (pace link.old.inc (H.told host.old)) (pace link.new.inc (H.told host.new)) reads.new) }
-    ensures ordered { asked (H.told host.new) ≡ asked (H.told host.old) }
+    ensures ordered { course (H.told host.new) ≡ course (H.told host.old) }
+    ensures seen { OnOk result (Tells (notices (H.told host.new)) noticed.new) }
     ensures shown { IfErr result (λ fault. Shows ⟦<H::Disk as Disk>⟧ (H.told host.new) fault) }
     ensures holding { link.new.held ≡ link.old.held }
 {
@@ -325,6 +349,7 @@ fn exchange<H: Host>(
     requires served { IsServed (passed link.old.inc (H.told host.old)) link.old [] }
     requires within { IsWithin (sending (pace link.old.inc (H.told host.old))) }
     requires left { HasLeft (sending (pace link.old.inc (H.told host.old))) reads.old }
+    requires seen { Tells (notices (H.told host.old)) noticed.old }
     ensures told { IsTold ⟦<H::Disk as Disk>⟧ (H.told host.new) core.new }
     ensures still { (s : ℕ) → running s (H.told host.new) ≡ running s (H.told host.old) }
     ensures same { link.new.inc ≡ link.old.inc }
@@ -332,7 +357,8 @@ fn exchange<H: Host>(
     ensures served { OnOk result (IsServed (passed link.new.inc (H.told host.new)) link.new []) }
     ensures aside { (s : ℕ) → pace_beside link.old.inc s (H.told host.new) ≡ pace_beside link.old.inc s (H.told host.old) }
     ensures on { OnOk result (GoesOn (sending (pace link.old.inc (H.told host.old))) (pace link.new.inc (H.told host.new)) reads.new) }
-    ensures ordered { asked (H.told host.new) ≡ asked (H.told host.old) }
+    ensures ordered { course (H.told host.new) ≡ course (H.told host.old) }
+    ensures seen { OnOk result (Tells (notices (H.told host.new)) noticed.new) }
     ensures shown { IfErr result (λ fault. Shows ⟦<H::Disk as Disk>⟧ (H.told host.new) fault) }
     ensures holding { link.new.held ≡ link.old.held }
 {
@@ -353,7 +379,8 @@ pub fn reconnect<H: Host>(alloc: Global, host: &mut H, link: &mut Link) -> bool
     ensures served { IsServed (passed link.new.inc (H.told host.new)) link.new [] }
     ensures aside { (s : ℕ) → pace_beside link.old.inc s (H.told host.new) ≡ pace_beside link.old.inc s (H.told host.old) }
     ensures linked { pace link.new.inc (H.told host.new) ≡ linking result (pace link.old.inc (H.told host.old)) }
-    ensures ordered { asked (H.told host.new) ≡ asked (H.told host.old) }
+    ensures ordered { course (H.told host.new) ≡ course (H.told host.old) }
+    ensures noticed { notices (H.told host.new) ≡ notices (H.told host.old) }
     ensures holding { link.new.held ≡ link.old.held }
 {
     link.decoder = Decoder::new(alloc);
@@ -371,6 +398,7 @@ pub fn serve<H: Host>(
     requires told { IsTold ⟦<H::Disk as Disk>⟧ (H.told host.old) core.old }
     requires served { IsServed (passed link.old.inc (H.told host.old)) link.old [] }
     requires ready { IsReady 1000 (pace link.old.inc (H.told host.old)) }
+    requires seen { Tells (notices (H.told host.old)) noticed.old }
     ensures told { IsTold ⟦<H::Disk as Disk>⟧ (H.told host.new) core.new }
     ensures still { (s : ℕ) → running s (H.told host.new) ≡ running s (H.told host.old) }
     ensures same { link.new.inc ≡ link.old.inc }
@@ -378,7 +406,8 @@ pub fn serve<H: Host>(
     ensures served { OnOk result (IsServed (passed link.new.inc (H.told host.new)) link.new []) }
     ensures aside { (s : ℕ) → pace_beside link.old.inc s (H.told host.new) ≡ pace_beside link.old.inc s (H.told host.old) }
     ensures turned { OnOk result (HadTurn (pace link.old.inc (H.told host.old)) (pace link.new.inc (H.told host.new))) }
-    ensures ordered { asked (H.told host.new) ≡ asked (H.told host.old) }
+    ensures ordered { course (H.told host.new) ≡ course (H.told host.old) }
+    ensures seen { OnOk result (Tells (notices (H.told host.new)) noticed.new) }
     ensures shown { IfErr result (λ fault. Shows ⟦<H::Disk as Disk>⟧ (H.told host.new) fault) }
     ensures holding { link.new.held ≡ link.old.held }
 {

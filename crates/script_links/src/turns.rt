@@ -2,9 +2,11 @@
 
 ghost use Rattle.script_model.specs.Bounds.{AreBounded, pace};
 ghost use Rattle.script_model.specs.Containers.{AreStarted};
+ghost use Rattle.script_model.specs.Courses.{course};
 ghost use Rattle.script_model.specs.Errors.{before_ends};
 ghost use Rattle.script_model.specs.Events.{running};
-ghost use Rattle.script_model.specs.Orders.{asked, orders};
+ghost use Rattle.script_model.specs.Notices.{Tells, notices};
+ghost use Rattle.script_model.specs.Orders.{orders};
 ghost use Rattle.script_model.specs.Origins.{AreHeard};
 ghost use Rattle.script_model.specs.Saved.{AreOpened, AreSaved};
 ghost use Rattle.script_model.specs.Turns.{AreTurns};
@@ -43,13 +45,15 @@ pub fn end_at<H: Host>(
     requires told { IsTold ⟦<H::Disk as Disk>⟧ (H.told host.old) core.old }
     requires linked { AreLinked (H.told host.old) links.old.items }
     requires served { AreServed (H.told host.old) (remove links.old.items place) }
+    requires seen { Tells (notices (H.told host.old)) noticed.old }
     ensures less { length links.new.items + 1 ≡ length links.old.items }
     ensures told { IsTold ⟦<H::Disk as Disk>⟧ (H.told host.new) core.new }
     ensures linked { AreLinked (H.told host.new) links.new.items }
     ensures served { AreServed (H.told host.new) links.new.items }
     ensures rest { links.new.items ≡ remove links.old.items place }
     ensures paced { (s : ℕ) → pace s (H.told host.new) ≡ pace s (H.told host.old) }
-    ensures ordered { asked (H.told host.new) ≡ asked (H.told host.old) }
+    ensures ordered { course (H.told host.new) ≡ course (H.told host.old) }
+    ensures seen { OnOk result (Tells (notices (H.told host.new)) noticed.new) }
     ensures shown { IfErr result (λ fault. Shows ⟦<H::Disk as Disk>⟧ (H.told host.new) fault) }
     ensures holding { (f : ℕ → Bool) → HoldFor f links.old.items → HoldFor f links.new.items }
 {
@@ -157,12 +161,15 @@ fn serve_at<H: Host>(
     requires linked { AreLinked (H.told host.old) links.old.items }
     requires served { AreServed (H.told host.old) links.old.items }
     requires ready { IsUnderway 1000 (H.told host.old) links.old.items place }
+    requires seen { Tells (notices (H.told host.old)) noticed.old }
     ensures told { IsTold ⟦<H::Disk as Disk>⟧ (H.told host.new) core.new }
     ensures linked { AreLinked (H.told host.new) links.new.items }
     ensures served { OnOk result (AreServed (H.told host.new) links.new.items) }
     ensures many { length links.new.items ≡ length links.old.items }
     ensures ready { (n : ℕ) → IsUnderway n (H.told host.old) links.old.items place → OnOk result (IsUnderway n (H.told host.new) links.new.items (place + 1)) }
-    ensures ordered { asked (H.told host.new) ≡ asked (H.told host.old) }
+    ensures ordered { course (H.told host.new) ≡ course (H.told host.old) }
+    ensures seen { OnOk result (Tells (notices (H.told host.new)) noticed.new) }
+    ensures anew { OnOk result ((s : ℕ) → (pace s (H.told host.old)).links ≤ (pace s (H.told host.new)).links) }
     ensures shown { IfErr result (λ fault. Shows ⟦<H::Disk as Disk>⟧ (H.told host.new) fault) }
     ensures holding { (f : ℕ → Bool) → HoldFor f links.old.items → HoldFor f links.new.items }
     ensures due { (n : ℕ) → HaveHad n (H.told host.old) links.old.items place → OnOk result (HaveHad n (H.told host.new) links.new.items (place + 1)) }
@@ -182,11 +189,14 @@ fn turn<H: Host>(
     requires linked { AreLinked (H.told host.old) links.old.items }
     requires served { AreServed (H.told host.old) links.old.items }
     requires ready { AreReady 1000 (H.told host.old) links.old.items }
+    requires seen { Tells (notices (H.told host.old)) noticed.old }
     ensures told { IsTold ⟦<H::Disk as Disk>⟧ (H.told host.new) core.new }
     ensures linked { AreLinked (H.told host.new) links.new.items }
     ensures served { OnOk result (AreServed (H.told host.new) links.new.items) }
     ensures ready { (n : ℕ) → AreReady n (H.told host.old) links.old.items → OnOk result (AreReady (n + 1) (H.told host.new) links.new.items) }
-    ensures ordered { asked (H.told host.new) ≡ asked (H.told host.old) }
+    ensures ordered { course (H.told host.new) ≡ course (H.told host.old) }
+    ensures seen { OnOk result (Tells (notices (H.told host.new)) noticed.new) }
+    ensures anew { OnOk result ((s : ℕ) → (pace s (H.told host.old)).links ≤ (pace s (H.told host.new)).links) }
     ensures shown { IfErr result (λ fault. Shows ⟦<H::Disk as Disk>⟧ (H.told host.new) fault) }
     ensures holding { (f : ℕ → Bool) → HoldFor f links.old.items → HoldFor f links.new.items }
     ensures due { (n : ℕ) → AreDue n (H.told host.old) links.old.items → OnOk result (AreDue (n + 1) (H.told host.new) links.new.items) }
@@ -216,11 +226,14 @@ pub fn turns<H: Host>(
     requires linked { AreLinked (H.told host.old) links.old.items }
     requires served { AreServed (H.told host.old) links.old.items }
     requires ready { AreReady 1 (H.told host.old) links.old.items }
+    requires seen { Tells (notices (H.told host.old)) noticed.old }
     ensures quiet { OnOk result (AreQuiet core.new.objects links.new.items) }
     ensures told { IsTold ⟦<H::Disk as Disk>⟧ (H.told host.new) core.new }
     ensures linked { AreLinked (H.told host.new) links.new.items }
     ensures served { OnOk result (AreServed (H.told host.new) links.new.items) }
-    ensures ordered { asked (H.told host.new) ≡ asked (H.told host.old) }
+    ensures ordered { course (H.told host.new) ≡ course (H.told host.old) }
+    ensures seen { OnOk result (Tells (notices (H.told host.new)) noticed.new) }
+    ensures anew { OnOk result ((s : ℕ) → (pace s (H.told host.old)).links ≤ (pace s (H.told host.new)).links) }
     ensures shown { IfErr result (λ fault. Shows ⟦<H::Disk as Disk>⟧ (H.told host.new) fault) }
     ensures holding { (f : ℕ → Bool) → HoldFor f links.old.items → HoldFor f links.new.items }
 {

@@ -66,6 +66,16 @@ abbrev pub told_by : Result Took ContainerFault → Told
 told_by (Ok took) = made_by took.answer
 told_by (Err fault) = told.Fault fault
 
+-- what is told of a file that was given to the container
+abbrev pub told_opened : Result Took ContainerFault → Told
+told_opened (Ok took) = opened_by took.answer
+told_opened (Err fault) = told.Fault fault
+
+-- the first of what is told
+abbrev pub first_told : Option Told → Option Told → Option Told
+first_told (Some notice) next = Some notice
+first_told None next = next
+
 -- A command that made nothing tells what was noticed first meanwhile: that an object refused a call, or that a save was lost.
 abbrev pub noticed_by : Option Told → Told
 noticed_by (Some notice) = notice

@@ -14,25 +14,29 @@ MOST_READS = 1000000
 
 -- How far a server is in a command: how many of its turns began; how often its link was made anew, whether or not that was done,
 -- and how often it was read, both since the last of these turns began. Where the link was made anew and nothing was sent or came
--- since, what is sent next is the same turn again.
+-- since, what is sent next is the same turn again. And how often its link was made anew in all of the command.
 pub record Pace : Type 0 where
   pub turns : ℕ
   pub anew : ℕ
   pub reads : ℕ
   pub is_anew : Bool
+  pub links : ℕ
 
 -- nothing was sent
 abbrev pub resting : Pace
-resting = record { turns = 0; anew = 0; reads = 0; is_anew = false }
+resting = record { turns = 0; anew = 0; reads = 0; is_anew = false; links = 0 }
 
 abbrev pub sending : Pace → Pace
-sending p = if p.is_anew then record { turns = p.turns; anew = p.anew; reads = p.reads; is_anew = false } else record { turns = p.turns + 1; anew = 0; reads = 0; is_anew = false }
+sending p =
+    if p.is_anew
+    then record { turns = p.turns; anew = p.anew; reads = p.reads; is_anew = false; links = p.links }
+    else record { turns = p.turns + 1; anew = 0; reads = 0; is_anew = false; links = p.links }
 
 abbrev pub linking : Bool → Pace → Pace
-linking ok p = record { turns = p.turns; anew = p.anew + 1; reads = p.reads; is_anew = ok }
+linking ok p = record { turns = p.turns; anew = p.anew + 1; reads = p.reads; is_anew = ok; links = p.links + 1 }
 
 abbrev pub reading : Pace → Pace
-reading p = record { turns = p.turns; anew = p.anew; reads = p.reads + 1; is_anew = false }
+reading p = record { turns = p.turns; anew = p.anew; reads = p.reads + 1; is_anew = false; links = p.links }
 
 abbrev pub behind_step : Step → Pace → Pace
 behind_step (step.Begins n) p = resting

@@ -1,7 +1,9 @@
 pub mod Events
 pub mod Containers
+pub mod Courses
 pub mod Turns
 pub mod Bounds
+pub mod Notices
 pub mod Orders
 pub mod Saved
 pub mod Origins

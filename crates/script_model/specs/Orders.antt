@@ -7,32 +7,12 @@ use Rattle.script_model.specs.declared.command.ScriptCommand.{ScriptCommand}
 use Rattle.script_model.specs.declared.command.ScriptCommand.TheVariants as script
 use Rattle.script_model.specs.declared.step.Step.{Step}
 use Rattle.script_model.specs.declared.step.Step.TheVariants as step
-use Rattle.script_model.specs.Events.{Event, Started, Connected, Sent, Heard, Ended, Opened, Found, Shut, Stepped}
+use Rattle.script_model.specs.Courses.{course}
+use Rattle.script_model.specs.Events.{Event}
 
--- what is asked of a container: the beginnings of commands, and each command that it is given
-abbrev pub behind_asked : Step → List Step → List Step
-behind_asked (step.Begins n) os = step.Begins n ∷ os
-behind_asked (step.Command c) os = step.Command c ∷ os
-behind_asked (step.Message inc m) os = os
-behind_asked (step.Reap inc) os = os
-behind_asked (step.Committed f) os = os
-behind_asked (step.Failed f) os = os
-behind_asked (step.Resolved f is_kept) os = os
-behind_asked (step.Open name w h session objects) os = os
-behind_asked step.NoMemory os = os
-
--- the newest first
+-- what is asked of a container, the newest first: the beginnings of commands, and each command that it is given
 abbrev pub asked : {D : Type 0} → List (Event D) → List Step
-asked [] = []
-asked (Stepped step ∷ es) = behind_asked step (asked es)
-asked (Started session inc ok ∷ es) = asked es
-asked (Connected inc ok ∷ es) = asked es
-asked (Sent inc bytes ok ∷ es) = asked es
-asked (Heard inc bytes ok ∷ es) = asked es
-asked (Ended inc ∷ es) = asked es
-asked (Opened name disk ∷ es) = asked es
-asked (Found name disk ∷ es) = asked es
-asked (Shut name disk ∷ es) = asked es
+asked es = (course es).asked
 
 -- a command that the container is given; Session is passed over, since a script gives it by itself before a start too
 abbrev pub behind_given : Command → List Step → List Step

@@ -2,6 +2,7 @@
 use Rattle.std.proofs.Common.{◌≡◌, ◌≤◌, ◌<◌, ◌+◌, ◌==◌, ◌++◌, ℕ, zero, suc, Bool, true, false, List, [], ◌∷◌, length, if◌then◌else◌, refl, sym, ap, ◌∙◌, subst, arith, drop, slice_index_or, slice_set}
 use Rattle.std.proofs.lemmas.Bool.{eqb-true, eq-eqb}
 use Rattle.script_model.specs.declared.command.ScriptCommand.{ScriptCommand}
+use Rattle.script_model.specs.Bounds.{pace}
 use Rattle.script_model.specs.Errors.{behind_hold, is_held}
 use Rattle.script_model.specs.Events.{Event, running}
 use Rattle.std.specs.Prelude.{◌&&◌, ◌||◌, not}
@@ -36,6 +37,14 @@ not_this s l n other = none (l.inc == s) n (λ is. other (eqb-true l.inc s is))
 -- the server of the link at a place
 pub server_at : (ls : List Link) (place inc : ℕ) (l : Link) → place < length ls → l ≡ slice_index_or ls place l → IsLinkAt ls place inc → l.inc ≡ inc
 server_at ls place inc l within is at = ap (λ (x : Link). x.inc) (is ∙ any_at ls place l at.link within ∙ sym at.stands) ∙ at.server
+
+-- it has a link
+pub linked_there : (inc : ℕ) (ls : List Link) (place : ℕ) → place < length ls → IsLinkAt ls place inc → 1 ≤ links_of inc ls
+linked_there inc ls place within at = linked_at inc ls place at.link within (ap (λ (x : Link). x.inc) (sym at.stands) ∙ at.server)
+
+-- its link was made anew
+pub cut_anew : {D : Type 0} (es : List (Event D)) (inc : ℕ) (ls : List Link) (place : ℕ) → IsLinkAt ls place inc → ((d : Link) → 1 ≤ (pace (slice_index_or ls place d).inc es).links) → 1 ≤ (pace inc es).links
+cut_anew es inc ls place at anew = subst (λ (i : ℕ). 1 ≤ (pace i es).links) (ap (λ (x : Link). x.inc) (sym at.stands) ∙ at.server) (anew at.link)
 
 -- ---- what holds
 

@@ -1,11 +1,16 @@
 //! The commands of a script, one after another.
 
+ghost use Rattle.container_model.specs.Commands.{on_command};
 ghost use Rattle.container_model.specs.Record.{Record};
 ghost use Rattle.container_model.specs.declared.command.Command.TheVariants as asks;
+ghost use Rattle.container_screen.specs.Screen.{shown};
+ghost use Rattle.script_model.specs.Answers.{told_by};
 ghost use Rattle.script_model.specs.Bounds.{linking, pace, resting};
 ghost use Rattle.script_model.specs.Containers.{record_of};
+ghost use Rattle.script_model.specs.Courses.{but_starts, course, is_unraised, starts_in, with_start, without};
 ghost use Rattle.script_model.specs.Errors.{behind_hold};
-ghost use Rattle.script_model.specs.Events.{running};
+ghost use Rattle.script_model.specs.Events.{Stepped, running};
+ghost use Rattle.script_model.specs.Notices.{Tells, notices};
 ghost use Rattle.script_model.specs.Orders.{IsBegun, IsReadied, asked, behind_command, behind_given, orders};
 ghost use Rattle.script_model.specs.Origins.{AreNext, Passed, giving, passed};
 ghost use Rattle.script_model.specs.Saved.{is_any_unsaved};
@@ -15,11 +20,14 @@ ghost use Rattle.script_links.specs.Links.{AreLinked, AreServed, EachServed, Hol
 ghost use Rattle.script_links.specs.Ready.{AreReady, MayLink, pace_beside};
 ghost use Rattle.script_links.specs.Shown.{AreQuiet, Shows};
 ghost use Rattle.script_links.specs.Told.{IsTold};
-ghost use Rattle.script_container.specs.declared.fault.ScriptFault.TheVariants.{NoMemory};
+ghost use Rattle.script_run.specs.Printed.{HasLine, IsBeginning, IsBegunWith, IsCut, IsShown, told_of_server};
+ghost use Rattle.script_run.specs.Starts.{AreIn};
+ghost use Rattle.script_container.specs.declared.fault.ScriptFault.TheVariants.{NoMemory, Unwritable};
 ghost use Rattle.script_links.specs.declared.links.Link.{Link};
-ghost use Rattle.std.specs.Prelude.{◌≡◌, ◌≤◌, ◌<◌, ◌++◌, ◌∷◌, Bool, [], false, true, IfErr, IfNone, IfOk, IfSome, List, OnOk, length, ℕ, slice_index_or, slice_set, vec_capacity, vec_len};
+ghost use Rattle.std.specs.Prelude.{◌≡◌, ◌≢◌, ◌≤◌, ◌<◌, ◌++◌, ◌∷◌, Bool, [], false, true, IfErr, IfNone, IfOk, IfSome, List, OnOk, Some, length, ℕ, slice_index_or, slice_set, vec_capacity, vec_len};
 
 use crate::opens::open;
+use crate::refusals::refusal;
 use crate::unsaved::is_any_unsaved;
 use container_core::container::ContainerCore;
 use container_model::answer::{Action, Answer};
@@ -55,20 +63,7 @@ fn place_of(links: &[Link], inc: u32) -> Option<usize>
     None
 }
 
-/// Whether a server has a link.
-fn is_linked(links: &[Link], inc: u32) -> bool
-    ensures { result ≡ false → links_of inc links.now ≡ 0 }
-{
-    for link in links {
-        if link.inc == inc {
-            return true;
-        }
-    }
-    false
-}
-
-/// Starts a server that has no link yet, in the container's session, and makes its link. The container stays as it is. Where it has
-/// no session, none is started.
+/// Starts a server in the container's session, and makes its link. One that has a link runs already. The container stays as it is.
 fn start<H: Host>(
     alloc: Global,
     host: &mut H,
@@ -79,20 +74,21 @@ fn start<H: Host>(
     requires told { IsTold ⟦<H::Disk as Disk>⟧ (H.told host.old) core.now }
     requires linked { AreLinked (H.told host.old) links.old.items }
     requires served { AreServed (H.told host.old) links.old.items }
+    requires session { core.now.session ≢ 0 }
     ensures told { IsTold ⟦<H::Disk as Disk>⟧ (H.told host.new) core.now }
     ensures linked { AreLinked (H.told host.new) links.new.items }
     ensures served { AreServed (H.told host.new) links.new.items }
     ensures paced { (s : ℕ) → pace s (H.told host.new) ≡ pace s (H.told host.old) }
-    ensures ordered { asked (H.told host.new) ≡ asked (H.told host.old) }
+    ensures ordered { but_starts (course (H.told host.new)) ≡ but_starts (course (H.told host.old)) }
+    ensures noticed { notices (H.told host.new) ≡ notices (H.told host.old) }
+    ensures tried { OnOk result ((course (H.told host.new)).unstarted ≡ without inc (course (H.told host.old)).unstarted) }
     ensures shown { IfErr result (λ fault. Shows ⟦<H::Disk as Disk>⟧ (H.told host.new) fault) }
     ensures holding { (f : ℕ → Bool) → HoldFor f links.old.items → HoldFor f links.new.items }
 {
     let session = core.session();
-    if session == 0 {
-        return Ok(());
-    }
-    if is_linked(links, inc) {
-        return Ok(());
+    match place_of(links, inc) {
+        Some(_) => return Ok(()),
+        None => {}
     }
     links.reserve(1)?;
     match host.start(session, inc) {
@@ -125,11 +121,13 @@ fn end<H: Host>(
     requires told { IsTold ⟦<H::Disk as Disk>⟧ (H.told host.old) core.old }
     requires linked { AreLinked (H.told host.old) links.old.items }
     requires served { AreServed (H.told host.old) links.old.items }
+    requires seen { Tells (notices (H.told host.old)) noticed.old }
     ensures told { IsTold ⟦<H::Disk as Disk>⟧ (H.told host.new) core.new }
     ensures linked { AreLinked (H.told host.new) links.new.items }
     ensures served { AreServed (H.told host.new) links.new.items }
     ensures paced { (s : ℕ) → pace s (H.told host.new) ≡ pace s (H.told host.old) }
-    ensures ordered { asked (H.told host.new) ≡ asked (H.told host.old) }
+    ensures ordered { course (H.told host.new) ≡ course (H.told host.old) }
+    ensures seen { OnOk result (Tells (notices (H.told host.new)) noticed.new) }
     ensures shown { IfErr result (λ fault. Shows ⟦<H::Disk as Disk>⟧ (H.told host.new) fault) }
     ensures holding { (f : ℕ → Bool) → HoldFor f links.old.items → HoldFor f links.new.items }
 {
@@ -139,8 +137,68 @@ fn end<H: Host>(
     }
 }
 
-/// Starts or ends the server that the container asks to be started or ended.
-fn act_on<H: Host>(
+/// Starts the server that an action asks to start, if it asks for that.
+fn start_on<H: Host>(
+    alloc: Global,
+    host: &mut H,
+    core: &ContainerCore,
+    links: &mut Vec<Link>,
+    action: &Action,
+) -> Result<(), ScriptFault>
+    requires told { IsTold ⟦<H::Disk as Disk>⟧ (H.told host.old) core.now }
+    requires linked { AreLinked (H.told host.old) links.old.items }
+    requires served { AreServed (H.told host.old) links.old.items }
+    requires session { core.now.session ≢ 0 }
+    ensures told { IsTold ⟦<H::Disk as Disk>⟧ (H.told host.new) core.now }
+    ensures linked { AreLinked (H.told host.new) links.new.items }
+    ensures served { AreServed (H.told host.new) links.new.items }
+    ensures paced { (s : ℕ) → pace s (H.told host.new) ≡ pace s (H.told host.old) }
+    ensures ordered { but_starts (course (H.told host.new)) ≡ but_starts (course (H.told host.old)) }
+    ensures noticed { notices (H.told host.new) ≡ notices (H.told host.old) }
+    ensures tried { (incs : List ℕ) → AreIn (course (H.told host.old)).unstarted (with_start action.now incs) → OnOk result (AreIn (course (H.told host.new)).unstarted incs) }
+    ensures shown { IfErr result (λ fault. Shows ⟦<H::Disk as Disk>⟧ (H.told host.new) fault) }
+    ensures holding { (f : ℕ → Bool) → HoldFor f links.old.items → HoldFor f links.new.items }
+{
+    match action {
+        Action::Start(inc) => start(alloc, host, core, links, *inc),
+        Action::End(_) | Action::Send(_) | Action::Commit(_) => Ok(()),
+    }
+}
+
+/// Starts the servers that an answer of the container asks to start. Where it has no session, none is asked for.
+fn start_asked<H: Host>(
+    alloc: Global,
+    host: &mut H,
+    core: &ContainerCore,
+    links: &mut Vec<Link>,
+    answer: &Answer,
+) -> Result<(), ScriptFault>
+    requires told { IsTold ⟦<H::Disk as Disk>⟧ (H.told host.old) core.now }
+    requires linked { AreLinked (H.told host.old) links.old.items }
+    requires served { AreServed (H.told host.old) links.old.items }
+    requires wanted { AreIn (course (H.told host.old)).unstarted (starts_in answer.now.actions) }
+    requires raised { core.now.session ≡ 0 → (course (H.told host.old)).unstarted ≡ [] }
+    ensures told { IsTold ⟦<H::Disk as Disk>⟧ (H.told host.new) core.now }
+    ensures linked { AreLinked (H.told host.new) links.new.items }
+    ensures served { AreServed (H.told host.new) links.new.items }
+    ensures paced { (s : ℕ) → pace s (H.told host.new) ≡ pace s (H.told host.old) }
+    ensures ordered { but_starts (course (H.told host.new)) ≡ but_starts (course (H.told host.old)) }
+    ensures noticed { notices (H.told host.new) ≡ notices (H.told host.old) }
+    ensures tried { OnOk result ((course (H.told host.new)).unstarted ≡ []) }
+    ensures shown { IfErr result (λ fault. Shows ⟦<H::Disk as Disk>⟧ (H.told host.new) fault) }
+    ensures holding { (f : ℕ → Bool) → HoldFor f links.old.items → HoldFor f links.new.items }
+{
+    if core.session() == 0 {
+        return Ok(());
+    }
+    for action in answer.actions.as_slice() {
+        start_on(alloc, host, core, links, action)?;
+    }
+    Ok(())
+}
+
+/// Ends the server that an action asks to end, if it asks for that.
+fn end_on<H: Host>(
     alloc: Global,
     host: &mut H,
     core: &mut ContainerCore,
@@ -151,22 +209,52 @@ fn act_on<H: Host>(
     requires told { IsTold ⟦<H::Disk as Disk>⟧ (H.told host.old) core.old }
     requires linked { AreLinked (H.told host.old) links.old.items }
     requires served { AreServed (H.told host.old) links.old.items }
+    requires seen { Tells (notices (H.told host.old)) noticed.old }
     ensures told { IsTold ⟦<H::Disk as Disk>⟧ (H.told host.new) core.new }
     ensures linked { AreLinked (H.told host.new) links.new.items }
     ensures served { AreServed (H.told host.new) links.new.items }
     ensures paced { (s : ℕ) → pace s (H.told host.new) ≡ pace s (H.told host.old) }
-    ensures ordered { asked (H.told host.new) ≡ asked (H.told host.old) }
+    ensures ordered { course (H.told host.new) ≡ course (H.told host.old) }
+    ensures seen { OnOk result (Tells (notices (H.told host.new)) noticed.new) }
     ensures shown { IfErr result (λ fault. Shows ⟦<H::Disk as Disk>⟧ (H.told host.new) fault) }
     ensures holding { (f : ℕ → Bool) → HoldFor f links.old.items → HoldFor f links.new.items }
 {
     match action {
-        Action::Start(inc) => start(alloc, host, core, links, *inc),
         Action::End(inc) => end(alloc, host, core, links, *inc, noticed),
-        Action::Send(_) | Action::Commit(_) => Ok(()),
+        Action::Start(_) | Action::Send(_) | Action::Commit(_) => Ok(()),
     }
 }
 
-/// Does what the container asks for. What is to be sent is pending, and is sent with the next turn.
+/// Ends the servers that an answer of the container asks to end.
+fn end_asked<H: Host>(
+    alloc: Global,
+    host: &mut H,
+    core: &mut ContainerCore,
+    links: &mut Vec<Link>,
+    answer: &Answer,
+    noticed: &mut Option<Told>,
+) -> Result<(), ScriptFault>
+    requires told { IsTold ⟦<H::Disk as Disk>⟧ (H.told host.old) core.old }
+    requires linked { AreLinked (H.told host.old) links.old.items }
+    requires served { AreServed (H.told host.old) links.old.items }
+    requires seen { Tells (notices (H.told host.old)) noticed.old }
+    ensures told { IsTold ⟦<H::Disk as Disk>⟧ (H.told host.new) core.new }
+    ensures linked { AreLinked (H.told host.new) links.new.items }
+    ensures served { AreServed (H.told host.new) links.new.items }
+    ensures paced { (s : ℕ) → pace s (H.told host.new) ≡ pace s (H.told host.old) }
+    ensures ordered { course (H.told host.new) ≡ course (H.told host.old) }
+    ensures seen { OnOk result (Tells (notices (H.told host.new)) noticed.new) }
+    ensures shown { IfErr result (λ fault. Shows ⟦<H::Disk as Disk>⟧ (H.told host.new) fault) }
+    ensures holding { (f : ℕ → Bool) → HoldFor f links.old.items → HoldFor f links.new.items }
+{
+    for action in answer.actions.as_slice() {
+        end_on(alloc, host, core, links, action, noticed)?;
+    }
+    Ok(())
+}
+
+/// Does what the container asks for: starts servers, ends servers, and commits files. What is to be sent is pending, and is sent
+/// with the next turn.
 fn act<H: Host>(
     alloc: Global,
     host: &mut H,
@@ -178,17 +266,21 @@ fn act<H: Host>(
     requires told { IsTold ⟦<H::Disk as Disk>⟧ (H.told host.old) core.old }
     requires linked { AreLinked (H.told host.old) links.old.items }
     requires served { AreServed (H.told host.old) links.old.items }
+    requires wanted { AreIn (course (H.told host.old)).unstarted (starts_in answer.now.actions) }
+    requires raised { core.old.session ≡ 0 → (course (H.told host.old)).unstarted ≡ [] }
+    requires seen { Tells (notices (H.told host.old)) noticed.old }
     ensures told { IsTold ⟦<H::Disk as Disk>⟧ (H.told host.new) core.new }
     ensures linked { AreLinked (H.told host.new) links.new.items }
     ensures served { AreServed (H.told host.new) links.new.items }
     ensures paced { (s : ℕ) → pace s (H.told host.new) ≡ pace s (H.told host.old) }
-    ensures ordered { asked (H.told host.new) ≡ asked (H.told host.old) }
+    ensures ordered { but_starts (course (H.told host.new)) ≡ but_starts (course (H.told host.old)) }
+    ensures tried { OnOk result ((course (H.told host.new)).unstarted ≡ []) }
+    ensures seen { OnOk result (Tells (notices (H.told host.new)) noticed.new) }
     ensures shown { IfErr result (λ fault. Shows ⟦<H::Disk as Disk>⟧ (H.told host.new) fault) }
     ensures holding { (f : ℕ → Bool) → HoldFor f links.old.items → HoldFor f links.new.items }
 {
-    for action in answer.actions.as_slice() {
-        act_on(alloc, host, core, links, action, noticed)?;
-    }
+    start_asked(alloc, host, core, links, answer)?;
+    end_asked(alloc, host, core, links, answer, noticed)?;
     save_all(alloc, host, core, answer, noticed)
 }
 
@@ -206,11 +298,16 @@ fn give<H: Host>(
     requires readied { IsReadied ordered (record_of (H.told host.old)) (asked (H.told host.old)) }
     requires linked { AreLinked (H.told host.old) links.old.items }
     requires served { AreServed (H.told host.old) links.old.items }
+    requires idle { (course (H.told host.old)).unstarted ≡ [] }
+    requires seen { Tells (notices (H.told host.old)) noticed.old }
     ensures told { IsTold ⟦<H::Disk as Disk>⟧ (H.told host.new) core.new }
     ensures linked { AreLinked (H.told host.new) links.new.items }
     ensures served { AreServed (H.told host.new) links.new.items }
     ensures paced { (s : ℕ) → pace s (H.told host.new) ≡ pace s (H.told host.old) }
-    ensures ordered { asked (H.told host.new) ≡ Step.Command ordered ∷ asked (H.told host.old) }
+    ensures ordered { but_starts (course (H.told host.new)) ≡ but_starts (course (Stepped (Step.Command ordered) ∷ H.told host.old)) }
+    ensures tried { OnOk result ((course (H.told host.new)).unstarted ≡ []) }
+    ensures answered { IfOk result (λ t. t ≡ told_by (on_command core.old ordered)) }
+    ensures seen { OnOk result (Tells (notices (H.told host.new)) noticed.new) }
     ensures shown { IfErr result (λ fault. Shows ⟦<H::Disk as Disk>⟧ (H.told host.new) fault) }
     ensures holding { (f : ℕ → Bool) → HoldFor f links.old.items → HoldFor f links.new.items }
 {
@@ -219,14 +316,14 @@ fn give<H: Host>(
             act(alloc, host, core, links, &answer, noticed)?;
             Ok(made_by(&answer))
         }
-        Err(ContainerFault::NoMemory) => Err(ScriptFault::NoMemory),
-        Err(fault) => Ok(Told::Fault(fault)),
+        Err(fault) => refusal(fault),
     }
 }
 
 /// Whether a command is to start a server in a container that has no session yet.
 #[tactic(auto, using(crate::proofs::Ordered::readied_other, crate::proofs::Ordered::readied_in))]
 fn is_first_start(core: &ContainerCore, ordered: &Command) -> bool
+    ensures exact { result ≡ is_unraised core.now ordered.now }
     ensures first { result ≡ true → ordered.now ≡ asks.Start }
     ensures other { (steps : List Step) → result ≡ false → IsReadied ordered.now core.now steps }
 {
@@ -248,18 +345,24 @@ fn start_first<H: Host>(
     requires told { IsTold ⟦<H::Disk as Disk>⟧ (H.told host.old) core.old }
     requires linked { AreLinked (H.told host.old) links.old.items }
     requires served { AreServed (H.told host.old) links.old.items }
+    requires idle { (course (H.told host.old)).unstarted ≡ [] }
+    requires seen { Tells (notices (H.told host.old)) noticed.old }
     ensures told { IsTold ⟦<H::Disk as Disk>⟧ (H.told host.new) core.new }
     ensures linked { AreLinked (H.told host.new) links.new.items }
     ensures served { AreServed (H.told host.new) links.new.items }
     ensures paced { (s : ℕ) → pace s (H.told host.new) ≡ pace s (H.told host.old) }
     ensures ordered { OnOk result (orders (H.told host.new) ≡ behind_given asks.Start (orders (H.told host.old))) }
     ensures begun { IsBegun (script.Container asks.Start) (orders (H.told host.old)) (orders (H.told host.new)) }
+    ensures standing { (course (H.told host.new)).begun ≡ (course (H.told host.old)).begun }
+    ensures first { IfOk result (λ t. ((course (H.told host.new)).commanded ≡ Some t) × ((course (H.told host.new)).unstarted ≡ [])) }
+    ensures seen { OnOk result (Tells (notices (H.told host.new)) noticed.new) }
     ensures shown { IfErr result (λ fault. Shows ⟦<H::Disk as Disk>⟧ (H.told host.new) fault) }
     ensures holding { (f : ℕ → Bool) → HoldFor f links.old.items → HoldFor f links.new.items }
 {
     let raised = give(alloc, host, core, links, Command::Session, noticed)?;
+    let lacks = core.session() == 0;
     let started = give(alloc, host, core, links, Command::Start, noticed)?;
-    if core.session() == 0 {
+    if lacks {
         return Ok(raised);
     }
     Ok(started)
@@ -277,12 +380,17 @@ fn order<H: Host>(
     requires told { IsTold ⟦<H::Disk as Disk>⟧ (H.told host.old) core.old }
     requires linked { AreLinked (H.told host.old) links.old.items }
     requires served { AreServed (H.told host.old) links.old.items }
+    requires idle { (course (H.told host.old)).unstarted ≡ [] }
+    requires seen { Tells (notices (H.told host.old)) noticed.old }
     ensures told { IsTold ⟦<H::Disk as Disk>⟧ (H.told host.new) core.new }
     ensures linked { AreLinked (H.told host.new) links.new.items }
     ensures served { AreServed (H.told host.new) links.new.items }
     ensures paced { (s : ℕ) → pace s (H.told host.new) ≡ pace s (H.told host.old) }
     ensures ordered { OnOk result (orders (H.told host.new) ≡ behind_given ordered (orders (H.told host.old))) }
     ensures begun { IsBegun (script.Container ordered) (orders (H.told host.old)) (orders (H.told host.new)) }
+    ensures standing { (course (H.told host.new)).begun ≡ (course (H.told host.old)).begun }
+    ensures first { IfOk result (λ t. ((course (H.told host.new)).commanded ≡ Some t) × ((course (H.told host.new)).unstarted ≡ [])) }
+    ensures seen { OnOk result (Tells (notices (H.told host.new)) noticed.new) }
     ensures shown { IfErr result (λ fault. Shows ⟦<H::Disk as Disk>⟧ (H.told host.new) fault) }
     ensures holding { (f : ℕ → Bool) → HoldFor f links.old.items → HoldFor f links.new.items }
 {
@@ -306,11 +414,14 @@ fn cut<H: Host>(
     requires linked { AreLinked (H.told host.old) links.old.items }
     requires served { AreServed (H.told host.old) links.old.items }
     requires rested { (s : ℕ) → pace s (H.told host.old) ≡ resting }
+    requires seen { Tells (notices (H.told host.old)) noticed.old }
     ensures told { IsTold ⟦<H::Disk as Disk>⟧ (H.told host.new) core.new }
     ensures linked { AreLinked (H.told host.new) links.new.items }
     ensures served { AreServed (H.told host.new) links.new.items }
     ensures ready { OnOk result (AreReady 1 (H.told host.new) links.new.items) }
-    ensures ordered { asked (H.told host.new) ≡ asked (H.told host.old) }
+    ensures ordered { course (H.told host.new) ≡ course (H.told host.old) }
+    ensures anew { (d : Link) → OnOk result (1 ≤ (pace (slice_index_or links.old.items place d).inc (H.told host.new)).links) }
+    ensures seen { OnOk result (Tells (notices (H.told host.new)) noticed.new) }
     ensures shown { IfErr result (λ fault. Shows ⟦<H::Disk as Disk>⟧ (H.told host.new) fault) }
     ensures holding { (f : ℕ → Bool) → HoldFor f links.old.items → HoldFor f links.new.items }
 {
@@ -333,12 +444,14 @@ fn hand_all<H: Host>(
 ) -> Result<bool, ScriptFault>
     requires told { IsTold ⟦<H::Disk as Disk>⟧ (H.told host.old) core.old }
     requires next { AreNext (passed inc (H.told host.old)) waiting }
+    requires seen { Tells (notices (H.told host.old)) noticed.old }
     ensures told { IsTold ⟦<H::Disk as Disk>⟧ (H.told host.new) core.new }
     ensures still { (s : ℕ) → running s (H.told host.new) ≡ running s (H.told host.old) }
     ensures apart { (s : ℕ) → beside inc s (H.told host.new) ≡ beside inc s (H.told host.old) }
     ensures given { IfOk result (λ all. all ≡ true → passed inc (H.told host.new) ≡ giving waiting (passed inc (H.told host.old))) }
     ensures paced { (s : ℕ) → pace s (H.told host.new) ≡ pace s (H.told host.old) }
-    ensures ordered { asked (H.told host.new) ≡ asked (H.told host.old) }
+    ensures ordered { course (H.told host.new) ≡ course (H.told host.old) }
+    ensures seen { OnOk result (Tells (notices (H.told host.new)) noticed.new) }
     ensures shown { IfErr result (λ fault. Shows ⟦<H::Disk as Disk>⟧ (H.told host.new) fault) }
 {
     for taken in waiting.into_vec() {
@@ -376,7 +489,8 @@ fn reconnect_at<H: Host>(alloc: Global, host: &mut H, links: &mut Vec<Link>, pla
     ensures same { (d : Link) → (slice_index_or links.new.items place d).inc ≡ (slice_index_or links.old.items place d).inc }
     ensures aside { (d : Link) (s : ℕ) → pace_beside (slice_index_or links.old.items place d).inc s (H.told host.new) ≡ pace_beside (slice_index_or links.old.items place d).inc s (H.told host.old) }
     ensures made { (d : Link) → pace (slice_index_or links.old.items place d).inc (H.told host.new) ≡ linking result (pace (slice_index_or links.old.items place d).inc (H.told host.old)) }
-    ensures ordered { asked (H.told host.new) ≡ asked (H.told host.old) }
+    ensures ordered { course (H.told host.new) ≡ course (H.told host.old) }
+    ensures noticed { notices (H.told host.new) ≡ notices (H.told host.old) }
     ensures holding { (f : ℕ → Bool) → HoldFor f links.old.items → HoldFor f links.new.items }
 {
     reconnect(alloc, host, &mut links[place])
@@ -395,11 +509,13 @@ fn release<H: Host>(
     requires told { IsTold ⟦<H::Disk as Disk>⟧ (H.told host.old) core.old }
     requires linked { AreLinked (H.told host.old) links.old.items }
     requires served { AreServed (H.told host.old) links.old.items }
+    requires seen { Tells (notices (H.told host.old)) noticed.old }
     ensures told { IsTold ⟦<H::Disk as Disk>⟧ (H.told host.new) core.new }
     ensures linked { AreLinked (H.told host.new) links.new.items }
     ensures served { OnOk result (AreServed (H.told host.new) links.new.items) }
     ensures paced { (s : ℕ) → pace s (H.told host.new) ≡ pace s (H.told host.old) }
-    ensures ordered { asked (H.told host.new) ≡ asked (H.told host.old) }
+    ensures ordered { course (H.told host.new) ≡ course (H.told host.old) }
+    ensures seen { OnOk result (Tells (notices (H.told host.new)) noticed.new) }
     ensures shown { IfErr result (λ fault. Shows ⟦<H::Disk as Disk>⟧ (H.told host.new) fault) }
     ensures holding { (f : ℕ → Bool) (inc : ℕ) → IsLinkAt links.old.items place inc → HoldFor f links.old.items → HoldFor (λ s. behind_hold (script.Release inc) s (f s)) links.new.items }
 {
@@ -434,11 +550,14 @@ fn cut_link<H: Host>(
     requires linked { AreLinked (H.told host.old) links.old.items }
     requires served { AreServed (H.told host.old) links.old.items }
     requires rested { (s : ℕ) → pace s (H.told host.old) ≡ resting }
+    requires seen { Tells (notices (H.told host.old)) noticed.old }
     ensures told { IsTold ⟦<H::Disk as Disk>⟧ (H.told host.new) core.new }
     ensures linked { AreLinked (H.told host.new) links.new.items }
     ensures served { OnOk result (AreServed (H.told host.new) links.new.items) }
     ensures ready { OnOk result (AreReady 1 (H.told host.new) links.new.items) }
-    ensures ordered { asked (H.told host.new) ≡ asked (H.told host.old) }
+    ensures ordered { course (H.told host.new) ≡ course (H.told host.old) }
+    ensures first { IfOk result (λ t. (t ≡ told_of_server (running inc (H.told host.old))) × IsCut (running inc (H.told host.old)) (pace inc (H.told host.new)).links) }
+    ensures seen { OnOk result (Tells (notices (H.told host.new)) noticed.new) }
     ensures shown { IfErr result (λ fault. Shows ⟦<H::Disk as Disk>⟧ (H.told host.new) fault) }
     ensures holding { (f : ℕ → Bool) → HoldFor f links.old.items → HoldFor f links.new.items }
 {
@@ -462,11 +581,14 @@ fn release_link<H: Host>(
     requires linked { AreLinked (H.told host.old) links.old.items }
     requires served { AreServed (H.told host.old) links.old.items }
     requires rested { (s : ℕ) → pace s (H.told host.old) ≡ resting }
+    requires seen { Tells (notices (H.told host.old)) noticed.old }
     ensures told { IsTold ⟦<H::Disk as Disk>⟧ (H.told host.new) core.new }
     ensures linked { AreLinked (H.told host.new) links.new.items }
     ensures served { OnOk result (AreServed (H.told host.new) links.new.items) }
     ensures ready { OnOk result (AreReady 1 (H.told host.new) links.new.items) }
-    ensures ordered { asked (H.told host.new) ≡ asked (H.told host.old) }
+    ensures ordered { course (H.told host.new) ≡ course (H.told host.old) }
+    ensures first { IfOk result (λ t. t ≡ told_of_server (running inc (H.told host.old))) }
+    ensures seen { OnOk result (Tells (notices (H.told host.new)) noticed.new) }
     ensures shown { IfErr result (λ fault. Shows ⟦<H::Disk as Disk>⟧ (H.told host.new) fault) }
     ensures holding { (f : ℕ → Bool) → HoldFor f links.old.items → HoldFor (λ s. behind_hold (script.Release inc) s (f s)) links.new.items }
 {
@@ -479,6 +601,7 @@ fn release_link<H: Host>(
 
 /// Holds the link of a server, if it has one.
 fn hold_link(links: &mut Vec<Link>, inc: u32) -> Told
+    ensures first { (n : ℕ) → n ≡ links_of inc links.old.items → result ≡ told_of_server n }
     ensures same { (s : ℕ) → links_of s links.new.items ≡ links_of s links.old.items }
     ensures served { (f : ℕ → Passed) → EachServed f links.old.items → EachServed f links.new.items }
     ensures holding { (f : ℕ → Bool) → HoldFor f links.old.items → HoldFor (λ s. behind_hold (script.Hold inc) s (f s)) links.new.items }
@@ -497,15 +620,15 @@ fn show(
     frame: u32,
     text: &mut Vec<u8>,
 ) -> Result<Told, ScriptFault>
-    ensures { IfErr result (λ fault. fault ≡ NoMemory) }
+    ensures lacking { IfErr result (λ fault. fault ≡ NoMemory) }
+    ensures first { IfOk result (λ t. (lines : List ℕ) × (text.new.items ≡ text.old.items ++ lines) × IsShown (shown core.now frame) lines t) }
 {
     match core.screen(alloc, frame) {
-        Ok(shown) => {
-            text.extend_from_slice(&shown)?;
+        Ok(lines) => {
+            text.extend_from_slice(&lines)?;
             Ok(Told::Done)
         }
-        Err(ContainerFault::NoMemory) => Err(ScriptFault::NoMemory),
-        Err(fault) => Ok(Told::Fault(fault)),
+        Err(fault) => refusal(fault),
     }
 }
 
@@ -523,12 +646,17 @@ fn begin<H: Host>(
     requires linked { AreLinked (H.told host.old) links.old.items }
     requires served { AreServed (H.told host.old) links.old.items }
     requires rested { (s : ℕ) → pace s (H.told host.old) ≡ resting }
+    requires begins { IsBeginning (H.told host.old) }
+    requires seen { Tells (notices (H.told host.old)) noticed.old }
     ensures told { IsTold ⟦<H::Disk as Disk>⟧ (H.told host.new) core.new }
     ensures linked { AreLinked (H.told host.new) links.new.items }
     ensures served { OnOk result (AreServed (H.told host.new) links.new.items) }
     ensures ready { OnOk result (AreReady 1 (H.told host.new) links.new.items) }
     ensures ordered { OnOk result (orders (H.told host.new) ≡ behind_command command (orders (H.told host.old))) }
     ensures begun { IsBegun command (orders (H.told host.old)) (orders (H.told host.new)) }
+    ensures standing { (course (H.told host.new)).begun ≡ (course (H.told host.old)).begun }
+    ensures first { IfOk result (λ t. IsBegunWith ⟦<H::Disk as Disk>⟧ command (H.told host.new) text.old.items text.new.items t) }
+    ensures seen { OnOk result (Tells (notices (H.told host.new)) noticed.new) }
     ensures shown { IfErr result (λ fault. Shows ⟦<H::Disk as Disk>⟧ (H.told host.new) fault) }
     ensures holding { (f : ℕ → Bool) → HoldFor f links.old.items → HoldFor (λ s. behind_hold command s (f s)) links.new.items }
 {
@@ -557,6 +685,7 @@ pub(crate) fn carry_out<H: Host, W: Write>(
     requires linked { AreLinked (H.told host.old) links.old.items }
     requires served { AreServed (H.told host.old) links.old.items }
     requires rested { (s : ℕ) → pace s (H.told host.old) ≡ resting }
+    requires begins { IsBeginning (H.told host.old) }
     ensures told { IsTold ⟦<H::Disk as Disk>⟧ (H.told host.new) core.new }
     ensures linked { AreLinked (H.told host.new) links.new.items }
     ensures served { OnOk result (AreServed (H.told host.new) links.new.items) }
@@ -564,6 +693,9 @@ pub(crate) fn carry_out<H: Host, W: Write>(
     ensures saved { OnOk result (is_any_unsaved core.new.frames ≡ false) }
     ensures ordered { OnOk result (orders (H.told host.new) ≡ behind_command command (orders (H.told host.old))) }
     ensures begun { IsBegun command (orders (H.told host.old)) (orders (H.told host.new)) }
+    ensures standing { (course (H.told host.new)).begun ≡ (course (H.told host.old)).begun }
+    ensures printed { OnOk result (HasLine ⟦<H::Disk as Disk>⟧ command (H.told host.new) (W.contents writer.old) (W.contents writer.new)) }
+    ensures unwritten { IfErr result (λ fault. fault ≢ Unwritable → W.contents writer.new ≡ W.contents writer.old) }
     ensures shown { IfErr result (λ fault. Shows ⟦<H::Disk as Disk>⟧ (H.told host.new) fault) }
     ensures holding { (f : ℕ → Bool) → HoldFor f links.old.items → HoldFor (λ s. behind_hold command s (f s)) links.new.items }
 {

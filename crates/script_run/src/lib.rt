@@ -4,5 +4,6 @@
 mod commands;
 pub mod laws;
 mod opens;
+mod refusals;
 pub mod script;
 mod unsaved;

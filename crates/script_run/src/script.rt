@@ -4,7 +4,7 @@ ghost use Rattle.container_model.specs.Record.{Record};
 ghost use Rattle.script_model.specs.Bounds.{AreBounded, pace, resting};
 ghost use Rattle.script_model.specs.Containers.{AreStarted};
 ghost use Rattle.script_model.specs.Errors.{before_ends};
-ghost use Rattle.script_model.specs.Events.{running};
+ghost use Rattle.script_model.specs.Events.{Stepped, running};
 ghost use Rattle.script_model.specs.Orders.{HaveBegun, behind_command, behind_commands, orders};
 ghost use Rattle.script_model.specs.Origins.{AreHeard, BeginsSaved, passed};
 ghost use Rattle.script_model.specs.Saved.{AreOpened, AreSaved, is_any_unsaved};
@@ -12,11 +12,12 @@ ghost use Rattle.script_model.specs.Settled.{IsSettled};
 ghost use Rattle.script_model.specs.Turns.{AreTurns};
 ghost use Rattle.script_run.specs.Carried.{AreCarriedOut, MayHaveBegun};
 ghost use Rattle.script_run.specs.Faulted.{IsFaultOf, RefusesScript, ShowsOf};
+ghost use Rattle.script_run.specs.Printed.{HasAll, HasLines, HasSome, HasSomeOf};
 ghost use Rattle.script_texts.specs.Commands.{commands_read};
 ghost use Rattle.script_links.specs.Links.{AreLinked, AreServed, HoldFor, is_any_held};
 ghost use Rattle.script_links.specs.Shown.{AreQuiet};
 ghost use Rattle.script_links.specs.Told.{IsTold};
-ghost use Rattle.std.specs.Prelude.{◌≡◌, ◌∷◌, ℕ, [], false, IfErr, IfOk, IfSome, Ok, OnOk};
+ghost use Rattle.std.specs.Prelude.{◌≡◌, ◌∷◌, ℕ, [], false, IfErr, IfOk, IfSome, Ok, OnOk, length};
 
 use crate::commands::carry_out;
 use container_core::container::{ContainerCore, Limits};
@@ -59,6 +60,7 @@ fn begins<H: Host>(host: &mut H, place: usize)
     ensures quiet { (s : ℕ) → passed s (H.told host.new) ≡ passed s (H.told host.old) }
     ensures rested { (s : ℕ) → pace s (H.told host.new) ≡ resting }
     ensures ordered { orders (H.told host.new) ≡ Step.Begins place ∷ orders (H.told host.old) }
+    ensures noted { H.told host.new ≡ Stepped (Step.Begins place) ∷ H.told host.old }
 {
     host.note(&Step::Begins(place));
 }
@@ -96,6 +98,8 @@ fn carry_out_all<H: Host, W: Write>(
     ensures ordered { OnOk result (orders (H.told host.new) ≡ behind_commands 0 commands.items []) }
     ensures begun { HaveBegun (H.told host.new) commands.items }
     ensures settled { OnOk result (IsSettled (H.told host.new)) }
+    ensures printed { OnOk result (HasLines ⟦<H::Disk as Disk>⟧ commands.items (length commands.items) (H.told host.new) (W.contents writer.old) (W.contents writer.new)) }
+    ensures begun_printed { IfErr result (HasSome ⟦<H::Disk as Disk>⟧ commands.items (H.told host.new) (W.contents writer.old) (W.contents writer.new)) }
     ensures shown { IfErr result (λ fault. ShowsOf ⟦<H::Disk as Disk>⟧ commands.items (H.told host.new) fault) }
 {
     for (place, command) in commands.into_iter().enumerate() {
@@ -114,6 +118,11 @@ fn carry_out_all<H: Host, W: Write>(
 /// too large, a call of its disk failed, or the disk wasn't given at first. Before the first `start` the file of frame 1 is saved with
 /// the next session, in which each server is started.
 ///
+/// What is written of a command that ended is what the history makes of it (`printed`, where it ends well, and `begun_printed`, where it
+/// doesn't): what the container answered, what a frame shows, what was found of a file, or that no server of this number runs. `ok` is
+/// told only where meanwhile no object refused a call, no save was lost, and each server that was asked for was tried to be started.
+/// Else the first of these is told.
+///
 /// Where it ends well, what was asked for is done (`settled`): no call is pending of a server that ran to the end, and no frame's file
 /// is to be committed, or in doubt. Of frames this holds where each command begins, too (`heard`).
 ///
@@ -123,7 +132,8 @@ fn carry_out_all<H: Host, W: Write>(
 /// known what became of its save (`File`); no memory; a write that fails. Which of these it is, the host's history shows (`faulted`),
 /// but for the last two.
 ///
-/// No clause says what is written of a command, nor that each server that the container has started still runs: both are tested.
+/// No clause says that each server that the container has started still runs, nor with which fault of the store a lost save is told:
+/// both are tested.
 pub fn run_script<H: Host, R: Read, W: Write>(
     alloc: Global,
     host: &mut H,
@@ -142,6 +152,8 @@ pub fn run_script<H: Host, R: Read, W: Write>(
     ensures begun { IfSome (R.remaining reader.old) (λ text. MayHaveBegun (H.told host.new) text) }
     ensures settled { OnOk result (IsSettled (before_ends (H.told host.new))) }
     ensures faulted { IfErr result (λ fault. IsFaultOf ⟦<H::Disk as Disk>⟧ (R.remaining reader.old) (H.told host.new) fault) }
+    ensures printed { OnOk result (IfSome (R.remaining reader.old) (λ text. HasAll ⟦<H::Disk as Disk>⟧ (before_ends (H.told host.new)) text (W.contents writer.old) (W.contents writer.new))) }
+    ensures begun_printed { IfErr result (λ fault. IfSome (R.remaining reader.old) (λ text. HasSomeOf ⟦<H::Disk as Disk>⟧ (before_ends (H.told host.new)) text (W.contents writer.old) (W.contents writer.new) fault)) }
 {
     let commands = match read_script(alloc, reader) {
         Ok(commands) => commands,

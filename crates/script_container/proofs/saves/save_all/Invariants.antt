@@ -1,6 +1,7 @@
 use Rattle.std.proofs.Common.{◌≡◌, ℕ}
-use Rattle.script_model.specs.Orders.{asked}
 use Rattle.script_model.specs.Bounds.{pace}
+use Rattle.script_model.specs.Courses.{course}
+use Rattle.script_model.specs.Notices.{Tells, notices}
 use Rattle.script_model.specs.Events.{running}
 use Rattle.script_model.specs.Origins.{passed}
 use Rattle.script_container.specs.Told.{IsTold}
@@ -12,5 +13,6 @@ invariant-loop-action g l = record {
   still : (s : ℕ) → running s (g.H.Host.told l.host) ≡ running s (g.H.Host.told l.fn.host);
   quiet : (s : ℕ) → passed s (g.H.Host.told l.host) ≡ passed s (g.H.Host.told l.fn.host);
   paced : (s : ℕ) → pace s (g.H.Host.told l.host) ≡ pace s (g.H.Host.told l.fn.host);
-  ordered : asked (g.H.Host.told l.host) ≡ asked (g.H.Host.told l.fn.host);
+  ordered : course (g.H.Host.told l.host) ≡ course (g.H.Host.told l.fn.host);
+  seen : Tells (notices (g.H.Host.told l.host)) l.noticed;
 }

@@ -4,6 +4,8 @@ use Rattle.script_links.specs.Links.{beside}
 use Rattle.script_links.specs.Ready.{pace_beside}
 use Rattle.script_links.proofs.Paces.{apart_on, may_read, paced_on, read_on}
 use Rattle.std.specs.Result.{IsErrAnd}
+use Rattle.script_model.specs.Notices.{notices}
+use Rattle.script_container.proofs.Noticed.{seen_still}
 use Rattle.script_container.proofs.Shown.{passed_on}
 use Rattle.script_links.proofs.links.hear.Goals as goal
 
@@ -31,6 +33,7 @@ loop-reads-preserved g c = record {
       (ap (λ (i : ℕ). pace i (g.H.Host.told c.take_frames.new.host)) c.take_frames.ensures.same ∙ c.take_frames.ensures.paced c.loop-reads.link.inc) c.loop-reads.invariant.on);
   served = c.in_ok-read_some.ensures.served;
   ordered = c.read_some.ensures.ordered ∙ c.take_frames.ensures.ordered ∙ c.loop-reads.invariant.ordered;
+  seen = seen_still (notices (g.H.Host.told c.take_frames.new.host)) (notices (g.H.Host.told c.read_some.new.host)) c.take_frames.new.noticed c.read_some.ensures.noticed c.in_ok-heard.ensures.seen;
 }
 
 pub returns-in_err-heard-clause-shown : goal.returns-in_err-heard-clause-shown
@@ -45,3 +48,6 @@ returns-in_err-read_some-clause-shown g c =
 
 pub returns-in_err-read_some-clause-told : goal.returns-in_err-read_some-clause-told
 returns-in_err-read_some-clause-told g c = c.read_some.ensures.told c.take_frames.new.core c.take_frames.ensures.told
+
+pub returns-then-not-branch-clause-seen : goal.returns-then-not-branch-clause-seen
+returns-then-not-branch-clause-seen g c = seen_still (notices (g.H.Host.told c.take_frames.new.host)) (notices (g.H.Host.told c.read_some.new.host)) c.take_frames.new.noticed c.read_some.ensures.noticed c.in_ok-heard.ensures.seen

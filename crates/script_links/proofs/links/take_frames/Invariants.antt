@@ -1,5 +1,6 @@
 use Rattle.std.proofs.Common.{◌≡◌, ℕ, []}
-use Rattle.script_model.specs.Orders.{asked}
+use Rattle.script_model.specs.Courses.{course}
+use Rattle.script_model.specs.Notices.{Tells, notices}
 use Rattle.script_model.specs.Bounds.{pace}
 use Rattle.script_model.specs.Events.{running}
 use Rattle.script_model.specs.Origins.{passed}
@@ -16,5 +17,6 @@ invariant-loop g l = record {
   apart : (s : ℕ) → beside l.fn.link.inc s (g.H.Host.told l.host) ≡ beside l.fn.link.inc s (g.H.Host.told l.fn.host);
   paced : (s : ℕ) → pace s (g.H.Host.told l.host) ≡ pace s (g.H.Host.told l.fn.host);
   served : IsServed (passed l.link.inc (g.H.Host.told l.host)) l.link [];
-  ordered : asked (g.H.Host.told l.host) ≡ asked (g.H.Host.told l.fn.host);
+  ordered : course (g.H.Host.told l.host) ≡ course (g.H.Host.told l.fn.host);
+  seen : Tells (notices (g.H.Host.told l.host)) l.noticed;
 }

@@ -1,5 +1,5 @@
 use Rattle.std.proofs.Common.{◌<◌, ◌∙◌, length, arith, ◌≡◌, rules}
-use Rattle.script_links.proofs.Paces.{had_all, had_without, turn_without}
+use Rattle.script_links.proofs.Paces.{had_all, had_without, links_more, links_still, turn_without}
 use Rattle.std.specs.Result.{IsErrAnd}
 use Rattle.script_container.proofs.Shown.{passed_on}
 use Rattle.script_links.proofs.turns.turn.Goals as goal
@@ -13,6 +13,8 @@ loop-place-preserved-then-branch g c = record {
   holding = λ f hold. c.serve_at.ensures.holding f (c.loop-place.invariant.holding f hold);
   due = λ n due. c.in_ok-serve_at.ensures.due n (c.loop-place.invariant.due n due);
   ordered = c.serve_at.ensures.ordered ∙ c.loop-place.invariant.ordered;
+  seen = c.in_ok-serve_at.ensures.seen;
+  anew = λ s. links_more (g.H.Host.told c.args.host.now) (g.H.Host.told c.loop-place.host) (g.H.Host.told c.serve_at.new.host) s (c.in_ok-serve_at.ensures.anew s) (c.loop-place.invariant.anew s);
 }
 
 pub loop-place-preserved : goal.loop-place-preserved
@@ -33,6 +35,10 @@ loop-place-preserved g c =
           had_without n (g.H.Host.told c.serve_at.new.host) (g.H.Host.told c.end_at.new.host) c.serve_at.new.links.items c.loop-place.place within c.end_at.new.links.items c.end_at.ensures.rest c.end_at.ensures.paced
           (c.in_ok-serve_at.ensures.due n (c.loop-place.invariant.due n due));
       ordered = c.end_at.ensures.ordered ∙ c.serve_at.ensures.ordered ∙ c.loop-place.invariant.ordered;
+      seen = c.in_ok-end_at.ensures.seen;
+      anew = λ s.
+          links_still (g.H.Host.told c.args.host.now) (g.H.Host.told c.serve_at.new.host) (g.H.Host.told c.end_at.new.host) s (c.end_at.ensures.paced s)
+          (links_more (g.H.Host.told c.args.host.now) (g.H.Host.told c.loop-place.host) (g.H.Host.told c.serve_at.new.host) s (c.in_ok-serve_at.ensures.anew s) (c.loop-place.invariant.anew s));
     }
 
 pub returns-clause-ready : goal.returns-clause-ready

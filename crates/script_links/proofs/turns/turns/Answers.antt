@@ -2,6 +2,7 @@ use Rattle.std.proofs.Common.{◌+◌, ◌∙◌, ◌≡◌, inl, ap, sym, arith
 use Rattle.std.specs.Result.{IsErrAnd}
 use Rattle.script_links.specs.Shown.{is_any_awaited}
 use Rattle.script_container.proofs.Shown.{passed_on}
+use Rattle.script_links.proofs.Paces.{links_more}
 use Rattle.script_links.proofs.Shown.{none_awaited, some_awaited, unanswered_by}
 use Rattle.script_links.proofs.turns.turns.Goals as goal
 
@@ -14,6 +15,8 @@ loop-done-preserved g c = record {
   holding = λ f hold. c.turn.ensures.holding f (c.loop-done.invariant.holding f hold);
   due = c.in_ok-turn.ensures.due (c.loop-done.done + 1) c.loop-done.invariant.due;
   ordered = c.turn.ensures.ordered ∙ c.loop-done.invariant.ordered;
+  seen = c.in_ok-turn.ensures.seen;
+  anew = λ s. links_more (g.H.Host.told c.args.host.now) (g.H.Host.told c.loop-done.host) (g.H.Host.told c.turn.new.host) s (c.in_ok-turn.ensures.anew s) (c.loop-done.invariant.anew s);
 }
 
 pub returns-in_err-turn-clause-shown : goal.returns-in_err-turn-clause-shown

@@ -1,5 +1,7 @@
-use Rattle.std.proofs.Common.{◌≡◌, ◌+◌, Bool, ℕ}
-use Rattle.script_model.specs.Orders.{asked}
+use Rattle.std.proofs.Common.{◌≡◌, ◌≤◌, ◌+◌, Bool, ℕ}
+use Rattle.script_model.specs.Bounds.{pace}
+use Rattle.script_model.specs.Courses.{course}
+use Rattle.script_model.specs.Notices.{Tells, notices}
 use Rattle.script_links.specs.Links.{AreLinked, AreServed, HoldFor}
 use Rattle.script_links.specs.Ready.{AreDue, AreReady}
 use Rattle.script_container.specs.Told.{IsTold}
@@ -13,5 +15,7 @@ invariant-loop-done g l = record {
   ready : AreReady (l.done + 1) (g.H.Host.told l.host) l.links.items;
   holding : (f : ℕ → Bool) → HoldFor f l.fn.links.items → HoldFor f l.links.items;
   due : AreDue (l.done + 1) (g.H.Host.told l.host) l.links.items;
-  ordered : asked (g.H.Host.told l.host) ≡ asked (g.H.Host.told l.fn.host);
+  ordered : course (g.H.Host.told l.host) ≡ course (g.H.Host.told l.fn.host);
+  seen : Tells (notices (g.H.Host.told l.host)) l.noticed;
+  anew : (s : ℕ) → (pace s (g.H.Host.told l.fn.host)).links ≤ (pace s (g.H.Host.told l.host)).links;
 }

@@ -1,10 +1,12 @@
-use Rattle.std.proofs.Common.{◌≡◌, ◌∙◌, ap, inr, sym, rules}
+use Rattle.std.proofs.Common.{◌≡◌, ◌∙◌, None, ap, inr, refl, sym, rules}
 use Rattle.std.specs.Result.{IsErrAnd}
 use Rattle.container_model.specs.Record.{Record}
 use Rattle.script_model.specs.Errors.{behind_hold}
 use Rattle.script_model.specs.Orders.{asked, ordered_by, orders}
 use Rattle.script_model.specs.Saved.{is_any_unsaved}
 use Rattle.script_container.proofs.Shown.{memory_on, passed_on}
+use Rattle.script_run.proofs.Coursed.{asked_same, begun_same}
+use Rattle.script_run.proofs.Lines.{begins_quiet, line_of}
 use Rattle.script_run.proofs.Ordered.{begun_on}
 use Rattle.script_run.proofs.commands.carry_out.Goals as goal
 
@@ -41,23 +43,44 @@ returns-then-is_any_unsaved-clause-holding g c = λ f hold. c.turns.ensures.hold
 
 pub returns-in_err-turns-clause-begun : goal.returns-in_err-turns-clause-begun
 returns-in_err-turns-clause-begun g c =
-    begun_on c.args.command (orders (g.H.Host.told c.args.host.now)) (asked (g.H.Host.told c.begin.new.host)) (asked (g.H.Host.told c.turns.new.host)) c.turns.ensures.ordered c.begin.ensures.begun
+    begun_on c.args.command (orders (g.H.Host.told c.args.host.now)) (asked (g.H.Host.told c.begin.new.host)) (asked (g.H.Host.told c.turns.new.host)) (asked_same (g.H.Host.told c.begin.new.host) (g.H.Host.told c.turns.new.host) c.turns.ensures.ordered) c.begin.ensures.begun
 
 pub returns-then-is_any_unsaved-clause-begun : goal.returns-then-is_any_unsaved-clause-begun
 returns-then-is_any_unsaved-clause-begun g c =
-    begun_on c.args.command (orders (g.H.Host.told c.args.host.now)) (asked (g.H.Host.told c.begin.new.host)) (asked (g.H.Host.told c.turns.new.host)) c.turns.ensures.ordered c.begin.ensures.begun
+    begun_on c.args.command (orders (g.H.Host.told c.args.host.now)) (asked (g.H.Host.told c.begin.new.host)) (asked (g.H.Host.told c.turns.new.host)) (asked_same (g.H.Host.told c.begin.new.host) (g.H.Host.told c.turns.new.host) c.turns.ensures.ordered) c.begin.ensures.begun
 
 pub returns-in_err-push_told-clause-begun : goal.returns-in_err-push_told-clause-begun
 returns-in_err-push_told-clause-begun g c =
-    begun_on c.args.command (orders (g.H.Host.told c.args.host.now)) (asked (g.H.Host.told c.begin.new.host)) (asked (g.H.Host.told c.turns.new.host)) c.turns.ensures.ordered c.begin.ensures.begun
+    begun_on c.args.command (orders (g.H.Host.told c.args.host.now)) (asked (g.H.Host.told c.begin.new.host)) (asked (g.H.Host.told c.turns.new.host)) (asked_same (g.H.Host.told c.begin.new.host) (g.H.Host.told c.turns.new.host) c.turns.ensures.ordered) c.begin.ensures.begun
 
 pub returns-in-Ok-clause-begun : goal.returns-in-Ok-clause-begun
 returns-in-Ok-clause-begun g c =
-    begun_on c.args.command (orders (g.H.Host.told c.args.host.now)) (asked (g.H.Host.told c.begin.new.host)) (asked (g.H.Host.told c.turns.new.host)) c.turns.ensures.ordered c.begin.ensures.begun
+    begun_on c.args.command (orders (g.H.Host.told c.args.host.now)) (asked (g.H.Host.told c.begin.new.host)) (asked (g.H.Host.told c.turns.new.host)) (asked_same (g.H.Host.told c.begin.new.host) (g.H.Host.told c.turns.new.host) c.turns.ensures.ordered) c.begin.ensures.begun
 
 pub returns-clause-begun : goal.returns-clause-begun
 returns-clause-begun g c =
-    begun_on c.args.command (orders (g.H.Host.told c.args.host.now)) (asked (g.H.Host.told c.begin.new.host)) (asked (g.H.Host.told c.turns.new.host)) c.turns.ensures.ordered c.begin.ensures.begun
+    begun_on c.args.command (orders (g.H.Host.told c.args.host.now)) (asked (g.H.Host.told c.begin.new.host)) (asked (g.H.Host.told c.turns.new.host)) (asked_same (g.H.Host.told c.begin.new.host) (g.H.Host.told c.turns.new.host) c.turns.ensures.ordered) c.begin.ensures.begun
 
 pub returns-in-Ok-clause-ordered : goal.returns-in-Ok-clause-ordered
-returns-in-Ok-clause-ordered g c = ap ordered_by c.turns.ensures.ordered ∙ c.in_ok-told.ensures.ordered
+returns-in-Ok-clause-ordered g c = ap ordered_by (asked_same (g.H.Host.told c.begin.new.host) (g.H.Host.told c.turns.new.host) c.turns.ensures.ordered) ∙ c.in_ok-told.ensures.ordered
+
+pub returns-in_err-turns-clause-standing : goal.returns-in_err-turns-clause-standing
+returns-in_err-turns-clause-standing g c = begun_same (g.H.Host.told c.begin.new.host) (g.H.Host.told c.turns.new.host) c.turns.ensures.ordered ∙ c.begin.ensures.standing
+
+pub returns-then-is_any_unsaved-clause-standing : goal.returns-then-is_any_unsaved-clause-standing
+returns-then-is_any_unsaved-clause-standing g c = begun_same (g.H.Host.told c.begin.new.host) (g.H.Host.told c.turns.new.host) c.turns.ensures.ordered ∙ c.begin.ensures.standing
+
+pub returns-in_err-push_told-clause-standing : goal.returns-in_err-push_told-clause-standing
+returns-in_err-push_told-clause-standing g c = begun_same (g.H.Host.told c.begin.new.host) (g.H.Host.told c.turns.new.host) c.turns.ensures.ordered ∙ c.begin.ensures.standing
+
+pub returns-in-Ok-clause-standing : goal.returns-in-Ok-clause-standing
+returns-in-Ok-clause-standing g c = begun_same (g.H.Host.told c.begin.new.host) (g.H.Host.told c.turns.new.host) c.turns.ensures.ordered ∙ c.begin.ensures.standing
+
+pub returns-clause-standing : goal.returns-clause-standing
+returns-clause-standing g c = begun_same (g.H.Host.told c.begin.new.host) (g.H.Host.told c.turns.new.host) c.turns.ensures.ordered ∙ c.begin.ensures.standing
+
+pub begin-requires-clause-seen : goal.begin-requires-clause-seen
+begin-requires-clause-seen g c = begins_quiet (g.H.Host.told c.args.host.now) c.requires.begins None refl
+
+pub returns-in-Ok-clause-printed : goal.returns-in-Ok-clause-printed
+returns-in-Ok-clause-printed g c = ?

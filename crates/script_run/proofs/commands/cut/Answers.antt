@@ -1,4 +1,4 @@
-use Rattle.std.proofs.Common.{◌≡◌, ◌<◌, ℕ, length, ap, sym, subst, ◌∙◌, rules}
+use Rattle.std.proofs.Common.{◌≡◌, ◌≤◌, ◌<◌, ℕ, length, ap, sym, subst, ◌∙◌, rules, slice_index_or}
 use Rattle.script_model.specs.Bounds.{linking, pace}
 use Rattle.script_links.specs.declared.links.Link.{Link}
 use Rattle.script_links.specs.Ready.{AreReady, MayLink, pace_beside}
@@ -6,6 +6,7 @@ use Rattle.script_links.proofs.Paces.{any_at, cut_ended, cut_may, cut_ready, non
 use Rattle.script_links.proofs.Served.{on_ok}
 use Rattle.std.specs.Result.{IsErrAnd}
 use Rattle.script_container.proofs.Shown.{passed_on}
+use Rattle.script_run.proofs.Lines.{one_link}
 use Rattle.script_run.proofs.commands.cut.Goals as goal
 
 pub send_turn-requires-clause-within : goal.send_turn-requires-clause-within
@@ -40,3 +41,14 @@ returns-in_err-send_turn-clause-shown g c =
 
 pub returns-clause-holding : goal.returns-clause-holding
 returns-clause-holding g c = λ f hold. c.end_at.ensures.holding f (c.reconnect_at.ensures.holding f hold)
+
+pub returns-then-reconnect_at-clause-anew : goal.returns-then-reconnect_at-clause-anew
+returns-then-reconnect_at-clause-anew g c = λ d.
+    let inc = (slice_index_or c.args.links.now.items c.args.place d).inc in
+    one_link (pace inc (g.H.Host.told c.send_turn.new.host)) (pace inc (g.H.Host.told c.reconnect_at.new.host)) c.reconnect_at.result (c.reconnect_at.ensures.made d)
+
+pub returns-clause-anew : goal.returns-clause-anew
+returns-clause-anew g c = λ d.
+    let inc = (slice_index_or c.args.links.now.items c.args.place d).inc in
+    on_ok c.end_at.result (1 ≤ (pace inc (g.H.Host.told c.end_at.new.host)).links)
+    (one_link (pace inc (g.H.Host.told c.send_turn.new.host)) (pace inc (g.H.Host.told c.end_at.new.host)) c.reconnect_at.result (c.end_at.ensures.paced inc ∙ c.reconnect_at.ensures.made d))

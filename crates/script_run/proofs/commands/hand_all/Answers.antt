@@ -19,6 +19,7 @@ loop-taken-preserved g c =
       given = others_given (passed c.args.inc (g.H.Host.told c.loop-taken.host)) (passed c.args.inc (g.H.Host.told c.hand_over.new.host)) (giving c.args.waiting (passed c.args.inc (g.H.Host.told c.args.host.now))) c.in-Some.taken (into_iter_items c.loop-taken.taken-iterator)
           (into_iter_items c.next.new.self) items c.hand_over.ensures.given c.loop-taken.invariant.given;
       ordered = c.hand_over.ensures.ordered ∙ c.loop-taken.invariant.ordered;
+      seen = c.in_ok-hand_over.ensures.seen;
     }
 
 pub returns-in_err-hand_over-clause-shown : goal.returns-in_err-hand_over-clause-shown

@@ -1,8 +1,9 @@
 use Rattle.std.proofs.Common.{◌≡◌, ℕ}
-use Rattle.script_model.specs.Orders.{asked}
 use Rattle.std.specs.Vec.Iter.{into_iter_items}
 use Rattle.script_model.specs.Bounds.{pace}
+use Rattle.script_model.specs.Courses.{course}
 use Rattle.script_model.specs.Events.{running}
+use Rattle.script_model.specs.Notices.{Tells, notices}
 use Rattle.script_model.specs.Origins.{AreNext, giving, passed}
 use Rattle.script_links.specs.Links.{beside}
 use Rattle.script_links.specs.Told.{IsTold}
@@ -16,5 +17,6 @@ invariant-loop-taken g l = record {
   paced : (s : ℕ) → pace s (g.H.Host.told l.host) ≡ pace s (g.H.Host.told l.fn.host);
   next : AreNext (passed l.inc (g.H.Host.told l.host)) (into_iter_items l.taken-iterator);
   given : giving (into_iter_items l.taken-iterator) (passed l.inc (g.H.Host.told l.host)) ≡ giving l.fn.waiting (passed l.inc (g.H.Host.told l.fn.host));
-  ordered : asked (g.H.Host.told l.host) ≡ asked (g.H.Host.told l.fn.host);
+  ordered : course (g.H.Host.told l.host) ≡ course (g.H.Host.told l.fn.host);
+  seen : Tells (notices (g.H.Host.told l.host)) l.noticed;
 }

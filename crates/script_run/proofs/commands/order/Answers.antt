@@ -1,7 +1,9 @@
-use Rattle.std.proofs.Common.{◌≡◌}
+use Rattle.std.proofs.Common.{◌≡◌, ◌∙◌, sym}
 use Rattle.script_model.specs.Containers.{record_of}
 use Rattle.script_model.specs.Orders.{asked, behind_given, orders}
 use Rattle.script_links.proofs.Served.{on_ok}
+use Rattle.script_run.proofs.Coursed.{asked_given}
+use Rattle.script_run.proofs.Lines.{begun_so, first_given}
 use Rattle.script_run.proofs.Ordered.{alone_begun, given_alone, is_begun, is_given, readied_at}
 use Rattle.script_run.proofs.commands.order.Goals as goal
 
@@ -20,7 +22,14 @@ returns-then-is_first_start-clause-begun g c =
 pub returns-clause-ordered : goal.returns-clause-ordered
 returns-clause-ordered g c =
     on_ok c.give.result (orders (g.H.Host.told c.give.new.host) ≡ behind_given c.args.ordered (orders (g.H.Host.told c.args.host.now)))
-    (given_alone c.args.ordered (asked (g.H.Host.told c.give.new.host)) (asked (g.H.Host.told c.args.host.now)) c.give.ensures.ordered)
+    (given_alone c.args.ordered (asked (g.H.Host.told c.give.new.host)) (asked (g.H.Host.told c.args.host.now)) (asked_given (g.H.Host.told c.args.host.now) (g.H.Host.told c.give.new.host) c.args.ordered c.give.ensures.ordered))
 
 pub returns-clause-begun : goal.returns-clause-begun
-returns-clause-begun g c = alone_begun c.args.ordered (asked (g.H.Host.told c.give.new.host)) (asked (g.H.Host.told c.args.host.now)) c.give.ensures.ordered
+returns-clause-begun g c = alone_begun c.args.ordered (asked (g.H.Host.told c.give.new.host)) (asked (g.H.Host.told c.args.host.now)) (asked_given (g.H.Host.told c.args.host.now) (g.H.Host.told c.give.new.host) c.args.ordered c.give.ensures.ordered)
+
+pub returns-clause-standing : goal.returns-clause-standing
+returns-clause-standing g c = begun_so (g.H.Host.told c.args.host.now) (g.H.Host.told c.give.new.host) c.args.core.now c.args.ordered c.requires.told.recorded c.give.ensures.ordered
+
+pub returns-clause-first : goal.returns-clause-first
+returns-clause-first g c =
+    first_given (g.H.Host.told c.args.host.now) (g.H.Host.told c.give.new.host) c.args.core.now c.args.ordered c.requires.told.recorded c.give.ensures.ordered c.give.result (sym c.is_first_start.ensures.exact ∙ c.if-is_first_start.false) c.give.ensures.answered c.give.ensures.tried

@@ -1,9 +1,12 @@
-use Rattle.std.proofs.Common.{◌≡◌, ◌∙◌, List, ap, sym, subst, rules}
+use Rattle.std.proofs.Common.{◌≡◌, ◌∙◌, ◌<◌, ℕ, List, ap, length, sym, subst, rules}
 use Rattle.script_links.specs.Links.{IsLinkAt, links_of}
 use Rattle.script_links.specs.declared.links.Link.{Link}
 use Rattle.std.specs.Result.{IsErrAnd}
 use Rattle.script_container.proofs.Shown.{passed_on}
-use Rattle.script_run.proofs.Held.{release_none}
+use Rattle.script_model.specs.Events.{running}
+use Rattle.script_run.proofs.Held.{linked_there, release_none}
+use Rattle.script_run.proofs.Lines.{told_none, told_some}
+use Rattle.script_run.proofs.Starting.{linked_runs}
 use Rattle.script_run.proofs.commands.release_link.Goals as goal
 
 pub returns-in_err-release-clause-shown : goal.returns-in_err-release-clause-shown
@@ -21,3 +24,14 @@ returns-in_err-release-clause-holding g c = λ f hold. c.release.ensures.holding
 
 pub returns-clause-holding : goal.returns-clause-holding
 returns-clause-holding g c = λ f hold. c.release.ensures.holding f c.args.inc (subst (λ (ls : List Link). IsLinkAt ls c.in-Some.place c.args.inc) c.deref.ensures.value c.in-Some.ensures.there) hold
+
+pub returns-in_default-clause-first : goal.returns-in_default-clause-first
+returns-in_default-clause-first g c =
+    let none : running c.args.inc (g.H.Host.told c.args.host.now) ≡ 0 = c.requires.linked c.args.inc ∙ ap (links_of c.args.inc) (sym c.deref.ensures.value) ∙ c.in_default.ensures.none in
+    told_none (running c.args.inc (g.H.Host.told c.args.host.now)) none
+
+pub returns-clause-first : goal.returns-clause-first
+returns-clause-first g c =
+    told_some (running c.args.inc (g.H.Host.told c.args.host.now))
+    (linked_runs c.args.inc (g.H.Host.told c.args.host.now) c.args.links.now.items c.requires.linked
+    (linked_there c.args.inc c.args.links.now.items c.in-Some.place (subst (λ (ls : List Link). c.in-Some.place < length ls) c.deref.ensures.value c.in-Some.ensures.within) (subst (λ (ls : List Link). IsLinkAt ls c.in-Some.place c.args.inc) c.deref.ensures.value c.in-Some.ensures.there)))

@@ -8,6 +8,7 @@ use Rattle.script_run.proofs.Carried.{last_begun, left_held, so_far_more}
 use Rattle.script_run.proofs.Faulted.{handed_on}
 use Rattle.script_run.proofs.Held.{some_held}
 use Rattle.script_run.proofs.Settled.{settled_by}
+use Rattle.script_run.proofs.Writing.{lines_all, lines_held, lines_left, lines_more}
 use Rattle.std.specs.Result.{IsErrAnd}
 use Rattle.script_run.proofs.script.carry_out_all.Goals as goal
 
@@ -22,6 +23,9 @@ loop-place-preserved g c =
       served = c.in_ok-carry_out.ensures.served;
       quiet = c.in_ok-carry_out.ensures.quiet;
       saved = c.in_ok-carry_out.ensures.saved;
+      lines = lines_more g.H.Disk.Disk (g.H.Host.told c.loop-place.host) (g.H.Host.told c.begins.new.host) (g.H.Host.told c.carry_out.new.host) c.loop-place.links.items c.args.commands.items (into_iter_items c.loop-place.place-iterator.iter)
+          (into_iter_items c.next.new.self.iter) c.in-Some.command c.loop-place.place-iterator.count c.in-Some.place c.next.new.self.count (g.W.Write.contents c.args.writer.now) (g.W.Write.contents c.loop-place.writer) (g.W.Write.contents c.carry_out.new.writer)
+          c.loop-place.invariant.so_far items at c.begins.ensures.noted c.carry_out.ensures.standing c.loop-place.invariant.lines counts c.in_ok-carry_out.ensures.printed;
       so_far = so_far_more (g.H.Host.told c.loop-place.host) (g.H.Host.told c.begins.new.host) (g.H.Host.told c.carry_out.new.host) c.loop-place.links.items c.carry_out.new.links.items c.args.commands.items (into_iter_items c.loop-place.place-iterator.iter)
           (into_iter_items c.next.new.self.iter) c.in-Some.command c.loop-place.place-iterator.count c.in-Some.place c.next.new.self.count c.loop-place.invariant.so_far at counts items c.begins.ensures.ordered c.in_ok-carry_out.ensures.ordered c.carry_out.ensures.holding;
     }
@@ -51,3 +55,28 @@ pub returns-clause-settled : goal.returns-clause-settled
 returns-clause-settled g c =
     settled_by (g.H.Host.told c.loop-place.host) c.loop-place.core c.loop-place.links.items c.loop-place.invariant.told c.loop-place.invariant.linked c.loop-place.invariant.quiet c.loop-place.invariant.saved
     (ap is_any_held (sym c.deref.ensures.value) ∙ sym c.is_any_held.ensures ∙ c.if-is_any_held.false)
+
+pub carry_out-requires-clause-begins : goal.carry_out-requires-clause-begins
+carry_out-requires-clause-begins g c = record { place = c.in-Some.place; before = g.H.Host.told c.loop-place.host; last = c.begins.ensures.noted }
+
+pub returns-in_err-carry_out-clause-begun_printed : goal.returns-in_err-carry_out-clause-begun_printed
+returns-in_err-carry_out-clause-begun_printed g c =
+    let items : into_iter_items c.loop-place.place-iterator.iter ≡ c.in-Some.command ∷ into_iter_items c.next.new.self.iter = search rules in
+    let at : c.in-Some.place ≡ c.loop-place.place-iterator.count = search rules in
+    let again : IsErrAnd c.from_residual.result (λ x. x ≡ c.in_err-carry_out.field-0.0) = search rules in
+    lines_left g.H.Disk.Disk (g.H.Host.told c.loop-place.host) (g.H.Host.told c.begins.new.host) (g.H.Host.told c.carry_out.new.host) c.loop-place.links.items c.args.commands.items (into_iter_items c.loop-place.place-iterator.iter)
+    (into_iter_items c.next.new.self.iter) c.in-Some.command c.loop-place.place-iterator.count c.in-Some.place c.next.new.self.count (g.W.Write.contents c.args.writer.now) (g.W.Write.contents c.loop-place.writer) (g.W.Write.contents c.carry_out.new.writer)
+    c.loop-place.invariant.so_far items at c.begins.ensures.noted c.carry_out.ensures.standing c.loop-place.invariant.lines c.from_residual.result c.in_err-carry_out.field-0.0 again c.in_err-carry_out.ensures.unwritten
+
+pub returns-then-is_any_held-clause-begun_printed : goal.returns-then-is_any_held-clause-begun_printed
+returns-then-is_any_held-clause-begun_printed g c =
+    let none : into_iter_items c.loop-place.place-iterator.iter ≡ [] = nil_from_length (into_iter_items c.loop-place.place-iterator.iter) (sym c.loop-place.place-iterator.iter.rest.ok.0 ∙ c.in-None.ensures.steps.0.0) in
+    lines_held g.H.Disk.Disk c.args.commands.items (g.H.Host.told c.loop-place.host) (g.W.Write.contents c.args.writer.now) (g.W.Write.contents c.loop-place.writer)
+    (lines_all g.H.Disk.Disk c.loop-place.links.items (g.H.Host.told c.loop-place.host) c.args.commands.items (into_iter_items c.loop-place.place-iterator.iter) c.loop-place.place-iterator.count (g.W.Write.contents c.args.writer.now) (g.W.Write.contents c.loop-place.writer) none
+    c.loop-place.invariant.so_far c.loop-place.invariant.lines)
+
+pub returns-clause-printed : goal.returns-clause-printed
+returns-clause-printed g c =
+    let none : into_iter_items c.loop-place.place-iterator.iter ≡ [] = nil_from_length (into_iter_items c.loop-place.place-iterator.iter) (sym c.loop-place.place-iterator.iter.rest.ok.0 ∙ c.in-None.ensures.steps.0.0) in
+    lines_all g.H.Disk.Disk c.loop-place.links.items (g.H.Host.told c.loop-place.host) c.args.commands.items (into_iter_items c.loop-place.place-iterator.iter) c.loop-place.place-iterator.count (g.W.Write.contents c.args.writer.now) (g.W.Write.contents c.loop-place.writer) none
+    c.loop-place.invariant.so_far c.loop-place.invariant.lines

@@ -5,6 +5,7 @@ use Rattle.script_links.specs.Links.{AreLinked, AreServed}
 use Rattle.script_links.specs.Shown.{AreQuiet}
 use Rattle.script_links.specs.Told.{IsTold}
 use Rattle.script_run.proofs.Carried.{SoFar}
+use Rattle.script_run.specs.Printed.{HasLines}
 use Rattle.script_run.proofs.script.carry_out_all.Given as goal
 
 abbrev pub invariant-loop-place : goal.invariant-loop-place
@@ -14,5 +15,6 @@ invariant-loop-place g l = record {
   served : AreServed (g.H.Host.told l.host) l.links.items;
   quiet : AreQuiet l.core.objects l.links.items;
   saved : is_any_unsaved l.core.frames ≡ false;
+  lines : HasLines g.H.Disk.Disk l.fn.commands.items l.place-iterator.count (g.H.Host.told l.host) (g.W.Write.contents l.fn.writer) (g.W.Write.contents l.writer);
   so_far : SoFar (g.H.Host.told l.host) l.links.items l.fn.commands.items (into_iter_items l.place-iterator.iter) l.place-iterator.count;
 }

@@ -1,9 +1,10 @@
 use Rattle.std.proofs.Common.{◌≡◌, ap, false}
 use Rattle.container_model.specs.Record.{Record}
-use Rattle.script_model.specs.Errors.{is_asked}
+use Rattle.script_model.specs.Errors.{before_ends, is_asked}
 use Rattle.script_model.specs.Saved.{is_any_unsaved}
 use Rattle.script_run.proofs.Faulted.{ended_so, unread_so}
 use Rattle.script_run.proofs.Settled.{settled_still}
+use Rattle.script_run.proofs.Writing.{all_ended, of_commands, some_ended, unread_none}
 use Rattle.script_run.proofs.script.run_script.Goals as goal
 
 pub returns-in-Err-clause-faulted : goal.returns-in-Err-clause-faulted
@@ -22,3 +23,18 @@ carry_out_all-told-requires-clause-quiet g c = λ s asked. let none : is_asked s
 
 pub carry_out_all-told-requires-clause-saved : goal.carry_out_all-told-requires-clause-saved
 carry_out_all-told-requires-clause-saved g c = ap (λ (r : Record). is_any_unsaved r.frames) c.new-core.ensures.empty
+
+pub returns-in-Err-clause-begun_printed : goal.returns-in-Err-clause-begun_printed
+returns-in-Err-clause-begun_printed g c =
+    unread_none g.H.Disk.Disk (before_ends (g.H.Host.told c.args.host.now)) (g.R.Read.remaining c.args.reader.now) (g.W.Write.contents c.args.writer.now) c.in-Err.fault c.in-Err.ensures.refused
+
+pub returns-clause-printed : goal.returns-clause-printed
+returns-clause-printed g c =
+    all_ended g.H.Disk.Disk c.carry_out_all-told.result (g.R.Read.remaining c.args.reader.now) c.in-Ok.commands.items (g.H.Host.told c.carry_out_all-told.new.host) (g.H.Host.told c.end_all.new.host) c.carry_out_all-told.new.core
+    (g.W.Write.contents c.args.writer.now) (g.W.Write.contents c.carry_out_all-told.new.writer) c.in-Ok.ensures.read c.carry_out_all-told.ensures.told c.end_all.ensures.ends c.carry_out_all-told.ensures.printed
+
+pub returns-clause-begun_printed : goal.returns-clause-begun_printed
+returns-clause-begun_printed g c =
+    some_ended g.H.Disk.Disk c.carry_out_all-told.result (g.R.Read.remaining c.args.reader.now) c.in-Ok.commands.items (g.H.Host.told c.carry_out_all-told.new.host) (g.H.Host.told c.end_all.new.host) c.carry_out_all-told.new.core
+    (g.W.Write.contents c.args.writer.now) (g.W.Write.contents c.carry_out_all-told.new.writer) c.in-Ok.ensures.read c.carry_out_all-told.ensures.told c.end_all.ensures.ends
+    (of_commands g.H.Disk.Disk c.carry_out_all-told.result c.in-Ok.commands.items (g.H.Host.told c.carry_out_all-told.new.host) c.carry_out_all-told.ensures.shown) c.carry_out_all-told.ensures.begun_printed

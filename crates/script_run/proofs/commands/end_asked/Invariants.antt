@@ -1,9 +1,10 @@
 use Rattle.std.proofs.Common.{◌≡◌, Bool, ℕ}
-use Rattle.script_model.specs.Orders.{asked}
 use Rattle.script_model.specs.Bounds.{pace}
+use Rattle.script_model.specs.Courses.{course}
+use Rattle.script_model.specs.Notices.{Tells, notices}
 use Rattle.script_links.specs.Links.{AreLinked, AreServed, HoldFor}
 use Rattle.script_links.specs.Told.{IsTold}
-use Rattle.script_run.proofs.commands.act.Given as goal
+use Rattle.script_run.proofs.commands.end_asked.Given as goal
 
 abbrev pub invariant-loop-action : goal.invariant-loop-action
 invariant-loop-action g l = record {
@@ -12,5 +13,6 @@ invariant-loop-action g l = record {
   served : AreServed (g.H.Host.told l.host) l.links.items;
   paced : (s : ℕ) → pace s (g.H.Host.told l.host) ≡ pace s (g.H.Host.told l.fn.host);
   holding : (f : ℕ → Bool) → HoldFor f l.fn.links.items → HoldFor f l.links.items;
-  ordered : asked (g.H.Host.told l.host) ≡ asked (g.H.Host.told l.fn.host);
+  ordered : course (g.H.Host.told l.host) ≡ course (g.H.Host.told l.fn.host);
+  seen : Tells (notices (g.H.Host.told l.host)) l.noticed;
 }

@@ -1,0 +1,15 @@
+use Rattle.std.proofs.Common.{refl}
+use Rattle.script_model.specs.Courses.{course}
+use Rattle.script_run.proofs.Reading.{found_made}
+use Rattle.script_run.specs.Printed.{bad, void}
+use Rattle.script_run.proofs.opens.open_found.Goals as goal
+
+pub returns-in-Ok-Some-clause-opened : goal.returns-in-Ok-Some-clause-opened
+returns-in-Ok-Some-clause-opened g c =
+    found_made (course (g.H.Host.told c.args.host.now)) (course (g.H.Host.told c.make_frame.new.host)) c.args.name c.args.width c.args.height c.args.file.now c.make_frame.result c.make_frame.ensures.made
+
+pub returns-in-Ok-None-clause-opened : goal.returns-in-Ok-None-clause-opened
+returns-in-Ok-None-clause-opened g c = bad refl refl c.in-Ok-None.ensures.given
+
+pub returns-then-is_empty-clause-opened : goal.returns-then-is_empty-clause-opened
+returns-then-is_empty-clause-opened g c = ?
