@@ -3,7 +3,8 @@
 #![tactic(auto)]
 
 use doc_store::store::Store;
-use file_disk::file_disk::FileDisk;
+use file_disk::opening::open;
+use file_disk::system_names::SystemNames;
 use std::fs::File;
 use std::process::ExitCode;
 use std::rt::{Files, Runtime};
@@ -17,8 +18,8 @@ const USAGE: u8 = 2;
 const REFUSED: u8 = 3;
 
 /// Opens the document of a name.
-fn open<R: Files<File = File> + AllocGlobal>(rt: &R, name: &str) -> Result<(), StoreFault> {
-    let disk = FileDisk::open(rt, name)?;
+fn open_only<R: Files<File = File> + AllocGlobal>(rt: &R, name: &str) -> Result<(), StoreFault> {
+    let disk = open(&mut SystemNames::new(rt), name)?;
     match Store::open(rt.alloc(), disk) {
         Ok(_) => Ok(()),
         Err(refused) => Err(refused.fault),
@@ -31,7 +32,7 @@ fn commit<R: Files<File = File> + AllocGlobal>(
     name: &str,
     bytes: &[u8],
 ) -> Result<(), StoreFault> {
-    let disk = FileDisk::open(rt, name)?;
+    let disk = open(&mut SystemNames::new(rt), name)?;
     match Store::open(rt.alloc(), disk) {
         Ok(mut store) => store.commit(bytes),
         Err(refused) => Err(refused.fault),
@@ -52,7 +53,7 @@ fn told<R: Runtime>(rt: &R, outcome: Result<(), StoreFault>) -> io::Result<ExitC
 fn run<R: Runtime<File = File> + AllocGlobal>(rt: &R) -> io::Result<ExitCode> {
     let words: Vec<String> = env::args(rt)?.collect(rt.alloc())?;
     match words.as_slice() {
-        [_, name] => told(rt, open(rt, name.as_str())),
+        [_, name] => told(rt, open_only(rt, name.as_str())),
         [_, name, file] => {
             let bytes = fs::read(rt, file.as_str())?;
             told(rt, commit(rt, name.as_str(), &bytes))

@@ -32,4 +32,4 @@ module _ (old new : List ℕ) (small : length new ≤ MAX_DOCUMENT) where
 
 -- while the document is staged
 pub staging : (old new : List ℕ) (before image : Image) → before.document ≡ old → IsStaging before image → IsBeforeOrAfter old new image
-staging old new before image is staged = inl (closed_stands image staged.1 ∙ ap (λ (d : List ℕ). Some d) (staged.0 ∙ is))
+staging old new before image is staged = inl (closed_stands image staged.1.shut ∙ ap (λ (d : List ℕ). Some d) (staged.0 ∙ is))

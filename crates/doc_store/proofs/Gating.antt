@@ -5,9 +5,10 @@ use Rattle.std.proofs.lemmas.Bool.Decides.{nat_tests}
 use Rattle.store_model.specs.Crash.{Torn}
 use Rattle.store_model.specs.Image.{Image, changed}
 use Rattle.store_model.specs.Journal.{changed_document, is_open, is_whole, restored}
-use Rattle.store_model.specs.Store.{IsClosed, StandsFor}
+use Rattle.store_model.specs.Store.{StandsFor}
 use Rattle.store_model.specs.declared.area.Area.TheVariants.{Document}
 use Rattle.store_model.proofs.Installed.{restores}
+use Rattle.doc_store.specs.Resting.{IsShut}
 use Rattle.doc_store.specs.Steps.{IsGating}
 
 -- a gate that isn't open leaves the document area
@@ -20,8 +21,8 @@ closed_is_shut journal shut = grind (arith, nat_tests)
 short_is_shut : (journal : List ℕ) → length journal < 9 → is_open journal ≡ false
 short_is_shut journal short = grind (arith, nat_tests)
 
-pub closed_stands : (image : Image) → IsClosed image.journal → StandsFor image.document image
-closed_stands image closed = shut_stands image (closed_is_shut image.journal closed.shut)
+pub closed_stands : (image : Image) → IsShut image.journal → StandsFor image.document image
+closed_stands image shut = shut_stands image (closed_is_shut image.journal shut)
 
 short_stands : (image : Image) → length image.journal < 9 → StandsFor image.document image
 short_stands image short = shut_stands image (short_is_shut image.journal short)
@@ -64,3 +65,7 @@ gate_closes old at image gate whole written stands gating =
   where
     both : (a b : Image) → a.document ≡ b.document → a.journal ≡ b.journal → a ≡ b
     both a b document journal = ap (λ (d : List ℕ). record { document = d; journal = a.journal }) document ∙ ap (λ (j : List ℕ). record { document = b.document; journal = j }) journal
+
+-- a journal that is shut isn't open
+pub shut_not_open : (journal : List ℕ) → IsShut journal → is_open journal ≡ true → ⊥
+shut_not_open journal shut gate = shut (open_there journal gate).1

@@ -1,4 +1,5 @@
 pub mod Crashes
 pub mod Opened
 pub mod Resolved
+pub mod Resting
 pub mod Steps

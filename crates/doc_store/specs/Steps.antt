@@ -1,5 +1,5 @@
 -- What the steps of `open` and `commit` find, write, and may leave.
-use Rattle.std.specs.Prelude.{◌≡◌, ◌<◌, ℕ, List, length, true}
+use Rattle.std.specs.Prelude.{◌≡◌, ◌<◌, ℕ, List, get_or, length, true}
 use Rattle.store_model.specs.Crash.{Torn}
 use Rattle.store_model.specs.Image.{Image}
 use Rattle.store_model.specs.Journal.{count_in, form_in, is_open, is_whole, restored, size_in}
@@ -7,8 +7,9 @@ use Rattle.store_model.specs.Store.{IsClosed}
 use Rattle.doc_store.specs.declared.found.Change.{Change}
 use Rattle.doc_store.specs.declared.found.Change.TheVariants.{Blocks, Whole}
 use Rattle.doc_store.specs.declared.found.Found.{Found}
-use Rattle.doc_store.specs.declared.found.Found.TheVariants.{Closed, NoGate, Open}
-use Rattle.store_model.specs.declared.journal.TheConstants.{BLOCKS, HEADER, WHOLE}
+use Rattle.doc_store.specs.declared.found.Found.TheVariants.{Closed, Short, Open}
+use Rattle.store_model.specs.declared.journal.TheConstants.{BLOCKS, HEADER, OPEN, WHOLE}
+use Rattle.doc_store.specs.Resting.{IsShut}
 
 -- the document's new length
 abbrev pub new_size : Change → ℕ
@@ -28,8 +29,8 @@ pub record IsOpenWith (change : Change) (image : Image) : Type 0 where
 
 -- what `open` finds in the journal
 abbrev pub Finds : Image → Found → Type 0
-Finds image Closed = IsClosed image.journal
-Finds image NoGate = length image.journal < HEADER
+Finds image Closed = IsShut image.journal
+Finds image Short = (length image.journal < HEADER) × (get_or image.journal 0 0 ≡ OPEN)
 Finds image (Open change) = IsOpenWith change image
 
 -- while a document is staged: the document area is as it was, and the gate is closed

@@ -26,7 +26,7 @@ pub(crate) fn find<D: Disk>(disk: &mut D) -> Result<Found, StoreFault>
 {
     let size = length_of(disk, Area::Journal)?;
     if size == 0 {
-        return Ok(Found::NoGate);
+        return Ok(Found::Closed);
     }
     let mut gate = [0u8];
     read_into(disk, Area::Journal, 0, &mut gate)?;
@@ -34,7 +34,7 @@ pub(crate) fn find<D: Disk>(disk: &mut D) -> Result<Found, StoreFault>
         return Ok(Found::Closed);
     }
     if size < HEADER {
-        return Ok(Found::NoGate);
+        return Ok(Found::Short);
     }
     let change = find_change(disk, size)?;
     Ok(Found::Open(change))

@@ -27,11 +27,11 @@ impl Change {
 /// What `open` finds in the journal.
 #[derive(Clone, Copy)]
 pub(crate) enum Found {
-    /// A gate that isn't open, so the document area counts.
+    /// A gate that isn't open, or no byte at all, so the document area counts.
     Closed,
-    /// No byte at all, or an open gate with no room for a length behind it: the document area counts, and the gate has
-    /// to be closed before the next commit.
-    NoGate,
+    /// An open gate with no room for a length behind it: the document area counts, and the gate has to be closed before
+    /// the next commit.
+    Short,
     /// An open gate, and this behind it.
     Open(Change),
 }

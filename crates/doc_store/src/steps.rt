@@ -2,8 +2,9 @@
 
 ghost use Rattle.store_model.specs.Crash.{Counts, Only, Quiet, StaysIn};
 ghost use Rattle.store_model.specs.Image.{changed, put};
-ghost use Rattle.store_model.specs.Store.{ReadRefuses};
+ghost use Rattle.store_model.specs.Store.{ReadRefuses, Rests, StandsFor};
 ghost use Rattle.store_model.specs.declared.area.Area.TheVariants.{Journal};
+ghost use Rattle.doc_store.specs.Resting.{IsAtRest};
 ghost use Rattle.doc_store.specs.Steps.{IsGating};
 ghost use Rattle.std.specs.Prelude.{◌≡◌, [], ◌∷◌, IfErr, IfOk, OnOk};
 
@@ -12,6 +13,7 @@ use std::alloc::Global;
 use store_model::area::Area;
 use store_model::disk::{Disk, DiskFailure};
 use store_model::fault::StoreFault;
+use store_model::journal::CLOSED;
 
 /// Syncs both areas, one after the other, so that a crash leaves what reads give.
 pub(crate) fn settle<D: Disk>(disk: &mut D) -> Result<(), DiskFailure>
@@ -34,6 +36,21 @@ pub(crate) fn set_gate<D: Disk>(disk: &mut D, gate: u8) -> Result<(), DiskFailur
 {
     disk.write(Area::Journal, 0, &[gate])?;
     sync_area(disk, Area::Journal)
+}
+
+/// Gives an empty journal a closed gate, which lasts: behind one a commit may be written.
+pub(crate) fn give_gate<D: Disk>(disk: &mut D) -> Result<(), DiskFailure>
+    requires rests { D.follows_model → IsAtRest D.reads D.may_leave disk.old }
+    ensures rests { D.follows_model → OnOk result (Rests D.reads D.may_leave disk.new) }
+    ensures document { D.follows_model → OnOk result ((D.reads disk.new).document ≡ (D.reads disk.old).document) }
+    ensures stays { D.follows_model → StaysIn D.may_leave D.moment D.left_since disk.old disk.new (StandsFor (D.reads disk.old).document) }
+    ensures count { Counts (D.failed disk.old) (D.failed disk.new) result }
+{
+    let size = length_of(disk, Area::Journal)?;
+    if size > 0 {
+        return Ok(());
+    }
+    set_gate(disk, CLOSED)
 }
 
 /// Reads the document area.

@@ -1,6 +1,6 @@
 //! A document that is committed through a journal.
 
-ghost use Rattle.store_model.specs.Store.{Rests};
+ghost use Rattle.doc_store.specs.Resting.{IsAtRest};
 ghost use Rattle.std.specs.Prelude.{◌≡◌, false};
 
 use crate::calls::length_of;
@@ -14,31 +14,34 @@ use store_model::disk::Disk;
 use store_model::fault::StoreFault;
 use store_model::limit::MAX_DOCUMENT;
 
-/// A document on a disk. Where it needn't be opened again, a crash leaves what reads give, and the gate of the journal
-/// is closed there.
+/// A document on a disk. Where it needn't be opened again, a crash leaves what reads give, and there no gate is open: the
+/// journal is closed, or empty.
 #[derive(Drop)]
 pub struct Store<D: Disk> {
     alloc: Global,
     disk: D,
     needs_reopen: bool,
-    ghost rests: { needs_reopen ≡ false → D.follows_model → Rests D.reads D.may_leave disk },
+    ghost rests: { needs_reopen ≡ false → D.follows_model → IsAtRest D.reads D.may_leave disk },
 }
 
 impl<D: Disk> Store<D> {
     ghost use Rattle.store_model.specs.Changes.{journal_from};
-    ghost use Rattle.store_model.specs.Crash.{StaysIn};
+    ghost use Rattle.store_model.specs.Crash.{Quiet, StaysIn};
     ghost use Rattle.store_model.specs.declared.journal.TheConstants.{CLOSED};
     ghost use Rattle.store_model.specs.Image.{Image};
     ghost use Rattle.store_model.specs.Journal.{restored};
     ghost use Rattle.doc_store.specs.Crashes.{Crashed, LeavesCrashed};
     ghost use Rattle.doc_store.specs.Opened.{disk_of, needs_reopen_of};
     ghost use Rattle.doc_store.specs.Resolved.{IsEither, LeavesEither};
+    ghost use Rattle.doc_store.specs.Resting.{IsShut};
     ghost use Rattle.store_model.specs.Store.{CommitRefuses, CurrentRefuses, HoldsRefuses, IsBeforeOrAfter, OpenRefuses, StandsAsOneOf, StandsFor, UnlessDevice};
     ghost use Rattle.store_model.specs.declared.fault.StoreFault.TheVariants.{TooBig};
     ghost use Rattle.std.specs.Prelude.{◌↔◌, ◌≢◌, ◌≤◌, ◌<◌, true, Err, IfErr, IfOk, IsTrue, OnErr, OnOk, length, List, ℕ};
 
     /// Opens the store on a disk that a crash may have left, with writes pending too. Its document is that of an open
     /// journal, which is then written and the journal closed, else the document area's.
+    ///
+    /// Where no gate is open no byte is changed, and an empty journal stays empty. So a full device opens too.
     ///
     /// Where a commit crashed, and then any number of opens, an open that ends gives the document from before the commit
     /// or that of the commit.
@@ -50,9 +53,12 @@ impl<D: Disk> Store<D> {
     pub fn open(alloc: Global, disk: D) -> Result<Store<D>, Refused<D>>
         ensures document { D.follows_model → IfOk result (λ store. restored (D.reads disk) ≡ Some (D.reads (disk_of store)).document) }
         ensures ready { IfOk result (λ store. needs_reopen_of store ≡ false) }
-        ensures rests { D.follows_model → IfOk result (λ store. Rests D.reads D.may_leave (disk_of store)) }
+        ensures rests { D.follows_model → IfOk result (λ store. IsAtRest D.reads D.may_leave (disk_of store)) }
         ensures any_moment { D.follows_model → IfOk result (λ store. StaysIn D.may_leave D.moment D.left_since disk (disk_of store) (StandsAsOneOf (D.may_leave disk))) }
         ensures any_moment_refused { D.follows_model → IfErr result (λ refused. StaysIn D.may_leave D.moment D.left_since disk refused.disk (StandsAsOneOf (D.may_leave disk))) }
+        ensures same { D.follows_model → IsShut (D.reads disk).journal → IfOk result (λ store. D.reads (disk_of store) ≡ D.reads disk) }
+        ensures quiet { D.follows_model → IsShut (D.reads disk).journal → IfOk result (λ store. Quiet D.may_leave D.moment D.left_since disk (disk_of store)) }
+        ensures quiet_refused { D.follows_model → IsShut (D.reads disk).journal → IfErr result (λ refused. Quiet D.may_leave D.moment D.left_since disk refused.disk) }
         ensures ends { D.follows_model → (old new : List ℕ) → Crashed D.may_leave D.moment D.left_since old new disk → IfOk result (λ store. IsEither old new (D.reads (disk_of store)).document) }
         ensures crashes { D.follows_model → (old new : List ℕ) → Crashed D.may_leave D.moment D.left_since old new disk → IfOk result (λ store. LeavesCrashed D.may_leave D.moment D.left_since disk (disk_of store) old new) }
         ensures crashes_refused { D.follows_model → (old new : List ℕ) → Crashed D.may_leave D.moment D.left_since old new disk → IfErr result (λ refused. LeavesCrashed D.may_leave D.moment D.left_since disk refused.disk old new) }

@@ -4,7 +4,8 @@
 //! removed while it is held: whoever waits for it finds that it isn't the one of its name any more.
 
 use edit_lines::change::Change;
-use file_disk::file_disk::FileDisk;
+use file_disk::opening::find;
+use file_disk::system_names::SystemNames;
 use file_editing::editing::{Edited, Ending, edit_document};
 use file_editing::fault::EditFault;
 use program_ends::ends::refuse;
@@ -36,7 +37,7 @@ pub(crate) fn change_file<R: Runtime<File = File> + AllocGlobal>(
         return refuse(rt, &Report::File(path, "NoMemory"));
     };
     let is_new = is_missing(rt, journal.as_str());
-    match FileDisk::find(rt, path) {
+    match find(&mut SystemNames::new(rt), path) {
         Ok(Some(disk)) => {
             let ending = edit_document(rt.alloc(), disk, changes, is_zeroed);
             if is_new && ending.is_settled {

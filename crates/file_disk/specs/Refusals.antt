@@ -1,12 +1,13 @@
 -- Why files aren't opened.
-use Rattle.std.specs.Prelude.{⊤}
+use Rattle.std.specs.Prelude.{ℕ}
+use Rattle.store_model.specs.Crash.{Rose}
 use Rattle.store_model.specs.declared.fault.StoreFault.{StoreFault}
 use Rattle.store_model.specs.declared.fault.StoreFault.TheVariants.{Device, NeedsReopen, TooBig, Damaged, NoMemory}
 
--- the system refuses, or there is no memory for a name
-abbrev pub FilesRefuse : StoreFault → Type 0
-FilesRefuse Device = ⊤
-FilesRefuse NeedsReopen = ⊥
-FilesRefuse TooBig = ⊥
-FilesRefuse Damaged = ⊥
-FilesRefuse NoMemory = ⊤
+-- a call failed, by the count of these before and after: the system refused it, or there was no memory for a name
+abbrev pub FilesRefuse : ℕ → ℕ → StoreFault → Type 0
+FilesRefuse before after Device = Rose before after
+FilesRefuse before after NeedsReopen = ⊥
+FilesRefuse before after TooBig = ⊥
+FilesRefuse before after Damaged = ⊥
+FilesRefuse before after NoMemory = Rose before after

@@ -4,4 +4,7 @@
 pub mod disk_files;
 pub mod file_disk;
 mod loops;
+pub mod names;
+pub mod opening;
 pub mod system_files;
+pub mod system_names;

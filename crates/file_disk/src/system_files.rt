@@ -2,19 +2,15 @@
 //! and of crashes.
 
 ghost use Rattle.store_model.specs.Image.{Image};
-ghost use Rattle.file_disk.specs.Refusals.{FilesRefuse};
-ghost use Rattle.std.specs.Prelude.{◌≡◌, ◌≤◌, [], false, true, length, IfErr, IfOk, IfSome};
+ghost use Rattle.std.specs.Prelude.{◌≤◌, [], false, true, length, IfOk};
 
 use crate::disk_files::DiskFiles;
-use crate::file_disk::FileDisk;
 use std::fs::{self, File, Metadata, OpenOptions, Permissions, TryLockError};
 use std::io::{self, ErrorKind};
 use std::os::unix::fs::{FileExt, MetadataExt, OpenOptionsExt, PermissionsExt, fchown};
 use std::path::PathBuf;
 use std::rt::Files;
 use store_model::area::Area;
-use store_model::fault::StoreFault;
-use store_model::journal::{CLOSED, HEADER, OPEN};
 
 /// How often a call that a signal interrupted is made again.
 const MOST_TRIES: usize = 1_000;
@@ -53,61 +49,17 @@ impl SystemFiles {
     }
 }
 
-impl FileDisk<SystemFiles> {
-    ghost use Rattle.file_disk.specs.Files.{failures_of, sync_may_lie_of};
-
-    /// Opens the files NAME and NAME.journal, and makes those that are missing: the journal first, and the document once that is
-    /// held. A journal that is made gets the document's owner. A journal holds the document's bytes: each time it is opened, who
-    /// may not read or write the document may not read or write it either, before a byte is written.
-    ///
-    /// `Device` where the system refuses to make, open or lock one of them: a link or a folder of either name isn't opened, nor is a
-    /// journal that is open elsewhere, in this program or another, or that is neither the user's nor the document's owner's. What
-    /// was made is removed then. `NoMemory` where there is none for their names.
-    pub fn open<R: Files<File = File> + AllocGlobal>(
-        rt: &R,
-        name: &str,
-    ) -> Result<FileDisk<SystemFiles>, StoreFault>
-        ensures failed { IfOk result (λ disk. failures_of disk ≡ 0) }
-        ensures sync { IfOk result (λ disk. sync_may_lie_of disk ≡ false) }
-        ensures refuses { IfErr result FilesRefuse }
-    {
-        match open_files(rt, name) {
-            Ok(files) => Ok(FileDisk::new(files)),
-            Err(error) => Err(fault_of(&error)),
-        }
-    }
-
-    /// Opens them where the document is there, or an open journal, which holds one: else `None`, and then nothing is made. Refused as
-    /// `open` is.
-    pub fn find<R: Files<File = File> + AllocGlobal>(
-        rt: &R,
-        name: &str,
-    ) -> Result<Option<FileDisk<SystemFiles>>, StoreFault>
-        ensures failed { IfOk result (λ found. IfSome found (λ disk. failures_of disk ≡ 0)) }
-        ensures sync { IfOk result (λ found. IfSome found (λ disk. sync_may_lie_of disk ≡ false)) }
-        ensures refuses { IfErr result FilesRefuse }
-    {
-        match find_files(rt, name) {
-            Ok(Some(files)) => Ok(Some(FileDisk::new(files))),
-            Ok(None) => Ok(None),
-            Err(error) => Err(fault_of(&error)),
-        }
-    }
-}
-
-/// What an error of the system is to a store.
-fn fault_of(error: &io::Error) -> StoreFault
-    ensures { FilesRefuse result }
-{
-    if error.kind() == ErrorKind::OutOfMemory {
-        StoreFault::NoMemory
-    } else {
-        StoreFault::Device
-    }
-}
-
-/// The files of a document, of which those that are missing are made. Where that fails, none that was made is left.
-fn open_files<R: Files<File = File> + AllocGlobal>(rt: &R, name: &str) -> io::Result<SystemFiles> {
+/// The files NAME and NAME.journal of a document. Those that are missing are made: the journal first, and the document once that is
+/// held. A journal that is made gets the document's owner. A journal holds the document's bytes: each time it is opened, who may not
+/// read or write the document may not read or write it either, before a byte is written.
+///
+/// Refused where the system refuses to make, open or lock one of them: a link or a folder of either name isn't opened, nor is a journal
+/// that is open elsewhere, in this program or another, or that is neither the user's nor the document's owner's. What was made is
+/// removed then.
+pub(crate) fn open_files<R: Files<File = File> + AllocGlobal>(
+    rt: &R,
+    name: &str,
+) -> io::Result<SystemFiles> {
     let journal_name = format!(in rt.alloc(); "{name}.journal")?;
     let folder = open_folder(rt, name)?;
     let found = open_found(rt, name)?;
@@ -127,28 +79,6 @@ fn open_files<R: Files<File = File> + AllocGlobal>(rt: &R, name: &str) -> io::Re
     }
 }
 
-/// The files of a document that is there, or that an open journal holds.
-fn find_files<R: Files<File = File> + AllocGlobal>(
-    rt: &R,
-    name: &str,
-) -> io::Result<Option<SystemFiles>> {
-    if !is_there(rt, name)? && !is_journal_open(rt, name)? {
-        return Ok(None);
-    }
-    Ok(Some(open_files(rt, name)?))
-}
-
-/// Whether the gate of a document's journal is open, as where a commit was cut off.
-fn is_journal_open<R: Files<File = File> + AllocGlobal>(rt: &R, name: &str) -> io::Result<bool> {
-    let journal_name = format!(in rt.alloc(); "{name}.journal")?;
-    let Some(journal) = open_found(rt, journal_name.as_str())? else {
-        return Ok(false);
-    };
-    let mut gate = [0u8];
-    let n = read_file(&journal, 0, &mut gate)?;
-    Ok(n == 1 && gate[0] == OPEN && journal.metadata()?.len() >= HEADER)
-}
-
 /// A journal that is locked, and whether this call made it: one that its owner alone may read and write then.
 fn hold<R: Files<File = File>>(rt: &R, name: &str) -> io::Result<(File, bool)> {
     let (journal, is_made) = match make(rt, name, OWNER_MODE) {
@@ -164,25 +94,7 @@ fn hold<R: Files<File = File>>(rt: &R, name: &str) -> io::Result<(File, bool)> {
     if !is_same(&fs::symlink_metadata(rt, name)?, &journal.metadata()?) {
         return Err(ErrorKind::WouldBlock.into());
     }
-    if is_made {
-        shut(rt, name, &journal)?;
-    }
     Ok((journal, is_made))
-}
-
-/// Closes the gate of a journal that was made. Where there is no room for it, the journal is removed.
-fn shut<R: Files<File = File>>(rt: &R, name: &str, journal: &File) -> io::Result<()> {
-    match write_file(journal, 0, &[CLOSED]) {
-        Ok(1) => Ok(()),
-        Ok(_) => {
-            let _ = fs::remove_file(rt, name);
-            Err(ErrorKind::WriteZero.into())
-        }
-        Err(error) => {
-            let _ = fs::remove_file(rt, name);
-            Err(error)
-        }
-    }
 }
 
 /// The document beside a journal that is held, which is as private from then on: the one that was found, or one that is made.
@@ -272,15 +184,6 @@ fn is_same(one: &Metadata, other: &Metadata) -> bool {
     one.dev() == other.dev() && one.ino() == other.ino()
 }
 
-/// Whether something of this name is there.
-fn is_there<R: Files<File = File>>(rt: &R, name: &str) -> io::Result<bool> {
-    match fs::symlink_metadata(rt, name) {
-        Ok(_) => Ok(true),
-        Err(error) if error.kind() == ErrorKind::NotFound => Ok(false),
-        Err(error) => Err(error),
-    }
-}
-
 /// Locks a file against other opens of it that lock it too. Where the system has no such lock, it has none.
 fn lock(file: &File) -> io::Result<()> {
     match file.try_lock() {
@@ -302,7 +205,7 @@ fn make<R: Files<File = File>>(rt: &R, name: &str, mode: u32) -> io::Result<File
 }
 
 /// The file of this name, if one is there, and no link or folder: the one that was looked at.
-fn open_found<R: Files<File = File>>(rt: &R, name: &str) -> io::Result<Option<File>> {
+pub(crate) fn open_found<R: Files<File = File>>(rt: &R, name: &str) -> io::Result<Option<File>> {
     let looked = match fs::symlink_metadata(rt, name) {
         Ok(looked) => looked,
         Err(error) if error.kind() == ErrorKind::NotFound => return Ok(None),
@@ -329,7 +232,7 @@ fn open_folder<R: Files<File = File> + AllocGlobal>(rt: &R, name: &str) -> io::R
 }
 
 /// Reads once, and again where a signal interrupted it.
-fn read_file(file: &File, at: u64, into: &mut [u8]) -> io::Result<usize>
+pub(crate) fn read_file(file: &File, at: u64, into: &mut [u8]) -> io::Result<usize>
     ensures { IfOk result (λ n. n ≤ length into.old) }
 {
     for _ in 0..MOST_TRIES {

@@ -1,6 +1,7 @@
 -- What contracts see of a disk in memory.
-use Rattle.std.specs.Prelude.{◌≡◌, ℕ, zero, suc, List, length, Bool, true, false, Result, IsErr}
+use Rattle.std.specs.Prelude.{◌≡◌, ℕ, zero, suc, List, length, Bool, true, false, Result, IsErr, OnOk}
 use Rattle.memory_disks.specs.Calls.{image_of, reads_after, LeftAfter, LeftSince}
+use Rattle.store_model.specs.Crash.{Rose}
 use Rattle.store_model.specs.Image.{Image}
 use Rattle.memory_disks.specs.declared.areas.Call.{Call}
 use Rattle.store_model.specs.declared.disk.DiskFailure.{DiskFailure}
@@ -19,6 +20,10 @@ calls_of disk = disk.calls.items
 -- how many calls have failed
 abbrev pub failed_of : MemoryDisk → ℕ
 failed_of disk = disk.failed
+
+-- how many calls have failed for want of memory
+abbrev pub refused_of : MemoryDisk → ℕ
+refused_of disk = disk.refused
 
 -- what reads give
 abbrev pub reads_of : MemoryDisk → Image
@@ -60,3 +65,8 @@ after_call (From (suc n)) = From n
 pub record IsStruck {T : Type 0} (old new : Faults) (result : Result T DiskFailure) : Type 0 where
   pub fails : strikes old ≡ true → IsErr result
   pub next : new ≡ after_call old
+
+-- a call has answered, or it was refused memory and that is counted
+pub record IsAnswered {T : Type 0} (old new : MemoryDisk) (result : Result T DiskFailure) : Type 0 where
+  pub refused : IsErr result → Rose (refused_of old) (refused_of new)
+  pub else_same : OnOk result (refused_of new ≡ refused_of old)

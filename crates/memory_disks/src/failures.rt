@@ -13,3 +13,13 @@ pub(crate) fn fail(failed: &mut u64) -> DiskFailure
     *failed = failed.saturating_add(1);
     DiskFailure
 }
+
+/// Counts a failure for want of memory, among all of them and by itself.
+pub(crate) fn refuse(failed: &mut u64, refused: &mut u64) -> DiskFailure
+    ensures later { failed.old ≤ failed.new }
+    ensures rose { Rose failed.old failed.new }
+    ensures refused { Rose refused.old refused.new }
+{
+    *refused = refused.saturating_add(1);
+    fail(failed)
+}

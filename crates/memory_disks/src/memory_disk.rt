@@ -6,7 +6,7 @@ ghost use Rattle.store_model.specs.Image.{Image};
 ghost use Rattle.std.specs.Prelude.{◌≡◌, length};
 
 use crate::areas::{Areas, Call, log_cut, log_sync, log_write};
-use crate::failures::fail;
+use crate::failures::{fail, refuse};
 use std::alloc::{AllocError, Global};
 use store_model::area::Area;
 use store_model::disk::{Disk, DiskFailure};
@@ -59,11 +59,13 @@ pub struct MemoryDisk {
     calls: Vec<Call>,
     faults: Faults,
     failed: u64,
+    /// How many calls failed for want of memory.
+    refused: u64,
     ghost replayed: { image_of held ≡ reads_after (image_of first) calls.items },
 }
 
 impl MemoryDisk {
-    ghost use Rattle.memory_disks.specs.Memory.{calls_of, failed_of, faults_of, first_of, reads_of};
+    ghost use Rattle.memory_disks.specs.Memory.{calls_of, failed_of, faults_of, first_of, reads_of, refused_of};
     ghost use Rattle.memory_disks.specs.declared.memory_disk.Faults.TheVariants.{Never};
     ghost use Rattle.std.specs.Prelude.{[], IfOk};
 
@@ -72,6 +74,7 @@ impl MemoryDisk {
         ensures first { IfOk result (λ disk. first_of disk ≡ record { document = document.items; journal = journal.items }) }
         ensures calls { IfOk result (λ disk. calls_of disk ≡ []) }
         ensures failed { IfOk result (λ disk. failed_of disk ≡ 0) }
+        ensures refused { IfOk result (λ disk. refused_of disk ≡ 0) }
         ensures faults { IfOk result (λ disk. faults_of disk ≡ Never) }
     {
         let held = Areas { document, journal };
@@ -83,6 +86,7 @@ impl MemoryDisk {
             calls: Vec::new(alloc),
             faults: Faults::Never,
             failed: 0,
+            refused: 0,
         })
     }
 
@@ -92,8 +96,16 @@ impl MemoryDisk {
         ensures first { first_of self.new ≡ first_of self.old }
         ensures calls { calls_of self.new ≡ calls_of self.old }
         ensures failed { failed_of self.new ≡ failed_of self.old }
+        ensures refused { refused_of self.new ≡ refused_of self.old }
     {
         self.faults = faults;
+    }
+
+    /// How many calls have failed for want of memory. At its last value the count rises no more.
+    pub fn refused(&self) -> u64
+        ensures { result ≡ refused_of self.now }
+    {
+        self.refused
     }
 
     /// What the areas held at first.
@@ -121,7 +133,7 @@ impl MemoryDisk {
 impl Disk for MemoryDisk {
     ghost use Rattle.store_model.specs.Crash.{Counts, CutShort, Elapses, Follows, InArea, IsWithin, Torn};
     ghost use Rattle.store_model.specs.Image.{bytes_of, changed, put};
-    ghost use Rattle.memory_disks.specs.Memory.{IsStruck, calls_of, failed_of, faults_of, first_of, left_since_of, may_leave_of, moment_of, reads_of, strikes};
+    ghost use Rattle.memory_disks.specs.Memory.{IsAnswered, IsStruck, calls_of, failed_of, faults_of, first_of, left_since_of, may_leave_of, moment_of, reads_of, strikes};
     ghost use Rattle.std.specs.Prelude.{◌≤◌, ◌+◌, false, IfOk, IsOk, OnOk, drop, take};
 
     ghost follows_model = { Unit {0} };
@@ -190,13 +202,14 @@ impl Disk for MemoryDisk {
         ensures time { Elapses (moment_of self.old) (moment_of self.new) (left_since_of self.old) (left_since_of self.new) (may_leave_of self.new) }
         ensures count { Counts (failed_of self.old) (failed_of self.new) result }
         ensures faults { IsStruck (faults_of self.old) (faults_of self.new) result }
+        ensures answers { strikes (faults_of self.old) ≡ false → at ≤ length (bytes_of area (reads_of self.old)) → IsAnswered self.old self.new result }
     {
         if self.faults.strike() || at > self.held.bytes(area).len() as u64 {
             return Err(fail(&mut self.failed));
         }
         match log_write(self.alloc, &mut self.held, &mut self.calls, area, at, bytes) {
             Ok(()) => Ok(()),
-            Err(_) => Err(fail(&mut self.failed)),
+            Err(_) => Err(refuse(&mut self.failed, &mut self.refused)),
         }
     }
 
@@ -206,13 +219,14 @@ impl Disk for MemoryDisk {
         ensures time { Elapses (moment_of self.old) (moment_of self.new) (left_since_of self.old) (left_since_of self.new) (may_leave_of self.new) }
         ensures count { Counts (failed_of self.old) (failed_of self.new) result }
         ensures faults { IsStruck (faults_of self.old) (faults_of self.new) result }
+        ensures answers { strikes (faults_of self.old) ≡ false → IsAnswered self.old self.new result }
     {
         if self.faults.strike() {
             return Err(fail(&mut self.failed));
         }
         match log_cut(&mut self.held, &mut self.calls, area, size) {
             Ok(()) => Ok(()),
-            Err(_) => Err(fail(&mut self.failed)),
+            Err(_) => Err(refuse(&mut self.failed, &mut self.refused)),
         }
     }
 
@@ -223,13 +237,14 @@ impl Disk for MemoryDisk {
         ensures time { Elapses (moment_of self.old) (moment_of self.new) (left_since_of self.old) (left_since_of self.new) (may_leave_of self.new) }
         ensures count { Counts (failed_of self.old) (failed_of self.new) result }
         ensures faults { IsStruck (faults_of self.old) (faults_of self.new) result }
+        ensures answers { strikes (faults_of self.old) ≡ false → IsAnswered self.old self.new result }
     {
         if self.faults.strike() {
             return Err(fail(&mut self.failed));
         }
         match log_sync(&mut self.calls, area) {
             Ok(()) => Ok(()),
-            Err(_) => Err(fail(&mut self.failed)),
+            Err(_) => Err(refuse(&mut self.failed, &mut self.refused)),
         }
     }
 }

@@ -9,7 +9,9 @@ use doc_store::area::Area;
 use doc_store::store::Store;
 use file_disk::disk_files::DiskFiles;
 use file_disk::file_disk::FileDisk;
+use file_disk::opening::open;
 use file_disk::system_files::SystemFiles;
+use file_disk::system_names::SystemNames;
 use std::alloc::Global;
 use std::fs;
 use std::io::{self, ErrorKind};
@@ -102,7 +104,7 @@ fn commit(alloc: Global, files: SystemFiles, calls_left: u64, bytes: &[u8]) -> b
 
 /// The document of a name, opened again.
 fn document(rt: &HostRuntime, name: &str) -> Option<Vec<u8>> {
-    let disk = FileDisk::open(rt, name).ok()?;
+    let disk = open(&mut SystemNames::new(rt), name).ok()?;
     let mut store = Store::open(rt.alloc(), disk).ok()?;
     store.current().ok()
 }
@@ -119,7 +121,7 @@ fn is_one(found: Option<Vec<u8>>, is_done: bool, old: &[u8], new: &[u8]) -> bool
 /// as it is told when it is opened again.
 fn run(rt: &HostRuntime, folder: &Folder, calls_left: u64, old: &[u8], new: &[u8]) -> Option<bool> {
     fs::write(rt, folder.name(), old).ok()?;
-    let is_done = match FileDisk::open(rt, folder.name()) {
+    let is_done = match open(&mut SystemNames::new(rt), folder.name()) {
         Ok(disk) => commit(rt.alloc(), disk.into_files(), calls_left, new),
         Err(_) => return None,
     };

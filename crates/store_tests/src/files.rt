@@ -6,13 +6,15 @@ use doc_store::disk::Disk;
 use doc_store::fault::StoreFault;
 use doc_store::store::Store;
 use file_disk::file_disk::FileDisk;
+use file_disk::opening::{find, find_filled, open};
 use file_disk::system_files::SystemFiles;
+use file_disk::system_names::SystemNames;
 use std::alloc::Global;
 use std::fs;
 
 /// Whether the files of a name give these bytes, once a document is committed if there is one.
 fn opens_to(rt: &HostRuntime, name: &str, new: Option<&[u8]>, want: &[u8]) -> bool {
-    match FileDisk::open(rt, name) {
+    match open(&mut SystemNames::new(rt), name) {
         Ok(disk) => has(rt.alloc(), disk, new, want),
         Err(_) => false,
     }
@@ -110,7 +112,7 @@ fn are_blocks_carried_out(rt: &HostRuntime, name: &str, journal: &str, long: &[u
 
 /// Whether a name without files is found as none, and nothing is made.
 fn is_found_as_none(rt: &HostRuntime, name: &str) -> bool {
-    match FileDisk::find(rt, name) {
+    match find(&mut SystemNames::new(rt), name) {
         Ok(None) => fs::symlink_metadata(rt, name).is_err(),
         _ => false,
     }
@@ -118,9 +120,10 @@ fn is_found_as_none(rt: &HostRuntime, name: &str) -> bool {
 
 /// Whether a document is found, and isn't opened a second time as long as it is open.
 fn is_found_and_locked(rt: &HostRuntime, name: &str, want: &[u8]) -> bool {
-    match FileDisk::find(rt, name) {
+    match find_filled(&mut SystemNames::new(rt), name) {
         Ok(Some(disk)) => {
-            let is_locked = matches!(FileDisk::open(rt, name), Err(StoreFault::Device));
+            let again = open(&mut SystemNames::new(rt), name);
+            let is_locked = matches!(again, Err(StoreFault::Device));
             is_locked && has(rt.alloc(), disk, None, want)
         }
         _ => false,
@@ -139,6 +142,6 @@ fn files_are_made_committed_and_opened_again(rt: HostRuntime) {
     assert!(rt; is_carried_out(&rt, name, journal));
     assert!(rt; are_blocks_carried_out(&rt, name, journal, &long));
     // A folder isn't opened.
-    assert!(rt; FileDisk::open(&rt, folder.path()).is_err());
+    assert!(rt; open(&mut SystemNames::new(&rt), folder.path()).is_err());
     assert!(rt; folder.is_removed(&rt));
 }

@@ -7,11 +7,13 @@ use crate::owners::{Other, is_users};
 use crate::port::read_port;
 use crate::running::Running;
 use file_disk::file_disk::FileDisk;
+use file_disk::opening::{find_filled, open};
 use file_disk::system_files::SystemFiles;
+use file_disk::system_names::SystemNames;
 use script_model::history::History;
 use script_model::host::{Host, HostFault};
 use script_model::step::Step;
-use std::fs::{self, File};
+use std::fs::File;
 use std::io::{self, ErrorKind, Read, Write};
 use std::net::{Ipv4Addr, Net, OpenStream, SocketAddr, SocketAddrV4, TcpStream};
 use std::os::fd::OwnedFd;
@@ -206,23 +208,7 @@ fn open_disk<R: Files<File = File> + AllocGlobal>(
     let Ok(path) = std::str::from_utf8(name) else {
         return Err(StoreFault::Device);
     };
-    FileDisk::open(rt, path)
-}
-
-/// Whether a file without bytes is there.
-fn is_empty<R: Files<File = File>>(rt: &R, path: &str) -> bool {
-    match fs::symlink_metadata(rt, path) {
-        Ok(found) => found.is_file() && found.len() == 0,
-        Err(_) => false,
-    }
-}
-
-/// Whether nothing is there.
-fn is_missing<R: Files<File = File>>(rt: &R, path: &str) -> bool {
-    match fs::symlink_metadata(rt, path) {
-        Ok(_) => false,
-        Err(error) => error.kind() == ErrorKind::NotFound,
-    }
+    open(&mut SystemNames::new(rt), path)
 }
 
 /// The disk of a file of the system that is there, or that an open journal holds. A file that is empty, and has no journal, is none.
@@ -233,13 +219,7 @@ fn find_disk<R: Files<File = File> + AllocGlobal>(
     let Ok(path) = std::str::from_utf8(name) else {
         return Err(StoreFault::Device);
     };
-    let Ok(journal) = format!(in rt.alloc(); "{path}.journal") else {
-        return Err(StoreFault::NoMemory);
-    };
-    if is_empty(rt, path) && is_missing(rt, journal.as_str()) {
-        return Ok(None);
-    }
-    FileDisk::find(rt, path)
+    find_filled(&mut SystemNames::new(rt), path)
 }
 
 impl<'a, R: Net + Processes + Files<File = File> + Clock + AllocGlobal> Host for SystemHost<'a, R> {

@@ -1,15 +1,16 @@
-use Rattle.std.proofs.Common.{◌≡◌, ◌<◌, ◌∙◌, Some, ap, length, refl, subst, sym}
+use Rattle.std.proofs.Common.{◌≡◌, ◌<◌, ◌∙◌, Some, ap, get_or, length, refl, subst, sym}
 use Rattle.store_model.specs.Image.{Image, changed}
-use Rattle.store_model.specs.Journal.{changed_document, restored}
-use Rattle.store_model.specs.Store.{IsClosed, StandsAsOneOf}
+use Rattle.store_model.specs.Journal.{changed_document, is_open, restored}
+use Rattle.store_model.specs.Store.{StandsAsOneOf}
 use Rattle.store_model.specs.declared.area.Area.TheVariants.{Document}
+use Rattle.doc_store.specs.Resting.{IsShut}
 use Rattle.doc_store.specs.Steps.{Finds, IsGating, IsInstalling, IsOpenWith}
-use Rattle.doc_store.proofs.Gating.{closed_stands, gate_closes, gate_short}
+use Rattle.doc_store.proofs.Gating.{closed_stands, gate_closes, gate_short, shut_not_open}
 use Rattle.doc_store.proofs.Moments.{quietly, then_leaves, then_quiet}
 use Rattle.doc_store.proofs.runs.recover.Goals as goal
 
-pub returns-in_err-set_gate-in-NoGate-clause-stays : goal.returns-in_err-set_gate-in-NoGate-clause-stays
-returns-in_err-set_gate-in-NoGate-clause-stays g c model =
+pub returns-in_err-set_gate-in-Short-clause-stays : goal.returns-in_err-set_gate-in-Short-clause-stays
+returns-in_err-set_gate-in-Short-clause-stays g c model =
     let old = c.args.disk.now in
     let reads = g.D.Disk.reads in
     let P : Image → Type 0 = StandsAsOneOf (g.D.Disk.may_leave old) in
@@ -18,12 +19,12 @@ returns-in_err-set_gate-in-NoGate-clause-stays g c model =
     let settled = quietly g.D.Disk.may_leave g.D.Disk.moment g.D.Disk.left_since old c.settle.new.disk P (λ i left. (i, left, refl)) (c.settle.ensures.quiet model) in
     let found = then_quiet g.D.Disk.may_leave g.D.Disk.moment g.D.Disk.left_since old c.settle.new.disk c.find.new.disk P settled (c.find.ensures.quiet model) in
     let finds = c.in_ok-found.ensures.found model in
-    let short : length (reads old).journal < 9 = subst (λ (b : Image). length b.journal < 9) (c.in_ok-settle.ensures.same model) (subst (Finds (reads c.settle.new.disk)) c.in-NoGate.is finds) in
+    let short : length (reads old).journal < 9 = subst (λ (b : Image). length b.journal < 9) (c.in_ok-settle.ensures.same model) (subst (Finds (reads c.settle.new.disk)) c.in-Short.is finds).0 in
     then_leaves g.D.Disk.may_leave g.D.Disk.moment g.D.Disk.left_since old c.find.new.disk c.set_gate.new.disk (IsGating (reads c.find.new.disk)) P found (c.set_gate.ensures.stays model)
     (λ i gating. here i (gate_short (reads old) i short (subst (λ (b : Image). IsGating b i) at_old gating)))
 
-pub returns-in_ok-set_gate-in-NoGate-clause-stays : goal.returns-in_ok-set_gate-in-NoGate-clause-stays
-returns-in_ok-set_gate-in-NoGate-clause-stays g c model =
+pub returns-in_ok-set_gate-in-Short-clause-stays : goal.returns-in_ok-set_gate-in-Short-clause-stays
+returns-in_ok-set_gate-in-Short-clause-stays g c model =
     let old = c.args.disk.now in
     let reads = g.D.Disk.reads in
     let P : Image → Type 0 = StandsAsOneOf (g.D.Disk.may_leave old) in
@@ -32,7 +33,7 @@ returns-in_ok-set_gate-in-NoGate-clause-stays g c model =
     let settled = quietly g.D.Disk.may_leave g.D.Disk.moment g.D.Disk.left_since old c.settle.new.disk P (λ i left. (i, left, refl)) (c.settle.ensures.quiet model) in
     let found = then_quiet g.D.Disk.may_leave g.D.Disk.moment g.D.Disk.left_since old c.settle.new.disk c.find.new.disk P settled (c.find.ensures.quiet model) in
     let finds = c.in_ok-found.ensures.found model in
-    let short : length (reads old).journal < 9 = subst (λ (b : Image). length b.journal < 9) (c.in_ok-settle.ensures.same model) (subst (Finds (reads c.settle.new.disk)) c.in-NoGate.is finds) in
+    let short : length (reads old).journal < 9 = subst (λ (b : Image). length b.journal < 9) (c.in_ok-settle.ensures.same model) (subst (Finds (reads c.settle.new.disk)) c.in-Short.is finds).0 in
     then_leaves g.D.Disk.may_leave g.D.Disk.moment g.D.Disk.left_since old c.find.new.disk c.set_gate.new.disk (IsGating (reads c.find.new.disk)) P found (c.set_gate.ensures.stays model)
     (λ i gating. here i (gate_short (reads old) i short (subst (λ (b : Image). IsGating b i) at_old gating)))
 
@@ -119,7 +120,7 @@ returns-in-Closed-clause-rests g c model =
     let settled : Image = g.D.Disk.reads c.settle.new.disk in
     record {
       durable = λ i left. c.in_ok-settle.ensures.durable model i ((c.find.ensures.quiet model).now i left) ∙ sym (c.in_ok-found.ensures.same model ∙ c.in_ok-settle.ensures.same model);
-      closed = subst (λ (i : Image). IsClosed i.journal) (sym (c.in_ok-found.ensures.same model)) (subst (Finds settled) c.in-Closed.is (c.in_ok-found.ensures.found model));
+      shut = subst (λ (i : Image). IsShut i.journal) (sym (c.in_ok-found.ensures.same model)) (subst (Finds settled) c.in-Closed.is (c.in_ok-found.ensures.found model));
     }
 
 pub returns-in-Closed-clause-stays : goal.returns-in-Closed-clause-stays
@@ -129,3 +130,55 @@ returns-in-Closed-clause-stays g c model =
     then_quiet g.D.Disk.may_leave g.D.Disk.moment g.D.Disk.left_since old c.settle.new.disk c.find.new.disk P
     (quietly g.D.Disk.may_leave g.D.Disk.moment g.D.Disk.left_since old c.settle.new.disk P (λ i left. (i, left, refl)) (c.settle.ensures.quiet model))
     (c.find.ensures.quiet model)
+
+pub returns-in_err-found-clause-quiet : goal.returns-in_err-found-clause-quiet
+returns-in_err-found-clause-quiet g c model shut =
+    let old = c.args.disk.now in
+    then_quiet g.D.Disk.may_leave g.D.Disk.moment g.D.Disk.left_since old c.settle.new.disk c.find.new.disk (g.D.Disk.may_leave old) (c.settle.ensures.quiet model) (c.find.ensures.quiet model)
+
+pub returns-in-Closed-clause-quiet : goal.returns-in-Closed-clause-quiet
+returns-in-Closed-clause-quiet g c model shut =
+    let old = c.args.disk.now in
+    then_quiet g.D.Disk.may_leave g.D.Disk.moment g.D.Disk.left_since old c.settle.new.disk c.find.new.disk (g.D.Disk.may_leave old) (c.settle.ensures.quiet model) (c.find.ensures.quiet model)
+
+pub returns-in-Closed-clause-same : goal.returns-in-Closed-clause-same
+returns-in-Closed-clause-same g c model shut = c.in_ok-found.ensures.same model ∙ c.in_ok-settle.ensures.same model
+
+pub returns-in_err-set_gate-in-Short-clause-quiet : goal.returns-in_err-set_gate-in-Short-clause-quiet
+returns-in_err-set_gate-in-Short-clause-quiet g c model shut =
+    let finds = subst (Finds (g.D.Disk.reads c.settle.new.disk)) c.in-Short.is (c.in_ok-found.ensures.found model) in
+    absurd (shut (ap (λ (i : Image). get_or i.journal 0 0) (sym (c.in_ok-settle.ensures.same model)) ∙ finds.1))
+
+pub returns-in_ok-set_gate-in-Short-clause-quiet : goal.returns-in_ok-set_gate-in-Short-clause-quiet
+returns-in_ok-set_gate-in-Short-clause-quiet g c model shut =
+    let finds = subst (Finds (g.D.Disk.reads c.settle.new.disk)) c.in-Short.is (c.in_ok-found.ensures.found model) in
+    absurd (shut (ap (λ (i : Image). get_or i.journal 0 0) (sym (c.in_ok-settle.ensures.same model)) ∙ finds.1))
+
+pub returns-in_ok-set_gate-in-Short-clause-same : goal.returns-in_ok-set_gate-in-Short-clause-same
+returns-in_ok-set_gate-in-Short-clause-same g c model shut =
+    let finds = subst (Finds (g.D.Disk.reads c.settle.new.disk)) c.in-Short.is (c.in_ok-found.ensures.found model) in
+    absurd (shut (ap (λ (i : Image). get_or i.journal 0 0) (sym (c.in_ok-settle.ensures.same model)) ∙ finds.1))
+
+pub returns-in_err-carry_out-in-Open-clause-quiet : goal.returns-in_err-carry_out-in-Open-clause-quiet
+returns-in_err-carry_out-in-Open-clause-quiet g c model shut =
+    let reads = g.D.Disk.reads in
+    let finds = subst (Finds (reads c.settle.new.disk)) c.in-Open.is (c.in_ok-found.ensures.found model) in
+    absurd (shut_not_open (reads c.args.disk.now).journal shut (ap (λ (i : Image). is_open i.journal) (sym (c.in_ok-settle.ensures.same model)) ∙ finds.gate))
+
+pub returns-in_err-set_gate-in-Open-clause-quiet : goal.returns-in_err-set_gate-in-Open-clause-quiet
+returns-in_err-set_gate-in-Open-clause-quiet g c model shut =
+    let reads = g.D.Disk.reads in
+    let finds = subst (Finds (reads c.settle.new.disk)) c.in-Open.is (c.in_ok-found.ensures.found model) in
+    absurd (shut_not_open (reads c.args.disk.now).journal shut (ap (λ (i : Image). is_open i.journal) (sym (c.in_ok-settle.ensures.same model)) ∙ finds.gate))
+
+pub returns-in_ok-set_gate-in-Open-clause-quiet : goal.returns-in_ok-set_gate-in-Open-clause-quiet
+returns-in_ok-set_gate-in-Open-clause-quiet g c model shut =
+    let reads = g.D.Disk.reads in
+    let finds = subst (Finds (reads c.settle.new.disk)) c.in-Open.is (c.in_ok-found.ensures.found model) in
+    absurd (shut_not_open (reads c.args.disk.now).journal shut (ap (λ (i : Image). is_open i.journal) (sym (c.in_ok-settle.ensures.same model)) ∙ finds.gate))
+
+pub returns-in_ok-set_gate-in-Open-clause-same : goal.returns-in_ok-set_gate-in-Open-clause-same
+returns-in_ok-set_gate-in-Open-clause-same g c model shut =
+    let reads = g.D.Disk.reads in
+    let finds = subst (Finds (reads c.settle.new.disk)) c.in-Open.is (c.in_ok-found.ensures.found model) in
+    absurd (shut_not_open (reads c.args.disk.now).journal shut (ap (λ (i : Image). is_open i.journal) (sym (c.in_ok-settle.ensures.same model)) ∙ finds.gate))

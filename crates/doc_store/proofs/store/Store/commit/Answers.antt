@@ -12,7 +12,7 @@ returns-then-bytes-gt-MAX_DOCUMENT-clause-any_moment g c model ready =
     let reads = g.D.Disk.reads in
     let rests = c.args.self.now.rests ready model in
     begun g.D.Disk.may_leave g.D.Disk.moment g.D.Disk.left_since disk (IsBeforeOrAfter (reads disk).document c.args.bytes.now) (g.met.D.Disk.only_now disk)
-    (λ i left. inl (subst (λ b. StandsFor (reads disk).document b) (sym (rests.durable i left)) (closed_stands (reads disk) rests.closed)))
+    (λ i left. inl (subst (λ b. StandsFor (reads disk).document b) (sym (rests.durable i left)) (closed_stands (reads disk) rests.shut)))
 
 pub returns-then-bytes-gt-MAX_DOCUMENT-clause-crashes : goal.returns-then-bytes-gt-MAX_DOCUMENT-clause-crashes
 returns-then-bytes-gt-MAX_DOCUMENT-clause-crashes g c model ready =
@@ -21,7 +21,7 @@ returns-then-bytes-gt-MAX_DOCUMENT-clause-crashes g c model ready =
     let rests = c.args.self.now.rests ready model in
     starts g.D.Disk.may_leave g.D.Disk.moment g.D.Disk.left_since (reads disk).document c.args.bytes.now disk disk
     (begun g.D.Disk.may_leave g.D.Disk.moment g.D.Disk.left_since disk (IsBeforeOrAfter (reads disk).document c.args.bytes.now) (g.met.D.Disk.only_now disk)
-    (λ i left. inl (subst (λ b. StandsFor (reads disk).document b) (sym (rests.durable i left)) (closed_stands (reads disk) rests.closed))))
+    (λ i left. inl (subst (λ b. StandsFor (reads disk).document b) (sym (rests.durable i left)) (closed_stands (reads disk) rests.shut))))
 
 pub returns-in-Ok-clause-crashes : goal.returns-in-Ok-clause-crashes
 returns-in-Ok-clause-crashes g c model ready =
@@ -35,7 +35,7 @@ returns-in-Err-clause-crashes g c model ready =
 
 pub returns-then-bytes-gt-MAX_DOCUMENT-clause-after_device : goal.returns-then-bytes-gt-MAX_DOCUMENT-clause-after_device
 returns-then-bytes-gt-MAX_DOCUMENT-clause-after_device g c model ready =
-    inl (closed_stands (g.D.Disk.reads (disk_of c.args.self.now)) (c.args.self.now.rests ready model).closed)
+    inl (closed_stands (g.D.Disk.reads (disk_of c.args.self.now)) (c.args.self.now.rests ready model).shut)
 
 pub returns-in-Ok-clause-any_moment : goal.returns-in-Ok-clause-any_moment
 returns-in-Ok-clause-any_moment g c model ready = c.replace.ensures.stays model
