@@ -244,14 +244,16 @@ module _ (s : Story) (v : World) (bytes : List ℕ) (f : ℕ) (d : DocumentStand
         ];
         raised = λ ne. (let same : c.saved.session ≡ v.rec.session = session
             ∙ (session_raised s.now.rec.session f c.frame c.frame.raised may_raise (frame_session s s.document c.frame d first)
-            (λ z. ne (own ∙ z)) ∙ sym own) in
-            (same, record {
-              document = c.document;
-              first = counted_in (Some c.document)
-                  (subst (λ (n : ℕ). nth (set_nth s.now.counted f (Some c.document)) n ≡ Some (Some c.document)) one
-                  (nth-set_same s.now.counted f there.0 (Some c.document) there.1));
-              bears = c.bears ∙ same;
-            }));
+            (λ z. ne (own ∙ z)) ∙ sym own) in (
+              same,
+              record {
+                document = c.document;
+                first = counted_in (Some c.document)
+                    (subst (λ (n : ℕ). nth (set_nth s.now.counted f (Some c.document)) n ≡ Some (Some c.document)) one
+                    (nth-set_same s.now.counted f there.0 (Some c.document) there.1));
+                bears = c.bears ∙ same;
+              },
+            ));
       }
 
   other_counted : f ≢ 1 → DocumentStands (committed_by s f v) s.document

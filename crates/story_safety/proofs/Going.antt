@@ -183,18 +183,23 @@ module _ (w : World) (f : ℕ) (bytes : List ℕ) (told : Result Took ContainerF
   made_taken : (frame : Frame) (saved : FrameDocument) (r : Result Took ContainerFault) (v : World) → nth w.rec.frames f ≡ Some frame
       → image_at w.rec f (Some frame) ≡ Ok saved → told ≡ r → done_taken w f bytes frame saved r ≡ Ok v → Made v
   made_taken frame saved (Err fault) v at im is ok = cc
-  made_taken frame saved (Ok t) v at im is ok = (let c = commits frame at t is in subst Made (ok_is _ v ok) (t, is, refl, record {
-    frame = frame;
-    at = at;
-    busy = not_idle frame.phase c.0;
-    rec = sym (ap (λ (y : Took). y.rec) c.1);
-    saved = saved;
-    imaged = im;
-    document = record { k = frame.k; session = saved.session; parts = saved.parts };
-    bears = refl;
-    more = uncounted t.answer.frame;
-    counted = refl;
-  }))
+  made_taken frame saved (Ok t) v at im is ok = (let c = commits frame at t is in subst Made (ok_is _ v ok) (
+    t,
+    is,
+    refl,
+    record {
+      frame = frame;
+      at = at;
+      busy = not_idle frame.phase c.0;
+      rec = sym (ap (λ (y : Took). y.rec) c.1);
+      saved = saved;
+      imaged = im;
+      document = record { k = frame.k; session = saved.session; parts = saved.parts };
+      bears = refl;
+      more = uncounted t.answer.frame;
+      counted = refl;
+    },
+  ))
 
   made_imaged : (frame : Frame) (saved : Result FrameDocument ContainerFault) (v : World) → nth w.rec.frames f ≡ Some frame
       → image_at w.rec f (Some frame) ≡ saved → done_imaged w f bytes frame told saved ≡ Ok v → Made v

@@ -129,9 +129,9 @@ module _ (s : Story) (h : Sound s) where
   given_file : (name : List ℕ) (file : File) (given : Given) → IsFrom s h.mine h.archive name file → IsReadAs (Some file.bytes) given → Gives s commits name given
   given_file name file given from read = elim (is_kept name s.kept) as (λ b. cond b (IsSaved file) (IsOfRuns h.mine s.past h.archive name file)
       → cond b (GivesSaved given) (GivesCounted s commits given)) [
-    | true ↦ (λ k. given_saved file given k read)
-    | false ↦ (λ k. given_counted name file given k read)
-  ] from
+        | true ↦ (λ k. given_saved file given k read)
+        | false ↦ (λ k. given_counted name file given k read)
+      ] from
 
   given_none : (name : List ℕ) → Gives s commits name Given.Missing
   given_none name = elim (is_kept name s.kept) as (λ b. cond b (GivesSaved Given.Missing) (GivesCounted s commits Given.Missing))

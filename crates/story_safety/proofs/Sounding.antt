@@ -373,9 +373,9 @@ module _ (s : Story) (h : Sound s) (e : Epoch) (v : World) (g : Among s.past e) 
   from_still : (name : List ℕ) (file : File) → IsFrom s h.mine h.archive name file → IsFrom next h.mine h.archive name file
   from_still name file is = elim (is_kept name s.kept) as (λ b. cond b (IsSaved file) (IsOfRuns h.mine s.past h.archive name file)
       → cond b (IsSaved file) (IsOfRuns h.mine past h.archive name file)) [
-    | true ↦ (λ x. x)
-    | false ↦ from_past name file
-  ] is
+        | true ↦ (λ x. x)
+        | false ↦ from_past name file
+      ] is
 
   none_past : s.past ≡ [] → past ≡ []
   none_past none = ap (put (is_session e.session) after) none
