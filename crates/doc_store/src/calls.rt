@@ -6,7 +6,7 @@ ghost use Rattle.store_model.specs.Journal.{size_in};
 ghost use Rattle.store_model.specs.Patches.{IsTold};
 ghost use Rattle.store_model.specs.declared.area.Area.TheVariants.{Document, Journal};
 ghost use Rattle.doc_store.specs.Steps.{CanInstall, CanStage, IsInstalling, IsStaging};
-ghost use Rattle.std.specs.Prelude.{◌≡◌, ◌≤◌, IfOk, OnOk, drop, length, take};
+ghost use Rattle.std.specs.Prelude.{◌≡◌, ◌<◌, ◌≤◌, ◌+◌, IfOk, OnOk, drop, length, take};
 
 use store_model::area::Area;
 use store_model::disk::{Disk, DiskFailure};
@@ -21,14 +21,15 @@ pub(crate) fn length_of<D: Disk>(disk: &mut D, area: Area) -> Result<u64, DiskFa
     disk.length(area)
 }
 
-/// Fills the buffer with an area's bytes from an offset on. An empty one asks nothing of the disk, so the offset may be
-/// past the end then.
+/// Fills the buffer with an area's bytes from an offset on, all of them within the area: what a disk may refuse as past its end
+/// isn't asked for. An empty one asks nothing of the disk, so the offset may be past the end then.
 pub(crate) fn read_into<D: Disk>(
     disk: &mut D,
     area: Area,
     at: u64,
     into: &mut [u8],
 ) -> Result<(), DiskFailure>
+    requires within { D.follows_model → 0 < length into.old → at + length into.old ≤ length (bytes_of area (D.reads disk.old)) }
     ensures bytes { D.follows_model → OnOk result (into.new ≡ take (length into.old) (drop at (bytes_of area (D.reads disk.old)))) }
     ensures same { D.follows_model → OnOk result (D.reads disk.new ≡ D.reads disk.old) }
     ensures quiet { D.follows_model → Quiet D.may_leave D.moment D.left_since disk.old disk.new }

@@ -75,6 +75,7 @@ fn write_whole<D: Disk>(disk: &mut D, size: u32) -> Result<(), DiskFailure>
 fn copy_piece<D: Disk>(disk: &mut D, done: u64, piece: &mut [u8]) -> Result<(), DiskFailure>
     requires ready { D.follows_model → CanInstall D.reads D.may_leave disk.old }
     requires form { D.follows_model → form_in (D.reads disk.old).journal ≡ WHOLE }
+    requires there { D.follows_model → 9 + done + length piece.old ≤ length (D.reads disk.old).journal }
     requires small { done < 2 ^ 32 }
     ensures written { D.follows_model → done ≤ length (D.reads disk.old).document
         → OnOk result (D.reads disk.new ≡ changed Document (put (D.reads disk.old).document done (take (length piece.old) (drop (HEADER + done) (D.reads disk.old).journal))) (D.reads disk.old)) }

@@ -60,6 +60,7 @@ fn read_head<D: Disk>(disk: &mut D) -> Result<(u64, u8), DiskFailure>
 /// A number of four bytes in the journal.
 #[tactic(auto, unfolding(store_model::specs::Journal::number_at))]
 fn read_number<D: Disk>(disk: &mut D, at: u64) -> Result<u64, DiskFailure>
+    requires { D.follows_model → at + 4 ≤ length (D.reads disk.old).journal }
     ensures number { D.follows_model → IfOk result (λ n. n ≡ number_at at (D.reads disk.old).journal) }
     ensures small { IfOk result (λ n. n < 2 ^ 32) }
     ensures same { D.follows_model → OnOk result (D.reads disk.new ≡ D.reads disk.old) }
@@ -127,7 +128,8 @@ fn find_blocks<D: Disk>(disk: &mut D, long: u64, size: u64) -> Result<Change, St
 
 /// Whether the journal's blocks fit a document area that ends there, by their numbers alone.
 fn blocks_fit<D: Disk>(disk: &mut D, size: u64, end: u64, count: u64) -> Result<bool, DiskFailure>
-    requires { count < 2 ^ 32 }
+    requires small { count < 2 ^ 32 }
+    requires there { D.follows_model → 13 + 516 * count ≤ length (D.reads disk.old).journal }
     ensures fits { D.follows_model → IfOk result (λ fits. fits ≡ fit size 0 end (blocks_from count FIRST_BLOCK (D.reads disk.old).journal)) }
     ensures same { D.follows_model → OnOk result (D.reads disk.new ≡ D.reads disk.old) }
     ensures quiet { D.follows_model → Quiet D.may_leave D.moment D.left_since disk.old disk.new }

@@ -1,7 +1,7 @@
 //! Whether a disk holds a document.
 
 ghost use Rattle.store_model.specs.Crash.{Counts, Quiet};
-ghost use Rattle.std.specs.Prelude.{◌≡◌, ◌↔◌, IfOk, IsTrue, OnOk, drop, length, take};
+ghost use Rattle.std.specs.Prelude.{◌≡◌, ◌≤◌, ◌+◌, ◌↔◌, IfOk, IsTrue, OnOk, drop, length, take};
 
 use crate::calls::{length_of, read_into};
 use store_model::area::Area;
@@ -18,7 +18,8 @@ pub(crate) fn holds_document<D: Disk>(disk: &mut D, document: &[u8]) -> Result<b
     ensures count { Counts (D.failed disk.old) (D.failed disk.new) result }
 {
     let all = document.len() as u64;
-    if length_of(disk, Area::Document)? != all {
+    let size = length_of(disk, Area::Document)?;
+    if size != all {
         return Ok(false);
     }
     let mut piece = [0u8; PIECE as usize];
@@ -46,7 +47,8 @@ fn holds_piece<D: Disk>(
     bytes: &[u8],
     piece: &mut [u8],
 ) -> Result<bool, DiskFailure>
-    requires { length bytes.now ≡ length piece.old }
+    requires long { length bytes.now ≡ length piece.old }
+    requires within { D.follows_model → at + length piece.old ≤ length (D.reads disk.old).document }
     ensures holds { D.follows_model → IfOk result (λ is. IsTrue is ↔ take (length bytes.now) (drop at (D.reads disk.old).document) ≡ bytes.now) }
     ensures same { D.follows_model → OnOk result (D.reads disk.new ≡ D.reads disk.old) }
     ensures quiet { D.follows_model → Quiet D.may_leave D.moment D.left_since disk.old disk.new }

@@ -100,6 +100,7 @@ fn write_window<D: Disk>(
     requires few { range.1 ≤ range.0 + WINDOW_BLOCKS }
     requires so_far { count ≤ range.0 }
     requires room { WINDOW_ENTRIES ≤ length out.old }
+    requires within { D.follows_model → 0 < length held.old → 512 * range.0 + length held.old ≤ length (D.reads disk.old).document }
     requires held { D.follows_model → take (length held.old) (drop (512 * range.0) (D.reads disk.old).document) ≡ take WINDOW (drop (512 * range.0) (D.reads disk.old).document) }
     requires behind { D.follows_model → 13 + 516 * count ≤ length (D.reads disk.old).journal }
     ensures written { D.follows_model → IfOk result (λ n. D.reads disk.new ≡ changed Journal

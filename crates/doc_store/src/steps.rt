@@ -59,6 +59,7 @@ pub(crate) fn read_document<D: Disk>(alloc: Global, disk: &mut D) -> Result<Vec<
     ensures same { D.follows_model → OnOk result (D.reads disk.new ≡ D.reads disk.old) }
     ensures quiet { D.follows_model → Quiet D.may_leave D.moment D.left_since disk.old disk.new }
     ensures refuses { IfErr result (ReadRefuses (D.failed disk.old) (D.failed disk.new)) }
+    ensures count { OnOk result (D.failed disk.new ≡ D.failed disk.old) }
 {
     let size = length_of(disk, Area::Document)?;
     let mut bytes = vec![in alloc; 0u8; size as usize]?;

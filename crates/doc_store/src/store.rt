@@ -117,6 +117,7 @@ impl<D: Disk> Store<D> {
         ensures any_moment { D.follows_model → needs_reopen_of self.old ≡ false
             → StaysIn D.may_leave D.moment D.left_since (disk_of self.old) (disk_of self.new) (StandsFor (D.reads (disk_of self.old)).document) }
         ensures ready { OnOk result ((needs_reopen_of self.old ≡ false) × (needs_reopen_of self.new ≡ false)) }
+        ensures count { OnOk result (D.failed (disk_of self.new) ≡ D.failed (disk_of self.old)) }
         ensures refuses { IfErr result (CurrentRefuses (needs_reopen_of self.old) (needs_reopen_of self.new) (D.failed (disk_of self.old)) (D.failed (disk_of self.new))) }
         ensures untouched { needs_reopen_of self.old ≡ true → self.new ≡ self.old }
     {
@@ -164,6 +165,7 @@ impl<D: Disk> Store<D> {
             → StaysIn D.may_leave D.moment D.left_since (disk_of self.old) (disk_of self.new) (StandsFor (D.reads (disk_of self.old)).document) }
         ensures ready { OnOk result ((needs_reopen_of self.old ≡ false) × (needs_reopen_of self.new ≡ false)) }
         ensures too_big { D.follows_model → result ≡ Err TooBig → most < length (D.reads (disk_of self.old)).document }
+        ensures count { OnOk result (D.failed (disk_of self.new) ≡ D.failed (disk_of self.old)) }
         ensures refuses { IfErr result (λ fault. fault ≢ TooBig → CurrentRefuses (needs_reopen_of self.old) (needs_reopen_of self.new) (D.failed (disk_of self.old)) (D.failed (disk_of self.new)) fault) }
         ensures untouched { needs_reopen_of self.old ≡ true → self.new ≡ self.old }
     {

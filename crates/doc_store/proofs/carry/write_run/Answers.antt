@@ -3,7 +3,7 @@ use Rattle.store_model.specs.Image.{Image, changed, put}
 use Rattle.store_model.specs.Journal.{blocks_from, number_at}
 use Rattle.store_model.specs.Patches.{Follow, IsTold, joined}
 use Rattle.store_model.specs.declared.area.Area.TheVariants.{Document}
-use Rattle.doc_store.proofs.Carried.{read_first, read_follow, read_joined, run_told}
+use Rattle.doc_store.proofs.Carried.{is_blocks, read_first, read_follow, read_joined, run_told}
 use Rattle.doc_store.proofs.carry.write_run.Goals as goal
 
 pub write_told-requires-clause-told : goal.write_told-requires-clause-told
@@ -64,3 +64,11 @@ returns-clause-written g c model reached =
     ∙ ap (λ (i : Image). changed Document (put i.document (512 * c.number_in-number.result) run) i) same
     ∙ ap (λ (n : ℕ). changed Document (put area (512 * n) run) (reads c.args.disk.now)) number
     ∙ ap (λ (l : List ℕ). changed Document (put area (512 * number_at at J) l) (reads c.args.disk.now)) bytes
+
+pub read_into-requires : goal.read_into-requires
+read_into-requires g c = record {
+  within = λ model some.
+      let fits = c.requires.room model in
+      let parts = (is_blocks (g.D.Disk.reads c.args.disk.now) (c.requires.ready model).whole (c.requires.form model)).room in
+      omega (arith, fits, parts);
+}

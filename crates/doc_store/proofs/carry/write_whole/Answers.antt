@@ -58,3 +58,16 @@ loop-done-preserved g c =
       copied = λ model. ap (λ (l : List ℕ). take (done + many) l) (written model) ∙ copied_more (reads c.loop-done.disk).document (reads c.args.disk.now).journal 9 done many (c.loop-done.invariant.reached model) (room model) (c.loop-done.invariant.copied model);
       count = search rules;
     }
+
+pub copy_piece-requires-clause-there : goal.copy_piece-requires-clause-there
+copy_piece-requires-clause-there g c model =
+    let reads = g.D.Disk.reads in
+    let least = c.min-many.ensures in
+    let more = c.loop-done-test.true in
+    let at : (reads c.loop-done.disk).journal ≡ (reads c.args.disk.now).journal = ((c.loop-done.invariant.stays model).now (reads c.loop-done.disk) (g.met.D.Disk.reads_are_left c.loop-done.disk)).0 in
+    let same : length (reads c.loop-done.disk).journal ≡ length (reads c.args.disk.now).journal = ap length at in
+    let holds = c.requires.holds model in
+    let is = holds.1 in
+    let all = c.from-all.ensures in
+    let parts = (is_image (reads c.args.disk.now) (c.requires.ready model).whole holds.0).room in
+    omega (arith, parts, is, all, least, more, same, length-take c.min-many.result c.loop-done.piece)

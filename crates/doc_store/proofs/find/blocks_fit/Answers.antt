@@ -1,4 +1,4 @@
-use Rattle.std.proofs.Common.{◌≡◌, ◌<◌, ◌+◌, ◌-◌, ◌*◌, ◌∙◌, max, ℕ, suc, List, ◌∷◌, ap, sym, arith, rules}
+use Rattle.std.proofs.Common.{◌≡◌, ◌<◌, ◌+◌, ◌-◌, ◌*◌, ◌∙◌, length, max, ℕ, suc, List, ◌∷◌, ap, sym, arith, rules}
 use Rattle.store_model.specs.Image.{Image}
 use Rattle.store_model.specs.Journal.{Block, block_at, blocks_from, fit, number_at}
 use Rattle.store_model.proofs.Patched.{fits_on, unfit_below, unfit_reach, unfit_rise}
@@ -64,3 +64,10 @@ loop-index-preserved g c =
           ∙ ap (λ (m : ℕ). fit c.args.size (n + 1) m bs) (sym c.max-reached.ensures);
       count = search rules;
     }
+
+pub read_number-requires : goal.read_number-requires
+read_number-requires g c model =
+    let there = c.requires.there model in
+    let below = c.loop-index-test.true in
+    let same = ap (λ (i : Image). length i.journal) (c.loop-index.invariant.same model) in
+    omega (arith, there, below, same)

@@ -29,6 +29,15 @@ loop-done-preserved g c =
       count = search rules;
     }
 
+pub holds_piece-requires-clause-within : goal.holds_piece-requires-clause-within
+holds_piece-requires-clause-within g c model =
+    let least = c.min-many.ensures in
+    let more = c.loop-done-test.true in
+    let long = c.in_ok-size.ensures.length model in
+    let all = c.if-size-all.false in
+    let same = ap (λ (i : Image). length i.document) (c.loop-done.invariant.same model) in
+    omega (arith, least, more, long, all, same, length-take c.min-many.result c.loop-done.piece)
+
 pub returns-in_err-is-clause-quiet : goal.returns-in_err-is-clause-quiet
 returns-in_err-is-clause-quiet g c model =
     then_quiet g.D.Disk.may_leave g.D.Disk.moment g.D.Disk.left_since c.args.disk.now c.loop-done.disk c.holds_piece.new.disk (g.D.Disk.may_leave c.args.disk.now) (c.loop-done.invariant.quiet model) (c.holds_piece.ensures.quiet model)

@@ -58,3 +58,11 @@ loop-first-preserved g c =
           ∙ staged_more first last c.loop-first.count c.in_ok-more.more (reads c.args.disk.now).document new (reads c.loop-first.disk).journal le (so_far.reached model) (more model) (take 13 (reads c.args.disk.now).journal) (so_far.written model);
       count = search rules;
     }
+
+pub write_window-requires-clause-within : goal.write_window-requires-clause-within
+write_window-requires-clause-within g c model some =
+    let reads = g.D.Disk.reads in
+    let least = c.min-long.ensures in
+    let end : c.in_ok-end.end ≡ length (reads c.loop-first.disk).document = c.in_ok-end.ensures.length model ∙ sym (ap length (c.loop-first.invariant.document model)) in
+    let rest = c.saturating_sub.ensures in
+    omega (arith, least, end, rest, some, length-take c.min-long.result c.loop-first.held)
