@@ -23,6 +23,7 @@ none_within n taken = λ k t. absurd (not_both (replicate n false) k (unmarked n
   where
     not_both : (xs : List Bool) (k : ℕ) → get_or xs k false ≡ false → get_or xs k false ≡ true → ⊥
     not_both xs k f t = let e : false ≡ true = sym f ∙ t in cc e
+
     unmarked : (n k : ℕ) → get_or (replicate n false) k false ≡ false
     unmarked zero k = refl
     unmarked (suc n) zero = refl
@@ -46,11 +47,11 @@ either_true (suc n) (x ∷ new) [] (suc k) h =
       | inr t ↦ inr t
     ]
 either_true (suc n) (x ∷ new) (y ∷ old) zero h = inl h
-either_true (suc n) (x ∷ new) (y ∷ old) (suc k) h = elim (either_true n new old k h) [ | inl t ↦ inl t | inr t ↦ inr t ]
+either_true (suc n) (x ∷ new) (y ∷ old) (suc k) h = elim (either_true n new old k h) [ inl t ↦ inl t | inr t ↦ inr t ]
 
 pub within_kept : (n : ℕ) (new old : List Bool) (taken : List ℕ) → AreWithin new taken → AreWithin old taken
     → AreWithin (take n (new ++ drop (length new) old)) taken
-within_kept n new old taken h g = λ k t. elim (either_true n new old k t) [ | inl a ↦ h k a | inr b ↦ g k b ]
+within_kept n new old taken h g = λ k t. elim (either_true n new old k t) [ inl a ↦ h k a | inr b ↦ g k b ]
 
 -- ---- a chain with something in it, and without
 abbrev pub next_in : List ℕ → ℕ → ℕ

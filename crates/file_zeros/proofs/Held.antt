@@ -128,7 +128,7 @@ module _ (file : List ℕ) (l : Layout) where
         short = λ e d. record { chain = ns; is_chain = chain; all_in = λ m c. Contains-append_left ns rest.minis m c };
         long = λ e le. absurd (omega (arith, lt, le));
       })
-      (λ n c. elim (Contains-cons_cases id rest.ids n c) [ | inl same ↦ inl same | inr d ↦ inr (inl d) ])
+      (λ n c. elim (Contains-cons_cases id rest.ids n c) [ inl same ↦ inl same | inr d ↦ inr (inl d) ])
   stream_before false id ids ns rest is k chain h =
       let u : Used = both (stream_used false id ns) rest in
       let le : CUTOFF ≤ size_of (entry file l id) = ltb-false (size_of (entry file l id)) CUTOFF is in
@@ -140,7 +140,7 @@ module _ (file : List ℕ) (l : Layout) where
         short = λ e lt. absurd (omega (arith, lt, le));
         long = λ e d. record { chain = ns; is_chain = chain; all_in = λ m c. Contains-append_left ns rest.sectors m c };
       })
-      (λ n c. elim (Contains-cons_cases id rest.ids n c) [ | inl same ↦ inl same | inr d ↦ inr (inl d) ])
+      (λ n c. elim (Contains-cons_cases id rest.ids n c) [ inl same ↦ inl same | inr d ↦ inr (inl d) ])
 
   -- the entries below a storage, all of them
   pub record AreBelow (id : ℕ) (u : Used) : Type 0 where

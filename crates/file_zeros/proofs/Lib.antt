@@ -4,4 +4,4 @@ pub mod Held
 pub mod Links
 pub mod Read
 pub mod Rest
-pub mod Streams
+pub mod Starts

@@ -74,7 +74,7 @@ module _ (file : List ℕ) (t : Tree) (d : Denotes file t) (next next_mini : Lis
 
   -- an entry below the root, or the root's
   by_id : (P : ℕ → Type 0) → P 0 → ((n : ℕ) → Contains d.used.ids n → P n) → (n : ℕ) → Contains (taken_ids d.used) n → P n
-  by_id P root others n c = elim (Contains-cons_cases 0 d.used.ids n c) [ | inl same ↦ subst P same root | inr k ↦ others n k ]
+  by_id P root others n c = elim (Contains-cons_cases 0 d.used.ids n c) [ inl same ↦ subst P same root | inr k ↦ others n k ]
 
   pub is_taken : IsTableIn file d.layout.fat next → IsTableIn file (take (mini_fat_count file) d.layout.mini_fat) next_mini
       → IsTaken dir next next_mini (taken_ids d.used) (taken_sectors d.layout d.used) d.used.minis

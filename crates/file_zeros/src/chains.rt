@@ -28,11 +28,7 @@ fn push_sector(out: &mut Vec<u8>, file: &[u8], at: usize) -> Result<(), AllocErr
 }
 
 /// The bytes of sectors of a file, one after another.
-pub(crate) fn joined_of(
-    alloc: Global,
-    file: &[u8],
-    sectors: &[u32],
-) -> Result<Vec<u8>, AllocError>
+pub(crate) fn joined_of(alloc: Global, file: &[u8], sectors: &[u32]) -> Result<Vec<u8>, AllocError>
     ensures { IfOk result (λ v. v.items ≡ joined (sector file.now) sectors.now) }
 {
     let mut out = Vec::new(alloc);

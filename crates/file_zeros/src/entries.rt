@@ -47,11 +47,7 @@ fn push_link(met: &mut Vec<u32>, marks: &mut [bool], link: u32) -> Result<(), Al
 }
 
 /// Notes the entry that is the child of one, unless that is a stream's.
-fn push_child(
-    met: &mut Vec<u32>,
-    marks: &mut [bool],
-    entry: &[u8; 128],
-) -> Result<(), AllocError>
+fn push_child(met: &mut Vec<u32>, marks: &mut [bool], entry: &[u8; 128]) -> Result<(), AllocError>
     ensures { OnOk result ((ids : List ℕ) → (kind entry.now ≢ 2 → child entry.now ≢ NOBODY → Contains ids (child entry.now))
         → All (Contains ids) met.old.items → All (Contains ids) met.new.items) }
 {

@@ -94,12 +94,7 @@ fn chains_of(
 }
 
 /// The numbers in the first sectors of a chain, of which so many count.
-fn table_of(
-    alloc: Global,
-    file: &[u8],
-    sectors: &[u32],
-    count: u32,
-) -> Result<Vec<u32>, AllocError>
+fn table_of(alloc: Global, file: &[u8], sectors: &[u32], count: u32) -> Result<Vec<u32>, AllocError>
     ensures { IfOk result (λ v. IsTableIn file.now (take count sectors.now) v.items) }
 {
     table_in(alloc, file, &sectors[..sectors.len().min(count as usize)])

@@ -1,6 +1,6 @@
 use Rattle.std.proofs.Common.{◌≡◌, ◌∙◌, List, ℕ, ap, arith, refl}
 use Rattle.directory_model.specs.Entries.{entry_at}
-use Rattle.file_zeros.proofs.Streams.{IsStart, ends_long, ends_short}
+use Rattle.file_zeros.proofs.Starts.{IsStart, ends_long, ends_short}
 use Rattle.file_zeros.proofs.streams.ends_so.Goals as goal
 
 pub returns-then-size-lt-CUTOFF : goal.returns-then-size-lt-CUTOFF

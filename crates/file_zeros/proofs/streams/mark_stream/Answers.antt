@@ -1,6 +1,6 @@
 use Rattle.std.proofs.Common.{◌≡◌, List, ℕ, arith, get_or}
 use Rattle.directory_model.specs.Entries.{entry_at}
-use Rattle.file_zeros.proofs.Streams.{IsStart, mark_long, mark_short}
+use Rattle.file_zeros.proofs.Starts.{IsStart, mark_long, mark_short}
 use Rattle.file_zeros.proofs.streams.mark_stream.Goals as goal
 
 pub returns-then-size-lt-CUTOFF-clause-minis : goal.returns-then-size-lt-CUTOFF-clause-minis

@@ -12,9 +12,9 @@ returns c = λ ids longs shorts taken zero own.
     let read : IsTaken c.deref.result.now p.next.items p.next_mini.items ids longs shorts =
     subst (λ (s : List ℕ). IsTaken s p.next.items p.next_mini.items ids longs shorts) (sym c.deref.ensures.value) taken in
     let met : All (Contains ids) c.in_ok-met.met.items = c.in_ok-met.ensures p.next.items p.next_mini.items ids longs shorts read zero in
-    let first_ids : AreWithin c.in_ok-ids.ids.items ids = subst (W ids) (sym c.in_ok-ids.ensures.items) (none_within _ ids) in
-    let first_sectors : AreWithin c.in_ok-sectors.sectors.items longs = subst (W longs) (sym c.in_ok-sectors.ensures.items) (none_within _ longs) in
-    let first_minis : AreWithin c.in_ok-minis.minis.items shorts = subst (W shorts) (sym c.in_ok-minis.ensures.items) (none_within _ shorts) in
+    let first_ids : AreWithin c.in_ok-ids.ids.items ids = subst (W ids) (sym (c.in_ok-ids.ensures.items_if_clones_equal (λ y e. cc))) (none_within _ ids) in
+    let first_sectors : AreWithin c.in_ok-sectors.sectors.items longs = subst (W longs) (sym (c.in_ok-sectors.ensures.items_if_clones_equal (λ y e. cc))) (none_within _ longs) in
+    let first_minis : AreWithin c.in_ok-minis.minis.items shorts = subst (W shorts) (sym (c.in_ok-minis.ensures.items_if_clones_equal (λ y e. cc))) (none_within _ shorts) in
     let met_in : (n : ℕ) → Contains c.deref-2.result.now n → Contains ids n =
     λ n d. All-contains (Contains ids) c.in_ok-met.met.items n met (subst (λ (s : List ℕ). Contains s n) c.deref-2.ensures.value d) in
     let own_sectors : AreWithin c.mark_parts.new.sectors longs =
