@@ -1,3 +1,4 @@
 pub mod Changed
+pub mod Freed
 pub mod Trimmed
 pub mod Undone

@@ -3,11 +3,13 @@
 ghost use Rattle.cfb_header.specs.declared.fault.ChainFault.{ChainFault};
 ghost use Rattle.cfb_header.specs.Header.{fat_count, header_read};
 ghost use Rattle.file_image.specs.Changed.{changed_blocks};
+ghost use Rattle.file_image.specs.Freed.{IsFreedAs};
 ghost use Rattle.file_image.specs.Trimmed.{trimmed};
 ghost use Rattle.file_image.specs.Undone.{undone};
 ghost use Rattle.file_model.specs.Denotes.{Denotes};
 ghost use Rattle.file_model.specs.Limits.{MOST_BYTES, MOST_FAT_SECTORS};
 ghost use Rattle.file_model.specs.Refusals.{Refuses, writable};
+ghost use Rattle.file_zeros.specs.Zeroed.{IsZeroed};
 ghost use Rattle.std.specs.Prelude.{◌≡◌, ◌≤◌, ◌+◌, ◌*◌, Err, IfErr, IfNone, IfOk, IfSome, IsTrue, Ok, OnErr, OnOk, [], length};
 ghost use Rattle.storage_tree.specs.Kept.{kept};
 ghost use Rattle.storage_tree.specs.Tree as tree;
@@ -23,6 +25,7 @@ use file_placing::freed::Freed;
 use file_placing::placing::place_over;
 use file_queries::queries::is_file_of;
 use file_writer::write::{fits, write_file};
+use file_zeros::zeroed::is_zeroed;
 use std::alloc::{AllocError, Global};
 use std::marker::Model;
 use storage_tree::tree::Tree;
@@ -71,12 +74,38 @@ fn check_room(tree: &Tree) -> Result<(), WriteFault>
     Ok(())
 }
 
-/// The file, if it denotes the tree: it is read again. Nothing is known of it but this.
-fn checked<'a>(alloc: Global, file: &'a [u8], tree: &Tree) -> Result<Option<&'a [u8]>, AllocError>
-    ensures { IfOk result (λ checked. IfSome checked (λ _. ∥ Denotes file.now (kept tree.now).now ∥₁)) }
+/// The file, if what no list of it takes is zero. Nothing is known of it but this.
+fn zeroed_so(alloc: Global, file: &[u8]) -> Result<Option<&[u8]>, AllocError>
+    ensures { IfOk result (λ checked. IfSome checked (λ _. IsZeroed file.now)) }
+{
+    if is_zeroed(alloc, file)? {
+        return Ok(Some(file));
+    }
+    Ok(None)
+}
+
+/// The file, if what is freed in it is as wanted.
+fn freed_so(alloc: Global, file: &[u8], freed: Freed) -> Result<Option<&[u8]>, AllocError>
+    ensures { IfOk result (λ checked. IfSome checked (λ _. IsFreedAs freed file.now)) }
+{
+    match freed {
+        Freed::Kept => Ok(Some(file)),
+        Freed::Zeroed => zeroed_so(alloc, file),
+    }
+}
+
+/// The file, if it denotes the tree, and what is freed in it is as wanted: it is read again. Nothing is known of it but this.
+fn checked<'a>(
+    alloc: Global,
+    file: &'a [u8],
+    tree: &Tree,
+    freed: Freed,
+) -> Result<Option<&'a [u8]>, AllocError>
+    ensures denotes { IfOk result (λ checked. IfSome checked (λ _. ∥ Denotes file.now (kept tree.now).now ∥₁)) }
+    ensures freed { IfOk result (λ checked. IfSome checked (λ _. IsFreedAs freed file.now)) }
 {
     match is_file_of(alloc, file, tree) {
-        Ok(true) => Ok(Some(file)),
+        Ok(true) => freed_so(alloc, file, freed),
         Ok(false) => Ok(None),
         Err(ReadFault::NoMemory) => Err(AllocError),
         Err(_) => Ok(None),
@@ -92,6 +121,7 @@ fn lay_and_check(
     numbers: &mut Vec<u32>,
     blocks: &[&[u8]],
     tree: &Tree,
+    freed: Freed,
 ) -> Result<bool, AllocError>
     requires as_many { 512 * length blocks.now ≡ length file.old }
     requires few { length blocks.now ≤ 1 + 128 * MOST_FAT_SECTORS }
@@ -100,9 +130,10 @@ fn lay_and_check(
     ensures undone { undone was.new.items file.new ≡ file.old }
     ensures changed { OnOk result (numbers.new.items ≡ changed_blocks file.old file.new) }
     ensures denotes { IfOk result (λ is. IsTrue is → ∥ Denotes file.new (kept tree.now).now ∥₁) }
+    ensures freed { IfOk result (λ is. IsTrue is → IsFreedAs freed file.new) }
 {
     lay_over(file, was, numbers, blocks)?;
-    match checked(alloc, file, tree)? {
+    match checked(alloc, file, tree, freed)? {
         Some(_) => Ok(true),
         None => Ok(false),
     }
@@ -116,17 +147,19 @@ fn change_in_place(
     file: &mut [u8],
     blocks: &[&[u8]],
     tree: &Tree,
+    freed: Freed,
 ) -> Result<Option<Vec<u32>>, AllocError>
     requires as_many { 512 * length blocks.now ≡ length file.old }
     requires few { length blocks.now ≤ 1 + 128 * MOST_FAT_SECTORS }
     ensures denotes { IfOk result (λ numbers. IfSome numbers (λ _. ∥ Denotes file.new (kept tree.now).now ∥₁)) }
+    ensures freed { IfOk result (λ numbers. IfSome numbers (λ _. IsFreedAs freed file.new)) }
     ensures changed { IfOk result (λ numbers. IfSome numbers (λ n. n.items ≡ changed_blocks file.old file.new)) }
     ensures stays { IfOk result (λ numbers. IfNone numbers (file.new ≡ file.old)) }
     ensures kept { OnErr result (file.new ≡ file.old) }
 {
     let mut was = Vec::new(alloc);
     let mut numbers = Vec::new(alloc);
-    let denotes = lay_and_check(alloc, file, &mut was, &mut numbers, blocks, tree);
+    let denotes = lay_and_check(alloc, file, &mut was, &mut numbers, blocks, tree, freed);
     if let Ok(true) = denotes {
         return Ok(Some(numbers));
     }
@@ -144,15 +177,17 @@ fn replace_file(
     file: &mut Vec<u8>,
     blocks: &[&[u8]],
     tree: &Tree,
+    freed: Freed,
 ) -> Result<Option<Vec<u32>>, AllocError>
     requires { length blocks.now ≤ 1 + 128 * MOST_FAT_SECTORS }
     ensures denotes { IfOk result (λ numbers. IfSome numbers (λ _. ∥ Denotes file.new.items (kept tree.now).now ∥₁)) }
+    ensures freed { IfOk result (λ numbers. IfSome numbers (λ _. IsFreedAs freed file.new.items)) }
     ensures changed { IfOk result (λ numbers. IfSome numbers (λ n. n.items ≡ changed_blocks file.old.items file.new.items)) }
     ensures stays { IfOk result (λ numbers. IfNone numbers (file.new.items ≡ file.old.items)) }
     ensures kept { OnErr result (file.new.items ≡ file.old.items) }
 {
     let update = overlaid(alloc, file, blocks)?;
-    if checked(alloc, &update.file, tree)?.is_none() {
+    if checked(alloc, &update.file, tree, freed)?.is_none() {
         return Ok(None);
     }
     *file = update.file;
@@ -168,17 +203,19 @@ fn change_blocks(
     file: &mut Vec<u8>,
     blocks: &[&[u8]],
     tree: &Tree,
+    freed: Freed,
 ) -> Result<Option<Vec<u32>>, AllocError>
     requires { length blocks.now ≤ 1 + 128 * MOST_FAT_SECTORS }
     ensures denotes { IfOk result (λ numbers. IfSome numbers (λ _. ∥ Denotes file.new.items (kept tree.now).now ∥₁)) }
+    ensures freed { IfOk result (λ numbers. IfSome numbers (λ _. IsFreedAs freed file.new.items)) }
     ensures changed { IfOk result (λ numbers. IfSome numbers (λ n. n.items ≡ changed_blocks file.old.items file.new.items)) }
     ensures stays { IfOk result (λ numbers. IfNone numbers (file.new.items ≡ file.old.items)) }
     ensures kept { OnErr result (file.new.items ≡ file.old.items) }
 {
     if BLOCK * blocks.len() == file.len() {
-        return change_in_place(alloc, file, blocks, tree);
+        return change_in_place(alloc, file, blocks, tree, freed);
     }
-    replace_file(alloc, file, blocks, tree)
+    replace_file(alloc, file, blocks, tree, freed)
 }
 
 /// Makes a file, which denotes a tree, that of another one, in the sectors that it has, and gives the numbers of the blocks that
@@ -192,6 +229,7 @@ fn change_in_sectors(
     freed: Freed,
 ) -> Result<Option<Vec<u32>>, AllocError>
     ensures denotes { IfOk result (λ numbers. IfSome numbers (λ _. ∥ Denotes file.new.items (kept tree.now).now ∥₁)) }
+    ensures freed { IfOk result (λ numbers. IfSome numbers (λ _. IsFreedAs freed file.new.items)) }
     ensures changed { IfOk result (λ numbers. IfSome numbers (λ n. n.items ≡ changed_blocks file.old.items file.new.items)) }
     ensures stays { IfOk result (λ numbers. IfNone numbers (file.new.items ≡ file.old.items)) }
     ensures kept { OnErr result (file.new.items ≡ file.old.items) }
@@ -206,21 +244,30 @@ fn change_in_sectors(
         return Ok(None);
     };
     let blocks = laid.blocks(alloc)?;
-    change_blocks(alloc, file, &blocks, tree)
+    change_blocks(alloc, file, &blocks, tree, freed)
 }
 
 /// Puts the file of a tree, laid out anew, in the place of an older one, and gives the numbers of the blocks that change or are
-/// new.
+/// new. It is looked at too: that `write_file` leaves zeros where nothing lies is in no clause.
 ///
-/// Refused: as `write_file`. Then the file stays as it was.
-fn lay_out_anew(alloc: Global, file: &mut Vec<u8>, tree: &Tree) -> Result<Vec<u32>, WriteFault>
+/// Refused: as `write_file`; `NoMemory` too where what is to be zeroed isn't. Then the file stays as it was.
+fn lay_out_anew(
+    alloc: Global,
+    file: &mut Vec<u8>,
+    tree: &Tree,
+    freed: Freed,
+) -> Result<Vec<u32>, WriteFault>
     ensures denotes { OnOk result (∥ Denotes file.new.items (kept tree.now).now ∥₁) }
+    ensures freed { OnOk result (IsFreedAs freed file.new.items) }
     ensures changed { IfOk result (λ numbers. numbers.items ≡ changed_blocks file.old.items file.new.items) }
     ensures refused { IfErr result (Refuses (writable (kept tree.now).now)) }
     ensures allowed { OnOk result (writable (kept tree.now).now ≡ Ok tt) }
     ensures kept { OnErr result (file.new.items ≡ file.old.items) }
 {
     let new = written(alloc, tree)?;
+    let Ok(Some(_)) = freed_so(alloc, &new, freed) else {
+        return Err(WriteFault::NoMemory);
+    };
     match changed(alloc, file, &new) {
         Ok(numbers) => {
             *file = new;
@@ -241,6 +288,7 @@ fn change_file(
     freed: Freed,
 ) -> Result<Vec<u32>, WriteFault>
     ensures denotes { OnOk result (∥ Denotes file.new.items (kept tree.now).now ∥₁) }
+    ensures freed { OnOk result (IsFreedAs freed file.new.items) }
     ensures changed { IfOk result (λ numbers. numbers.items ≡ changed_blocks file.old.items file.new.items) }
     ensures refused { IfErr result (Refuses (writable (kept tree.now).now)) }
     ensures allowed { OnOk result (writable (kept tree.now).now ≡ Ok tt) }
@@ -249,7 +297,7 @@ fn change_file(
     check_room(tree)?;
     match change_in_sectors(alloc, file, tree, freed)? {
         Some(numbers) => Ok(numbers),
-        None => lay_out_anew(alloc, file, tree),
+        None => lay_out_anew(alloc, file, tree, freed),
     }
 }
 
@@ -322,11 +370,13 @@ impl Image {
         change_file(alloc, &mut self.file, tree, Freed::Kept)
     }
 
-    /// As `update`, but all that the tree doesn't take becomes zeros: free sectors, free mini sectors and unused entries. So
-    /// nothing of what the image held before can be read in its bytes, and more blocks may change than by `update`. That is
-    /// tested, and in no clause.
+    /// As `update`, but all that the tree doesn't take is zero: free sectors, free mini sectors, unused entries, and what lies
+    /// behind the ends of streams. So what was deleted can't be read in its bytes, and more blocks may change than by `update`.
+    ///
+    /// Refused: as `update`.
     pub fn update_zeroed(&mut self, alloc: Global, tree: &Tree) -> Result<Vec<u32>, WriteFault>
         ensures denotes { OnOk result (∥ Denotes self.new (kept tree.now).now ∥₁) }
+        ensures zeroed { OnOk result (IsZeroed self.new) }
         ensures changed { IfOk result (λ numbers. numbers.items ≡ changed_blocks self.old self.new) }
         ensures refused { IfErr result (Refuses (writable (kept tree.now).now)) }
         ensures allowed { OnOk result (writable (kept tree.now).now ≡ Ok tt) }

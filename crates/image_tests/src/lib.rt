@@ -13,3 +13,5 @@ mod trimming;
 mod wide;
 #[cfg(test)]
 mod zeroing;
+#[cfg(test)]
+mod zeros;

@@ -150,7 +150,7 @@ fn nothing_of_a_random_tree_is_left_in_the_next(rt: HostRuntime) {
     let mut seed = 1606;
     let mut image = image_of(&rt, alloc, &tree(&rt, alloc, &mut seed, ODD));
     let mut were: u32 = 0;
-    for _ in 0..60 {
+    for _ in 0..500 {
         if replaces(&rt, alloc, &mut image, &mut seed, [EVEN, ODD]) {
             were = were.saturating_add(1);
         }
@@ -158,7 +158,7 @@ fn nothing_of_a_random_tree_is_left_in_the_next(rt: HostRuntime) {
             were = were.saturating_add(1);
         }
     }
-    assert!(rt; were > 100, "{were}");
+    assert!(rt; were > 900, "{were}");
 }
 
 /// Of the streams in an image that is updated to others, something is left where what is freed is kept, and nothing where it

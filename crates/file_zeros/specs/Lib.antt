@@ -1,0 +1,4 @@
+pub mod Parts
+pub mod Rest
+pub mod Taken
+pub mod Zeroed
