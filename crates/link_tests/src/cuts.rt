@@ -7,11 +7,11 @@ use std::alloc::Global;
 use std::process::Abort;
 
 /// A note is edited twice, the second time while what its server sends waits, over a link that is cut; it is closed.
-const ONE: &str =
+pub(crate) const ONE: &str =
     "new e 12 4\ninsert 1 note 1 1 5 2\nstart\nrun 1 1\nedit 1 i 0 a\nhold 1\nedit 1 i 1 b\ncut 1\nrelease 1\nclose 1 save\nscreen 1\n";
 
 /// A note and a table, each in a server of its own, take their frame in turn, and are closed; the note runs again in the other server.
-const TWO: &str =
+pub(crate) const TWO: &str =
     "new a 44 9\ninsert 1 note 4 2 18 4\ninsert 1 table 24 2 18 4\nstart\nstart\nrun 1 1\nrun 2 2\nedit 1 i 0 Ada\nedit 2 s A1 3\nverb 1 -4\nverb 2 -4\nclose 1 save\nclose 2 save\nscreen 1\nrun 1 2\nedit 1 i 0 Dear \nclose 1 save\nscreen 1\n";
 
 /// The most calls of links that are tried.

@@ -15,11 +15,11 @@ use store_model::disk::Disk;
 use store_model::fault::StoreFault;
 
 /// Two notes, each in a server of its own, one of which is ended before the save.
-const SCRIPT: &str =
+pub(crate) const SCRIPT: &str =
     "new d.ole 40 12\ninsert 1 note 0 0 20 5\ninsert 1 note 0 6 20 5\nstart\nstart\nrun 1 1\nrun 2 2\nedit 1 i 0 a\nedit 2 i 0 b\nkill 1\nsave 1\n";
 
 /// The same, up to the save that raises the session.
-const START: &str =
+pub(crate) const START: &str =
     "new d.ole 40 12\ninsert 1 note 0 0 20 5\ninsert 1 note 0 6 20 5\nstart\nstart\n";
 
 /// What is written before it is saved.
@@ -57,15 +57,21 @@ fn end_of(written: &[u8], told: &Result<(), ScriptFault>) -> End {
 
 /// What a script is to write, how it ends, how many objects it makes, and its file's disk. Each object is dropped once.
 #[derive(Drop)]
-struct Ran {
-    written: Vec<u8>,
-    told: Result<(), ScriptFault>,
-    made: u32,
-    disk: MemoryDisk,
+pub(crate) struct Ran {
+    pub(crate) written: Vec<u8>,
+    pub(crate) told: Result<(), ScriptFault>,
+    pub(crate) made: u32,
+    pub(crate) disk: MemoryDisk,
 }
 
 /// Runs a script over a new file, whose calls fail so once its disk was given so often.
-fn run_script_on(rt: &impl Abort, alloc: Global, script: &str, given: u32, faults: Faults) -> Ran {
+pub(crate) fn run_script_on(
+    rt: &impl Abort,
+    alloc: Global,
+    script: &str,
+    given: u32,
+    faults: Faults,
+) -> Ran {
     let tally = Tally::new(alloc).expect(rt, "memory");
     let shared = tally.share().expect(rt, "memory");
     let mut host = Servers::new(alloc, shared, u64::MAX, Arrives::All);
@@ -96,7 +102,7 @@ fn run(rt: &impl Abort, alloc: Global, faults: Faults) -> (End, MemoryDisk) {
 }
 
 /// The document that a store finds on a disk of which no call fails any more.
-fn document(rt: &impl Abort, alloc: Global, disk: MemoryDisk) -> Vec<u8> {
+pub(crate) fn document(rt: &impl Abort, alloc: Global, disk: MemoryDisk) -> Vec<u8> {
     let mut disk = disk;
     disk.set_faults(Faults::Never);
     match Store::open(alloc, disk) {
@@ -111,7 +117,7 @@ fn document(rt: &impl Abort, alloc: Global, disk: MemoryDisk) -> Vec<u8> {
 /// The document from before a save, and the one that is saved: in the sectors of the one from before, or, where that isn't read, in
 /// its own.
 #[derive(Drop)]
-struct Documents {
+pub(crate) struct Documents {
     old: Vec<u8>,
     new: Vec<u8>,
     plain: Vec<u8>,
@@ -119,12 +125,12 @@ struct Documents {
 
 impl Documents {
     /// Whether a document is the one from before.
-    fn is_old(&self, found: &[u8]) -> bool {
+    pub(crate) fn is_old(&self, found: &[u8]) -> bool {
         found == self.old.as_slice()
     }
 
     /// Whether a document is the one that is saved.
-    fn is_new(&self, found: &[u8]) -> bool {
+    pub(crate) fn is_new(&self, found: &[u8]) -> bool {
         found == self.new.as_slice() || found == self.plain.as_slice()
     }
 }
@@ -191,7 +197,7 @@ fn count(rt: &impl Abort, alloc: Global, once: bool, documents: &Documents) -> [
 }
 
 /// The documents of the whole script: that of the session, and those of its save.
-fn made_documents(rt: &impl Abort, alloc: Global) -> Documents {
+pub(crate) fn made_documents(rt: &impl Abort, alloc: Global) -> Documents {
     let begun = run_script_on(rt, alloc, START, 0, Faults::Never);
     let (_, disk) = run(rt, alloc, Faults::Never);
     let (_, unread) = run(rt, alloc, Faults::Once(0));

@@ -10,6 +10,8 @@ mod ends;
 #[cfg(test)]
 mod given;
 #[cfg(test)]
+mod refusals;
+#[cfg(test)]
 mod saves;
 #[cfg(test)]
 mod server;
@@ -17,5 +19,7 @@ mod server;
 mod servers;
 #[cfg(test)]
 mod sockets;
+#[cfg(test)]
+mod stops;
 #[cfg(test)]
 mod wire;

@@ -12,6 +12,8 @@ mod files;
 #[cfg(test)]
 mod folder;
 #[cfg(test)]
+mod refusals;
+#[cfg(test)]
 mod resolving;
 #[cfg(test)]
 mod runs;
