@@ -29,11 +29,13 @@ fn exchange(state: &mut State, past: &mut Past)
 
 // An event at a server of these, which are of an earlier run.
 fn go_on(state: &mut State, alloc: Global, event: &Event) -> Result<(), Stop>
+    requires { session_of (bare state.old.host) event.now ≢ state.old.host.core.session }
     ensures taken { OnOk result (GoesOn (λ s. (⟦<dyn Embedded as Embedded>⟧ s.boxed.vtable).content s.boxed.value) state.old event.now state.new) }
     ensures refused { IfErr result (RefusesOn (λ s. (⟦<dyn Embedded as Embedded>⟧ s.boxed.vtable).content s.boxed.value) state.old event.now) }
     ensures kept { OnErr result (StateStays (λ s. (⟦<dyn Embedded as Embedded>⟧ s.boxed.vtable).content s.boxed.value) state.old state.new) }
 {
     match event {
+        // It isn't of the present session, so it is a call.
         Event::Deliver(p) => state.deliver(alloc, *p),
         Event::Crash(_, inc) => state.crash_here(alloc, *inc),
         Event::Scribble(_, inc, act) => state.scribble_here(alloc, *inc, *act),
