@@ -1,21 +1,25 @@
 //! What tests call. These functions have no contracts, so that the tests stay quick to prove.
 
 use cfb_names::name::{Name, named};
+use file_writer::write::write_file;
 use object_parts::area::Area;
 use object_parts::limits::{comp_obj, ole};
 use ole_streams::comp_obj::CompObj;
 use ole_streams::doc::{Doc, DocObject};
 use ole_streams::document_of::document_of;
 use ole_streams::document_tree::document_tree;
+use ole_streams::fault::OleFault;
 use ole_streams::names;
 use ole_streams::ole_stream::OleStream;
-use std::alloc::Global;
+use refusal_marks::marks::{begin, end};
+use std::alloc::{AllocError, Global};
 use std::process::Abort;
 use storage_tree::tree::Tree;
 use stored_streams::stored::Stored;
 use stored_streams::streams::{NamedStream, Streams};
 use stored_values::bytes::Bytes;
 use stored_values::class_id::ClassId;
+use stream_io::read::read_file;
 
 pub(crate) fn bytes(rt: &impl Abort, alloc: Global, bytes: &[u8]) -> Bytes {
     Bytes::from_slice(alloc, bytes).expect(rt, "memory")
@@ -58,27 +62,99 @@ pub(crate) fn object(
     }
 }
 
-/// How a push is answered.
-pub(crate) fn pushed(doc: &mut Doc, object: DocObject) -> &'static str {
-    match doc.push(object) {
+fn pushed_once(alloc: Global, doc: &mut Doc, object: DocObject) -> Result<(), OleFault> {
+    begin(alloc);
+    let answer = doc.push(object);
+    end(alloc);
+    answer
+}
+
+fn push_told(answer: Result<(), OleFault>) -> &'static str {
+    match answer {
         Ok(()) => "pushed",
         Err(fault) => fault.name(),
     }
 }
 
-/// The tree of a document.
+/// How a push is answered. Where memory is refused, the document is as before, and the object is pushed again.
+pub(crate) fn pushed(
+    rt: &impl Abort,
+    alloc: Global,
+    doc: &mut Doc,
+    object: DocObject,
+) -> &'static str {
+    let again = object.copy(alloc).expect(rt, "memory");
+    let len = doc.len();
+    match pushed_once(alloc, doc, object) {
+        Err(OleFault::NoMemory) => {
+            assert!(rt; doc.len() == len);
+            push_told(pushed_once(alloc, doc, again))
+        }
+        answer => push_told(answer),
+    }
+}
+
+fn tree_once(alloc: Global, doc: Doc) -> Result<Tree, AllocError> {
+    begin(alloc);
+    let tree = document_tree(alloc, doc);
+    end(alloc);
+    tree
+}
+
+fn copy_once(alloc: Global, doc: &Doc) -> Result<Doc, AllocError> {
+    begin(alloc);
+    let copy = doc.copy(alloc);
+    end(alloc);
+    copy
+}
+
+/// A copy of a document, made again where memory is refused.
+pub(crate) fn copy_of(rt: &impl Abort, alloc: Global, doc: &Doc) -> Doc {
+    match copy_once(alloc, doc) {
+        Ok(copy) => copy,
+        Err(_) => copy_once(alloc, doc).expect(rt, "memory"),
+    }
+}
+
+/// The tree of a document, made again where memory is refused.
 pub(crate) fn tree_of(rt: &impl Abort, alloc: Global, doc: Doc) -> Tree {
-    document_tree(alloc, doc).expect(rt, "memory")
+    let again = doc.copy(alloc).expect(rt, "memory");
+    match tree_once(alloc, doc) {
+        Ok(tree) => tree,
+        Err(_) => tree_once(alloc, again).expect(rt, "memory"),
+    }
+}
+
+/// An equal tree.
+fn twin(rt: &impl Abort, alloc: Global, tree: &Tree) -> Tree {
+    let file = write_file(alloc, tree).expect(rt, "a file");
+    read_file(alloc, &file).expect(rt, "a tree")
+}
+
+fn doc_once(alloc: Global, tree: Tree) -> Result<Doc, OleFault> {
+    begin(alloc);
+    let doc = document_of(alloc, tree);
+    end(alloc);
+    doc
+}
+
+/// The document of a tree, or why it holds none. It is read again where memory is refused.
+fn doc_or_fault(rt: &impl Abort, alloc: Global, tree: Tree) -> Result<Doc, OleFault> {
+    let again = twin(rt, alloc, &tree);
+    match doc_once(alloc, tree) {
+        Err(OleFault::NoMemory) => doc_once(alloc, again),
+        doc => doc,
+    }
 }
 
 /// The document of a tree.
 pub(crate) fn doc_of(rt: &impl Abort, alloc: Global, tree: Tree) -> Doc {
-    document_of(alloc, tree).expect(rt, "a document")
+    doc_or_fault(rt, alloc, tree).expect(rt, "a document")
 }
 
 /// "read", or why a tree holds no document.
-pub(crate) fn doc_told(alloc: Global, tree: Tree) -> &'static str {
-    match document_of(alloc, tree) {
+pub(crate) fn doc_told(rt: &impl Abort, alloc: Global, tree: Tree) -> &'static str {
+    match doc_or_fault(rt, alloc, tree) {
         Ok(_) => "read",
         Err(fault) => fault.name(),
     }
@@ -93,14 +169,21 @@ pub(crate) fn remove(rt: &impl Abort, tree: &mut Tree, path: &[Name]) {
     tree.remove(path).expect(rt, "what is to go");
 }
 
-/// What says of which user type an object is.
+/// What says of which user type an object is, written again where memory is refused.
 pub(crate) fn kind(rt: &impl Abort, alloc: Global, user_type: &[u8]) -> Bytes {
     let kind = CompObj {
         user_type: bytes(rt, alloc, user_type),
     };
     assert!(rt; kind.user_type.len() < 0xffff_ffff);
-    kind.write(alloc, ClassId::from_bytes([7; 16]))
-        .expect(rt, "memory")
+    begin(alloc);
+    let written = kind.write(alloc, ClassId::from_bytes([7; 16]));
+    end(alloc);
+    match written {
+        Ok(bytes) => bytes,
+        Err(_) => kind
+            .write(alloc, ClassId::from_bytes([7; 16]))
+            .expect(rt, "memory"),
+    }
 }
 
 pub(crate) fn make_storage(rt: &impl Abort, tree: &mut Tree, name: Name) {

@@ -1,8 +1,8 @@
 //! Documents and their trees.
 
 use crate::calls::{
-    bytes, doc_of, doc_told, layout, make_storage, name, object, pushed, put, remove, tree_of,
-    tree_with,
+    bytes, copy_of, doc_of, doc_told, layout, make_storage, name, object, pushed, put, remove,
+    tree_of, tree_with,
 };
 use crate::texts::{spelled, word};
 use cfb_names::name::Name;
@@ -60,7 +60,7 @@ fn is_pushed(rt: &impl Abort, alloc: Global, doc: &mut Doc, row: &str) -> bool {
     let mut words = row.split_whitespace();
     let picture = spelled(rt, alloc, word(&mut words));
     let stream = stream_of(rt, alloc, word(&mut words));
-    pushed(doc, object(rt, alloc, 1, &picture, &stream)) == word(&mut words)
+    pushed(rt, alloc, doc, object(rt, alloc, 1, &picture, &stream)) == word(&mut words)
 }
 
 fn change(rt: &impl Abort, alloc: Global, tree: &mut Tree, what: &str) {
@@ -113,7 +113,7 @@ fn is_told(rt: &impl Abort, alloc: Global, row: &str) -> bool {
     let mut words = row.split_whitespace();
     let mut tree = numbered(rt, alloc, &spelled(rt, alloc, word(&mut words)));
     change(rt, alloc, &mut tree, word(&mut words));
-    doc_told(alloc, tree) == word(&mut words)
+    doc_told(rt, alloc, tree) == word(&mut words)
 }
 
 /// Whether a stream has these bytes.
@@ -159,7 +159,7 @@ fn takes(
     picture: &[u8],
     stream: &[u8],
 ) -> bool {
-    pushed(doc, object(rt, alloc, x, picture, stream)) == "pushed"
+    pushed(rt, alloc, doc, object(rt, alloc, x, picture, stream)) == "pushed"
 }
 
 /// A document with two objects.
@@ -182,7 +182,7 @@ fn are_two(rt: &impl Abort, doc: &Doc) -> bool {
 fn is_file(rt: &impl Abort, alloc: Global, tree: &Tree, size: usize) -> bool {
     let file = write_file(alloc, tree).expect(rt, "a file");
     let read = read_file(alloc, &file).expect(rt, "a tree");
-    file.len() == size && doc_told(alloc, read) == "read"
+    file.len() == size && doc_told(rt, alloc, read) == "read"
 }
 
 #[test]
@@ -195,7 +195,7 @@ fn an_empty_document_is_a_file(rt: HostRuntime) {
 #[test]
 fn a_document_is_read_again(rt: HostRuntime) {
     let doc = two(&rt, rt.alloc());
-    let copy = doc.copy(rt.alloc()).expect(&rt, "memory");
+    let copy = copy_of(&rt, rt.alloc(), &doc);
     assert!(rt; are_two(&rt, &copy));
     let tree = tree_of(&rt, rt.alloc(), doc);
     assert!(rt; tree.root().children.len() == 3);
@@ -213,7 +213,7 @@ fn a_document_holds_what_fits(rt: HostRuntime) {
     }
     assert!(rt; is_pushed(&rt, rt.alloc(), &mut doc, ONE_TOO_MANY));
     assert!(rt; doc.len() == 64);
-    assert!(rt; doc_told(rt.alloc(), tree_of(&rt, rt.alloc(), doc)) == "read");
+    assert!(rt; doc_told(&rt, rt.alloc(), tree_of(&rt, rt.alloc(), doc)) == "read");
 }
 
 #[test]
@@ -248,9 +248,9 @@ fn a_document_has_its_session(rt: HostRuntime) {
 fn a_session_has_four_bytes(rt: HostRuntime) {
     for stream in [b"".as_slice(), b"\x01\0\0", b"\x01\0\0\0\0"] {
         let tree = of_session(&rt, rt.alloc(), stream);
-        assert!(rt; doc_told(rt.alloc(), tree) == "NotADocument");
+        assert!(rt; doc_told(&rt, rt.alloc(), tree) == "NotADocument");
     }
     let mut tree = tree_of(&rt, rt.alloc(), Doc::new(rt.alloc(), 0));
     make_storage(&rt, &mut tree, names::session());
-    assert!(rt; doc_told(rt.alloc(), tree) == "NotADocument");
+    assert!(rt; doc_told(&rt, rt.alloc(), tree) == "NotADocument");
 }

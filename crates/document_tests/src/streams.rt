@@ -3,9 +3,11 @@
 use crate::calls::{bytes, kind};
 use crate::texts::{spelled, word};
 use ole_streams::comp_obj::CompObj;
+use ole_streams::fault::OleFault;
 use ole_streams::ole_stream::OleStream;
 use ole_streams::presentation::{Presentation, lines};
-use std::alloc::Global;
+use refusal_marks::marks::{begin, end};
+use std::alloc::{AllocError, Global};
 use std::process::Abort;
 use stored_values::bytes::Bytes;
 
@@ -64,8 +66,23 @@ picture 0c000000,4f6c65436f6e205465787400,04000000,01000000,00ffffff,02000000,00
 picture 0c000000,586c65436f6e205465787400,04000000,01000000,ffffffff,02000000,00000000,02000000,01000000,03000000,61620a other
 picture 0c000000,4f6c65436f6e205465787400,04000000,01000000,ffffffff,02000000,00000000,02000000,01000000,03000000,07620a other";
 
+fn picture_once(alloc: Global, lines: &[u8]) -> Result<Option<Bytes>, AllocError> {
+    begin(alloc);
+    let picture = Presentation::write(alloc, lines);
+    end(alloc);
+    picture
+}
+
+/// The picture of lines, written again where memory is refused.
+fn picture_of(rt: &impl Abort, alloc: Global, lines: &[u8]) -> Option<Bytes> {
+    match picture_once(alloc, lines) {
+        Ok(picture) => picture,
+        Err(_) => picture_once(alloc, lines).expect(rt, "memory"),
+    }
+}
+
 fn picture_written(rt: &impl Abort, alloc: Global, lines: &[u8]) -> Bytes {
-    match Presentation::write(alloc, lines).expect(rt, "memory") {
+    match picture_of(rt, alloc, lines) {
         Some(picture) => picture,
         None => Bytes::new(alloc),
     }
@@ -95,9 +112,24 @@ fn ole_is(stream: &[u8], want: &str) -> bool {
     }
 }
 
+fn kind_once(alloc: Global, stream: &[u8]) -> Result<CompObj, OleFault> {
+    begin(alloc);
+    let kind = CompObj::read(alloc, stream);
+    end(alloc);
+    kind
+}
+
+/// What says of which user type an object is, read again where memory is refused.
+fn kind_of(alloc: Global, stream: &[u8]) -> Result<CompObj, OleFault> {
+    match kind_once(alloc, stream) {
+        Err(OleFault::NoMemory) => kind_once(alloc, stream),
+        kind => kind,
+    }
+}
+
 /// Whether the user type is as wanted, or the fault.
 fn kind_is(alloc: Global, stream: &[u8], want: &str) -> bool {
-    match CompObj::read(alloc, stream) {
+    match kind_of(alloc, stream) {
         Ok(read) => is_user_type(read.user_type.as_slice(), want),
         Err(fault) => fault.name() == want,
     }
@@ -117,9 +149,24 @@ fn other_is(rt: &impl Abort, alloc: Global, behind: &[u8], want: &str) -> bool {
     kind_is(alloc, &stream, want)
 }
 
+fn shown_once(alloc: Global, stream: &[u8]) -> Result<Presentation, AllocError> {
+    begin(alloc);
+    let shown = Presentation::read(alloc, stream);
+    end(alloc);
+    shown
+}
+
+/// A picture, read again where memory is refused.
+fn shown(rt: &impl Abort, alloc: Global, stream: &[u8]) -> Presentation {
+    match shown_once(alloc, stream) {
+        Ok(shown) => shown,
+        Err(_) => shown_once(alloc, stream).expect(rt, "memory"),
+    }
+}
+
 /// Whether a picture is the line `ab`, or kept as it is.
 fn picture_is(rt: &impl Abort, alloc: Global, stream: &[u8], want: &str) -> bool {
-    match Presentation::read(alloc, stream).expect(rt, "memory") {
+    match shown(rt, alloc, stream) {
         Presentation::Text(lines) => want == "text" && lines.as_slice() == b"ab\n".as_slice(),
         Presentation::Other(bytes) => want == "other" && bytes.as_slice() == stream,
     }
