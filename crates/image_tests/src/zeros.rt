@@ -36,9 +36,9 @@ fn mixed(rt: &impl Abort, alloc: Global) -> Tree {
 #[test]
 fn what_is_laid_out_is_zeroed(rt: HostRuntime) {
     let alloc = rt.alloc();
-    let file = write_file(alloc, &mixed(&rt, alloc)).expect(rt, "a file");
+    let file = write_file(alloc, &mixed(&rt, alloc)).expect(&rt, "a file");
     assert!(rt; is_clean(&rt, alloc, &file));
-    let file = write_file(alloc, &tree_of(&rt, alloc, &[])).expect(rt, "a file");
+    let file = write_file(alloc, &tree_of(&rt, alloc, &[])).expect(&rt, "a file");
     assert!(rt; is_clean(&rt, alloc, &file));
 }
 
