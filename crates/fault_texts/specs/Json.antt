@@ -4,6 +4,7 @@ use Rattle.std.specs.Global.{Global}
 use Rattle.std.specs.Fmt.{decimal}
 use Rattle.json.specs.Print.{print}
 use Rattle.json.specs.Token.{Token, begin_object, boolean, end_object, key, null, number, string}
+use Rattle.fault_lines.specs.Told.{told}
 use Rattle.fault_places.specs.Ways.{end_of}
 use Rattle.fault_places.specs.declared.place.Link.{Link}
 use Rattle.fault_places.specs.declared.place.FaultPlace.{FaultPlace}
@@ -120,17 +121,27 @@ spot_members None = unknown_members
 spot_members (Some s) = known_members s
 
 -- ---- the value
-abbrev pub sound_tokens : List Token
-sound_tokens = begin_object ∷ (ok_member true ++ end_object ∷ [])
+-- the name of the file, where it is told
+abbrev pub file_member : Option (List ℕ) → List Token
+file_member None = []
+file_member (Some name) = text_member (codes "file") name
 
-abbrev pub told_tokens : ReadFault → Option Spot → List Token
-told_tokens fault spot = begin_object ∷ (ok_member false ++ (text_member (codes "fault") (read_fault_name fault) ++ (spot_members spot ++ end_object ∷ [])))
+abbrev pub sound_tokens : Option (List ℕ) → List Token
+sound_tokens name = begin_object ∷ (file_member name ++ (ok_member true ++ end_object ∷ []))
 
--- ---- the text of either form, on a line of its own
+abbrev pub told_tokens : Option (List ℕ) → ReadFault → Option Spot → List Token
+told_tokens name fault spot =
+    begin_object ∷ (file_member name ++ (ok_member false ++ (text_member (codes "fault") (read_fault_name fault) ++ (spot_members spot ++ end_object ∷ []))))
+
+-- ---- the text of each form, on a line of its own; a name stands before a line as it is told of faults
 abbrev pub sound_text : Form → List ℕ
 sound_text form.Line = SOUND
-sound_text form.Json = print sound_tokens ++ 10 ∷ []
+sound_text form.Json = print (sound_tokens None) ++ 10 ∷ []
+sound_text (form.LineOf name) = told name.now ++ (codes ": " ++ SOUND)
+sound_text (form.JsonOf name) = print (sound_tokens (Some name.now)) ++ 10 ∷ []
 
 abbrev pub told_text : Form → ReadFault → Option Spot → List ℕ
 told_text form.Line fault spot = told_line fault spot
-told_text form.Json fault spot = print (told_tokens fault spot) ++ 10 ∷ []
+told_text form.Json fault spot = print (told_tokens None fault spot) ++ 10 ∷ []
+told_text (form.LineOf name) fault spot = told name.now ++ (codes ": " ++ told_line fault spot)
+told_text (form.JsonOf name) fault spot = print (told_tokens (Some name.now) fault spot) ++ 10 ∷ []

@@ -1,8 +1,8 @@
 //! What is wrong with a file, as JSON (RFC 8259).
 
-ghost use Rattle.fault_texts.specs.Json.{chain_link, chain_part, entry_id, entry_of, entry_part, known_members, link_members, link_of, null_member, number_member, ok_member, other_of, owner_id, part_of, path_member, sound_tokens, spot_members, stream_part, text_member, told_tokens, twin_id, unknown_members};
+ghost use Rattle.fault_texts.specs.Json.{chain_link, chain_part, entry_id, entry_of, entry_part, file_member, known_members, link_members, link_of, null_member, number_member, ok_member, other_of, owner_id, part_of, path_member, sound_tokens, spot_members, stream_part, text_member, told_tokens, twin_id, unknown_members};
 ghost use Rattle.json.specs.Print.{print};
-ghost use Rattle.std.specs.Prelude.{[], ◌∷◌, ◌≡◌, ◌++◌, codes, IfOk, OnOk};
+ghost use Rattle.std.specs.Prelude.{[], ◌∷◌, ◌≡◌, ◌++◌, codes, IfOk, OnOk, option_map};
 
 use crate::spot::{Place, Spot};
 use fault_places::place::{EntryPlace, FaultPlace, Link, Owner};
@@ -245,23 +245,41 @@ fn write_spot(writer: &mut Writer, spot: &Option<Spot>) -> Result<(), AllocError
     }
 }
 
-/// Writes the value of a file that is sound.
-fn write_sound(writer: &mut Writer) -> Result<(), AllocError>
+/// Writes the name of the file, where it is to be told.
+fn write_file(writer: &mut Writer, name: Option<&str>) -> Result<(), AllocError>
     ensures before { OnOk result (writer.new.before ≡ writer.old.before) }
-    ensures tokens { OnOk result (writer.new.tokens ≡ writer.old.tokens ++ sound_tokens) }
+    ensures tokens { OnOk result (writer.new.tokens ≡ writer.old.tokens ++ file_member (option_map (λ n. n.now) name.entry)) }
+{
+    match name {
+        None => Ok(()),
+        Some(name) => write_text(writer, "file", name),
+    }
+}
+
+/// Writes the value of a file that is sound.
+fn write_sound(writer: &mut Writer, name: Option<&str>) -> Result<(), AllocError>
+    ensures before { OnOk result (writer.new.before ≡ writer.old.before) }
+    ensures tokens { OnOk result (writer.new.tokens ≡ writer.old.tokens ++ sound_tokens (option_map (λ n. n.now) name.entry)) }
 {
     writer.begin_object()?;
+    write_file(writer, name)?;
     write_ok(writer, true)?;
     writer.end_object()?;
     Ok(())
 }
 
 /// Writes the value of a fault.
-fn write_told(writer: &mut Writer, fault: &ReadFault, spot: &Option<Spot>) -> Result<(), AllocError>
+fn write_told(
+    writer: &mut Writer,
+    name: Option<&str>,
+    fault: &ReadFault,
+    spot: &Option<Spot>,
+) -> Result<(), AllocError>
     ensures before { OnOk result (writer.new.before ≡ writer.old.before) }
-    ensures tokens { OnOk result (writer.new.tokens ≡ writer.old.tokens ++ told_tokens fault.now spot.now) }
+    ensures tokens { OnOk result (writer.new.tokens ≡ writer.old.tokens ++ told_tokens (option_map (λ n. n.now) name.entry) fault.now spot.now) }
 {
     writer.begin_object()?;
+    write_file(writer, name)?;
     write_ok(writer, false)?;
     write_text(writer, "fault", fault.name())?;
     write_spot(writer, spot)?;
@@ -270,11 +288,11 @@ fn write_told(writer: &mut Writer, fault: &ReadFault, spot: &Option<Spot>) -> Re
 }
 
 /// The line of a file that is sound.
-pub(crate) fn sound_json(alloc: Global) -> Result<Vec<u8>, AllocError>
-    ensures { IfOk result (λ v. v.items ≡ print sound_tokens ++ 10 ∷ []) }
+pub(crate) fn sound_json(alloc: Global, name: Option<&str>) -> Result<Vec<u8>, AllocError>
+    ensures { IfOk result (λ v. v.items ≡ print (sound_tokens (option_map (λ n. n.now) name.entry)) ++ 10 ∷ []) }
 {
     let mut writer = Writer::new(Vec::new(alloc));
-    write_sound(&mut writer)?;
+    write_sound(&mut writer, name)?;
     let mut text = writer.into_inner();
     text.push(b'\n')?;
     Ok(text)
@@ -283,13 +301,14 @@ pub(crate) fn sound_json(alloc: Global) -> Result<Vec<u8>, AllocError>
 /// The line of a fault and its place.
 pub(crate) fn told_json(
     alloc: Global,
+    name: Option<&str>,
     fault: &ReadFault,
     spot: &Option<Spot>,
 ) -> Result<Vec<u8>, AllocError>
-    ensures { IfOk result (λ v. v.items ≡ print (told_tokens fault.now spot.now) ++ 10 ∷ []) }
+    ensures { IfOk result (λ v. v.items ≡ print (told_tokens (option_map (λ n. n.now) name.entry) fault.now spot.now) ++ 10 ∷ []) }
 {
     let mut writer = Writer::new(Vec::new(alloc));
-    write_told(&mut writer, fault, spot)?;
+    write_told(&mut writer, name, fault, spot)?;
     let mut text = writer.into_inner();
     text.push(b'\n')?;
     Ok(text)

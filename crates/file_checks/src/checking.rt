@@ -27,12 +27,12 @@ use texts::output::write_all;
 pub fn check_file<R: Read, W: Write>(
     alloc: Global,
     reader: &mut R,
-    form: Form,
+    form: Form<'_>,
     writer: &mut W,
 ) -> Result<(), ListFault>
-    ensures sound { OnOk result (IfSome (R.remaining reader.old) (λ file. IsSound file form (W.contents writer.old) (W.contents writer.new))) }
+    ensures sound { OnOk result (IfSome (R.remaining reader.old) (λ file. IsSound file form.entry (W.contents writer.old) (W.contents writer.new))) }
     ensures refused { IfErr result (λ fault. IfSome (R.remaining reader.old) (λ file. MayRefuseCheck file fault)) }
-    ensures told { IfErr result (λ fault. IfSome (R.remaining reader.old) (λ file. Tells file form fault (W.contents writer.old) (W.contents writer.new))) }
+    ensures told { IfErr result (λ fault. IfSome (R.remaining reader.old) (λ file. Tells file form.entry fault (W.contents writer.old) (W.contents writer.new))) }
 {
     let file = match read_all(alloc, reader) {
         Ok(file) => file,
@@ -47,12 +47,12 @@ pub fn check_file<R: Read, W: Write>(
 pub fn check_source<S: Source, W: Write>(
     alloc: Global,
     source: &mut S,
-    form: Form,
+    form: Form<'_>,
     writer: &mut W,
 ) -> Result<(), ListFault>
-    ensures sound { OnOk result (IfSome (S.bytes source.old) (λ file. IsSound file form (W.contents writer.old) (W.contents writer.new))) }
+    ensures sound { OnOk result (IfSome (S.bytes source.old) (λ file. IsSound file form.entry (W.contents writer.old) (W.contents writer.new))) }
     ensures refused { IfErr result (λ fault. IfSome (S.bytes source.old) (λ file. MayRefuseCheck file fault)) }
-    ensures told { IfErr result (λ fault. IfSome (S.bytes source.old) (λ file. Tells file form fault (W.contents writer.old) (W.contents writer.new))) }
+    ensures told { IfErr result (λ fault. IfSome (S.bytes source.old) (λ file. Tells file form.entry fault (W.contents writer.old) (W.contents writer.new))) }
 {
     let sound = match is_sound(alloc, source) {
         Ok(sound) => sound,
@@ -72,12 +72,12 @@ pub fn check_source<S: Source, W: Write>(
 fn check_bytes<W: Write>(
     alloc: Global,
     file: &[u8],
-    form: Form,
+    form: Form<'_>,
     writer: &mut W,
 ) -> Result<(), ListFault>
-    ensures sound { OnOk result (IsSound file.now form (W.contents writer.old) (W.contents writer.new)) }
+    ensures sound { OnOk result (IsSound file.now form.entry (W.contents writer.old) (W.contents writer.new)) }
     ensures refused { IfErr result (MayRefuseCheck file.now) }
-    ensures told { IfErr result (λ fault. Tells file.now form fault (W.contents writer.old) (W.contents writer.new)) }
+    ensures told { IfErr result (λ fault. Tells file.now form.entry fault (W.contents writer.old) (W.contents writer.new)) }
 {
     let fault = match read_outline(alloc, file) {
         Ok(_) => return write_sound(alloc, form, writer),
@@ -87,8 +87,8 @@ fn check_bytes<W: Write>(
 }
 
 /// Writes that a file is sound.
-fn write_sound<W: Write>(alloc: Global, form: Form, writer: &mut W) -> Result<(), ListFault>
-    ensures written { OnOk result (Appends (W.contents writer.old) (W.contents writer.new) (sound_text form)) }
+fn write_sound<W: Write>(alloc: Global, form: Form<'_>, writer: &mut W) -> Result<(), ListFault>
+    ensures written { OnOk result (Appends (W.contents writer.old) (W.contents writer.new) (sound_text form.entry)) }
     ensures refused { IfErr result (λ fault. IsUnwritten fault (W.contents writer.old) (W.contents writer.new)) }
 {
     let Ok(text) = sound_text(alloc, form) else {
@@ -105,11 +105,11 @@ fn write_sound<W: Write>(alloc: Global, form: Form, writer: &mut W) -> Result<()
 fn tell<W: Write>(
     alloc: Global,
     file: &[u8],
-    form: Form,
+    form: Form<'_>,
     fault: ReadFault,
     writer: &mut W,
 ) -> ListFault
-    ensures told { Tells file.now form result (W.contents writer.old) (W.contents writer.new) }
+    ensures told { Tells file.now form.entry result (W.contents writer.old) (W.contents writer.new) }
     ensures ends { MayRefuseRead file.now fault → MayRefuseCheck file.now result }
 {
     match fault {
@@ -122,12 +122,12 @@ fn tell<W: Write>(
 fn tell_fault<W: Write>(
     alloc: Global,
     file: &[u8],
-    form: Form,
+    form: Form<'_>,
     fault: ReadFault,
     writer: &mut W,
 ) -> ListFault
     requires its_own { fault ≢ NoMemory }
-    ensures told { Tells file.now form result (W.contents writer.old) (W.contents writer.new) }
+    ensures told { Tells file.now form.entry result (W.contents writer.old) (W.contents writer.new) }
     ensures ends { MayRefuseRead file.now fault → MayRefuseCheck file.now result }
 {
     let spot = find_spot(alloc, file, fault);

@@ -2,4 +2,5 @@
 #![tactic(auto)]
 
 pub mod checking;
+pub mod many;
 mod seeking;

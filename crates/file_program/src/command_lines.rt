@@ -19,7 +19,7 @@ pub const FOLDER: &str = "folder";
 
 pub const FORCE: &str = "force";
 
-const ABOUT_CHECK: &str = "Tells what is wrong with a compound file, and where";
+const ABOUT_CHECK: &str = "Tells what is wrong with compound files, and where";
 
 const ABOUT_MAP: &str = "Shows what each sector of a compound file is, and how much of it is free";
 
@@ -53,7 +53,12 @@ With --json it is one JSON value instead, {\"ok\":true} or an object with the me
 sector, to, entry, path, byte and other (the entry whose sector or whose name it is too); each is
 null where it isn't known.
 
-Example: olecon check --json letter.doc | jq -r .fault";
+Of several files a line each is printed, in the order in which they are given, the name and a colon
+before what is told of one; a value each has a first member file. All are checked, also those behind one
+that is refused, and the status is 3 where one is. Of one that can't be read standard error alone tells.
+
+Example: olecon check --json letter.doc | jq -r .fault
+Example: olecon check *.doc | grep -v ': ok$'";
 
 const FOLDERS: &str =
     "Names are spelled as list prints them, and a dot at a name's end as \\2e, so that none leads
@@ -91,8 +96,8 @@ const ROWS: &[Row<'static>] = &[
         arguments: &[
             Argument {
                 name: FILE,
-                help: "The file to check",
-                kind: Kind::Needed("FILE"),
+                help: "The files to check",
+                kind: Kind::Several("FILE"),
             },
             AS_JSON,
         ],

@@ -3,6 +3,7 @@
 use cfb_names::name::Name;
 use fault_texts::telling::Form as CheckForm;
 use file_checks::checking::{check_file, check_source};
+use file_checks::many::{Checker, check_all};
 use file_cleaning::cleaning::clean_opened;
 use file_commands::cleaning::clean_file;
 use file_commands::commands::list_file;
@@ -16,11 +17,12 @@ use file_places::source::Sought;
 use listing_forms::form::Form;
 use listing_forms::json_form::Json;
 use listing_forms::long_form::Long;
-use program_ends::ends::{give_up, keep, refuse, refuse_path};
+use program_ends::ends::{REFUSED, give_up, keep, refuse, refuse_path};
 use program_ends::journals::{refuse_unfinished, tell_unfinished};
 use program_ends::making::count_made;
 use program_ends::new_file::NewFile;
-use std::fs::{File, OpenFile};
+use program_ends::sources::is_sought;
+use std::fs::File;
 use std::process::ExitCode;
 use std::rt::Runtime;
 use std::{fs, io};
@@ -36,14 +38,6 @@ fn open<R: Runtime + AllocGlobal>(rt: &R, path: &str) -> Result<R::File, ExitCod
             Ok(source)
         }
         Err(_) => Err(refuse(rt, &Report::File(path, "Unreadable"))),
-    }
-}
-
-/// Whether a file tells how long it is, so that it needn't be held whole: what isn't needed of it is passed over.
-fn is_sought<F: OpenFile>(source: &F) -> bool {
-    match source.metadata() {
-        Ok(about) => about.is_file() && about.len() > 0,
-        Err(_) => false,
     }
 }
 
@@ -108,11 +102,61 @@ fn list_lines<R: Runtime + AllocGlobal>(rt: &R, mut source: R::File) -> Result<(
     }
 }
 
-/// Tells on standard output what is wrong with a file, and where.
-pub fn check<R: Runtime + AllocGlobal>(rt: &R, path: &str, form: CheckForm) -> ExitCode {
+/// Tells on standard output what is wrong with files, and where: of one alone in a line or a value, of more in one each, with its
+/// name.
+pub fn check<R: Runtime + AllocGlobal>(rt: &R, paths: &[&str], is_json: bool) -> ExitCode {
+    if let [path] = paths {
+        return check_one(rt, path, is_json);
+    }
+    if check_all(&mut SystemChecker { rt, is_json }, paths) {
+        ExitCode::SUCCESS
+    } else {
+        ExitCode::from(REFUSED)
+    }
+}
+
+/// Tells what is wrong with the one file that is asked for.
+fn check_one<R: Runtime + AllocGlobal>(rt: &R, path: &str, is_json: bool) -> ExitCode {
+    let form = if is_json {
+        CheckForm::Json
+    } else {
+        CheckForm::Line
+    };
     match open(rt, path) {
         Ok(source) => end(rt, path, check_open(rt, source, form)),
         Err(code) => code,
+    }
+}
+
+/// Files of a system, which are checked by their paths.
+#[derive(Drop)]
+struct SystemChecker<'a, R: Runtime + AllocGlobal> {
+    rt: &'a R,
+    is_json: bool,
+}
+
+impl<'a, R: Runtime + AllocGlobal> Checker for SystemChecker<'a, R> {
+    fn check(&mut self, name: &str) -> bool {
+        let form = if self.is_json {
+            CheckForm::JsonOf(name)
+        } else {
+            CheckForm::LineOf(name)
+        };
+        match open(self.rt, name) {
+            Ok(source) => is_sound(self.rt, name, check_open(self.rt, source, form)),
+            Err(_) => false,
+        }
+    }
+}
+
+/// Whether a file is sound, of which is told else why it isn't.
+fn is_sound<R: Runtime>(rt: &R, path: &str, told: Result<(), ListFault>) -> bool {
+    match told {
+        Ok(()) => true,
+        Err(fault) => {
+            let _ = refuse(rt, &fault.report(path));
+            false
+        }
     }
 }
 
@@ -120,7 +164,7 @@ pub fn check<R: Runtime + AllocGlobal>(rt: &R, path: &str, form: CheckForm) -> E
 fn check_open<R: Runtime + AllocGlobal>(
     rt: &R,
     mut source: R::File,
-    form: CheckForm,
+    form: CheckForm<'_>,
 ) -> Result<(), ListFault> {
     if is_sought(&source) {
         check_source(

@@ -5,7 +5,6 @@ use crate::running::{Listing, check, clean, get, list, map};
 use clap::ArgMatches;
 use edit_program::command_lines::{EDIT, MV, NAME, PUT, RM, ZERO};
 use edit_program::editing::{edit, put, remove, rename};
-use fault_texts::telling::Form;
 use file_making::making::make_with_tree;
 use folder_program::extracting::extract;
 use folder_program::packing::pack;
@@ -19,7 +18,7 @@ use std::rt::Runtime;
 
 /// What a command line over files asks for.
 #[derive(Clone, Copy)]
-pub enum Task<'a> {
+pub enum Task<'m, 'a> {
     /// A file of this path, made from standard input.
     Make(&'a str),
     /// The listing of a file of this path.
@@ -28,8 +27,8 @@ pub enum Task<'a> {
     Get(&'a str, &'a str),
     /// The tree of the file of one path, written to that of another.
     Clean(&'a str, &'a str),
-    /// What is wrong with the file of this path, and how that is told.
-    Check(&'a str, Form),
+    /// What is wrong with the files of these paths, and whether that is told as JSON.
+    Check(&'m [&'a str], bool),
     /// The map of a file of this path.
     Map(&'a str),
     /// A folder of one path, made of the file of another; whether files that stand there are replaced.
@@ -46,9 +45,9 @@ pub enum Task<'a> {
     Rename(&'a str, &'a str, &'a str, bool),
 }
 
-impl<'a> Task<'a> {
+impl<'m, 'a> Task<'m, 'a> {
     /// What a parsed command line asks for; none where it names no command over files.
-    pub fn of(matches: &ArgMatches<'a>) -> Option<Task<'a>> {
+    pub fn of(matches: &'m ArgMatches<'a>) -> Option<Task<'m, 'a>> {
         let (name, given) = matches.subcommand()?;
         if name == MAKE {
             making(given)
@@ -80,7 +79,7 @@ impl<'a> Task<'a> {
             Task::List(path, listing) => list(rt, path, listing),
             Task::Get(path, word) => get(rt, path, word),
             Task::Clean(path, out) => clean(rt, path, out),
-            Task::Check(path, form) => check(rt, path, form),
+            Task::Check(paths, is_json) => check(rt, paths, is_json),
             Task::Map(path) => map(rt, path),
             Task::Extract(path, folder, is_forced) => {
                 extract(rt, path, folder, is_forced, is_watched)
@@ -104,11 +103,11 @@ fn make_described<R: Runtime<File = File> + AllocGlobal>(rt: &R, path: &str) -> 
     )
 }
 
-fn making<'a>(made: &ArgMatches<'a>) -> Option<Task<'a>> {
+fn making<'m, 'a>(made: &'m ArgMatches<'a>) -> Option<Task<'m, 'a>> {
     Some(Task::Make(made.get_str(FILE)?))
 }
 
-fn listing<'a>(listed: &ArgMatches<'a>) -> Option<Task<'a>> {
+fn listing<'m, 'a>(listed: &'m ArgMatches<'a>) -> Option<Task<'m, 'a>> {
     Some(Task::List(listed.get_str(FILE)?, form_of(listed)))
 }
 
@@ -123,28 +122,23 @@ fn form_of(listed: &ArgMatches<'_>) -> Listing {
     }
 }
 
-fn getting<'a>(got: &ArgMatches<'a>) -> Option<Task<'a>> {
+fn getting<'m, 'a>(got: &'m ArgMatches<'a>) -> Option<Task<'m, 'a>> {
     Some(Task::Get(got.get_str(FILE)?, got.get_str(PATH)?))
 }
 
-fn cleaning<'a>(cleaned: &ArgMatches<'a>) -> Option<Task<'a>> {
+fn cleaning<'m, 'a>(cleaned: &'m ArgMatches<'a>) -> Option<Task<'m, 'a>> {
     Some(Task::Clean(cleaned.get_str(FILE)?, cleaned.get_str(OUT)?))
 }
 
-fn checking<'a>(checked: &ArgMatches<'a>) -> Option<Task<'a>> {
-    let form = if checked.get_flag(JSON) {
-        Form::Json
-    } else {
-        Form::Line
-    };
-    Some(Task::Check(checked.get_str(FILE)?, form))
+fn checking<'m, 'a>(checked: &'m ArgMatches<'a>) -> Option<Task<'m, 'a>> {
+    Some(Task::Check(checked.get_strs(FILE)?, checked.get_flag(JSON)))
 }
 
-fn mapping<'a>(mapped: &ArgMatches<'a>) -> Option<Task<'a>> {
+fn mapping<'m, 'a>(mapped: &'m ArgMatches<'a>) -> Option<Task<'m, 'a>> {
     Some(Task::Map(mapped.get_str(FILE)?))
 }
 
-fn extracting<'a>(extracted: &ArgMatches<'a>) -> Option<Task<'a>> {
+fn extracting<'m, 'a>(extracted: &'m ArgMatches<'a>) -> Option<Task<'m, 'a>> {
     Some(Task::Extract(
         extracted.get_str(FILE)?,
         extracted.get_str(FOLDER)?,
@@ -152,12 +146,12 @@ fn extracting<'a>(extracted: &ArgMatches<'a>) -> Option<Task<'a>> {
     ))
 }
 
-fn packing<'a>(packed: &ArgMatches<'a>) -> Option<Task<'a>> {
+fn packing<'m, 'a>(packed: &'m ArgMatches<'a>) -> Option<Task<'m, 'a>> {
     Some(Task::Pack(packed.get_str(FOLDER)?, packed.get_str(FILE)?))
 }
 
 /// What a command of this name that changes a file asks for, if it is one.
-fn changing<'a>(name: &str, given: &ArgMatches<'a>) -> Option<Task<'a>> {
+fn changing<'m, 'a>(name: &str, given: &'m ArgMatches<'a>) -> Option<Task<'m, 'a>> {
     if name == EDIT {
         Some(Task::Edit(given.get_str(FILE)?, given.get_flag(ZERO)))
     } else if name == PUT {
@@ -171,11 +165,11 @@ fn changing<'a>(name: &str, given: &ArgMatches<'a>) -> Option<Task<'a>> {
     }
 }
 
-fn putting<'a>(put: &ArgMatches<'a>) -> Option<Task<'a>> {
+fn putting<'m, 'a>(put: &'m ArgMatches<'a>) -> Option<Task<'m, 'a>> {
     Some(Task::Put(put.get_str(FILE)?, put.get_str(PATH)?, put.get_flag(ZERO)))
 }
 
-fn removing<'a>(removed: &ArgMatches<'a>) -> Option<Task<'a>> {
+fn removing<'m, 'a>(removed: &'m ArgMatches<'a>) -> Option<Task<'m, 'a>> {
     Some(Task::Remove(
         removed.get_str(FILE)?,
         removed.get_str(PATH)?,
@@ -183,7 +177,7 @@ fn removing<'a>(removed: &ArgMatches<'a>) -> Option<Task<'a>> {
     ))
 }
 
-fn renaming<'a>(renamed: &ArgMatches<'a>) -> Option<Task<'a>> {
+fn renaming<'m, 'a>(renamed: &'m ArgMatches<'a>) -> Option<Task<'m, 'a>> {
     Some(Task::Rename(
         renamed.get_str(FILE)?,
         renamed.get_str(PATH)?,

@@ -84,6 +84,10 @@ const STATUSES: &str =
 pub enum Kind<'a> {
     /// It can't be left out. The help has this word for it.
     Needed(&'a str),
+    /// It is given once or several times. The help has this word for it.
+    Several(&'a str),
+    /// It is given as often as wanted, or not at all. The help has this word for it.
+    Any(&'a str),
     /// It is given or not.
     Flag,
     /// It is given or not, and never together with the one of this name.
@@ -187,6 +191,14 @@ fn needed<'a>(alloc: Global, row: &Argument<'a>, word: &'a str) -> Arg<'a> {
         .required(true)
 }
 
+fn any<'a>(alloc: Global, row: &Argument<'a>, word: &'a str) -> Arg<'a> {
+    Arg::new(alloc, row.name)
+        .value_name(word)
+        .help(row.help)
+        .num_args(1..)
+        .action(ArgAction::Append)
+}
+
 fn flag<'a>(alloc: Global, row: &Argument<'a>) -> Arg<'a> {
     Arg::new(alloc, row.name)
         .long(row.name)
@@ -197,6 +209,8 @@ fn flag<'a>(alloc: Global, row: &Argument<'a>) -> Arg<'a> {
 fn argument_of<'a>(alloc: Global, row: &Argument<'a>) -> Result<Arg<'a>, AllocError> {
     match row.kind {
         Kind::Needed(word) => Ok(needed(alloc, row, word)),
+        Kind::Several(word) => Ok(any(alloc, row, word).required(true)),
+        Kind::Any(word) => Ok(any(alloc, row, word)),
         Kind::Flag => Ok(flag(alloc, row)),
         Kind::FlagWithout(other) => flag(alloc, row).conflicts_with(other),
     }

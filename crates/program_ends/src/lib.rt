@@ -10,5 +10,6 @@ pub mod making;
 pub mod memory;
 pub mod new_file;
 mod rights;
+pub mod sources;
 pub mod starts;
 pub mod usage;

@@ -1,8 +1,6 @@
-use Rattle.std.proofs.Common.{◌≡◌, inl, ℕ, List, Option, subst, sym}
+use Rattle.std.proofs.Common.{inl, ℕ, List, Option}
 use Rattle.std.specs.Io.KnownBytes.{Appends}
 use Rattle.stream_io.proofs.ReadingTold.{read_refused}
-use Rattle.file_commands.specs.declared.fault.ListFault.{ListFault}
-use Rattle.file_commands.specs.declared.fault.ListFault.TheVariants as list
 use Rattle.file_commands.proofs.Listed.{err_map, ok_map}
 use Rattle.fault_texts.specs.Json.{sound_text}
 use Rattle.file_checks.specs.Checks.{IsSound, IsUnwritten, MayRefuseCheck, Tells}

@@ -1,10 +1,8 @@
-use Rattle.std.proofs.Common.{◌≡◌, inl, ℕ, List, Option, IfSome, subst, sym}
+use Rattle.std.proofs.Common.{◌≡◌, inl, ℕ, List, Option, IfSome, subst}
 use Rattle.std.specs.Io.KnownBytes.{Appends}
 use Rattle.storage_tree.specs.Tree.{Tree}
 use Rattle.file_model.specs.Denotes.{Denotes}
 use Rattle.texts.specs.Input.{MayRefuseInput}
-use Rattle.file_commands.specs.declared.fault.ListFault.{ListFault}
-use Rattle.file_commands.specs.declared.fault.ListFault.TheVariants as list
 use Rattle.file_commands.proofs.Listed.{err_map, ok_map, some_map}
 use Rattle.fault_texts.specs.Json.{sound_text}
 use Rattle.file_checks.specs.Checks.{IsSound, IsUnwritten, MayRefuseCheck, Tells}
