@@ -2,6 +2,7 @@
 use Rattle.std.proofs.Common.{◌≡◌, ◌≢◌, ◌≤◌, ◌==◌, ◌++◌, ⊎_elim, inl, inr, ℕ, zero, suc, Bool, true, false, List, [], ◌∷◌, if◌then◌else◌, Option, Some, None, Result, Ok, Err, IfOk, IfErr, OnOk, refl, sym, ap, ◌∙◌, subst, append-nil, append_assoc, arith}
 use Rattle.std.specs.Prelude.{◌&&◌}
 use Rattle.std.specs.Io.KnownBytes.{Appends}
+use Rattle.std.proofs.lemmas.Bool.{eqb-true, eq-eqb}
 use Rattle.container_core.specs.Opening.{looked_at}
 use Rattle.container_model.specs.Commands.{on_command}
 use Rattle.container_model.specs.Opens.{Given as Holds, IsReadAs, opened}
@@ -32,18 +33,18 @@ use Rattle.script_run.specs.Printed.{HasLine, IfBegun, IsBeginning, IsBegunWith,
 -- ---- results
 
 pub ok_then : {A E : Type 0} (r : Result A E) (P Q : A → Type 0) → ((x : A) → P x → Q x) → IfOk r P → IfOk r Q
-ok_then (Ok x) P Q then has = then x has
-ok_then (Err e) P Q then has = tt
+ok_then (Ok x) P Q leads has = leads x has
+ok_then (Err e) P Q leads has = tt
 
 -- what is told of a refusal
 pub refused_then : (r : Result Told ScriptFault) (e : ContainerFault) (P : Told → Type 0) → IfOk r (λ t. (t ≡ told.Fault e) × (e ≢ fault.NoMemory)) → (e ≢ fault.NoMemory → P (told.Fault e)) → IfOk r P
-refused_then (Ok t) e P has then = subst (λ (x : Told). P x) (sym has.0) (then has.1)
-refused_then (Err x) e P has then = tt
+refused_then (Ok t) e P has leads = subst (λ (x : Told). P x) (sym has.0) (leads has.1)
+refused_then (Err x) e P has leads = tt
 
 -- the same of what is so whatever is told
 pub refused_on : (r : Result Told ScriptFault) (e : ContainerFault) (P : Type 0) → IfOk r (λ t. (t ≡ told.Fault e) × (e ≢ fault.NoMemory)) → (e ≢ fault.NoMemory → P) → OnOk r P
-refused_on (Ok t) e P has then = then has.1
-refused_on (Err x) e P has then = tt
+refused_on (Ok t) e P has leads = leads has.1
+refused_on (Err x) e P has leads = tt
 
 -- ---- what the container is given
 
@@ -69,9 +70,6 @@ other_start r (asks.Kill inc) other = refl
 other_start r (asks.Close o option) other = refl
 other_start r (asks.Verb o number) other = refl
 
-told_when : (b : Bool) (before : Option Told) (x : Told) (c : Bool) → b ≡ c → (if b then before else Some x) ≡ (if c then before else Some x)
-told_when b before x c is = ap (λ (y : Bool). if y then before else Some x) is
-
 module _ {D : Type 0} (es after : List (Event D)) (r : Record) (c : Command) (recorded : record_of es ≡ r) (given : but_starts (course after) ≡ but_starts (course (Stepped (step.Command c) ∷ es))) where
   commanded_now : (course after).commanded ≡ told_of r c (course es).commanded
   commanded_now = ap (λ (k : Course D). k.commanded) given ∙ ap (λ (q : Record). told_of q c (course es).commanded) recorded
@@ -91,6 +89,16 @@ module _ {D : Type 0} (es after : List (Event D)) (r : Record) (c : Command) (re
 
   pub begun_so : (course after).begun ≡ (course es).begun
   begun_so = ap (λ (k : Course D). k.begun) given
+
+unequal : (b : Bool) (n m : ℕ) → (n == m) ≡ b → (n ≡ m → ⊥) → b ≡ false
+unequal true n m is apart = absurd (apart (eqb-true n m is))
+unequal false n m is apart = refl
+
+pub raised_so : (r : Record) → (r.session ≡ 0 → ⊥) → is_unraised r asks.Start ≡ false
+raised_so r some = unequal (r.session == 0) r.session 0 refl some
+
+pub unraised_so : (r : Record) → r.session ≡ 0 → is_unraised r asks.Start ≡ true
+unraised_so r none = eq-eqb r.session 0 none
 
 -- ---- the beginning of a command
 
@@ -127,9 +135,9 @@ module _ {D : Type 0} (disks : Disks D) (es after : List (Event D)) (b : IsBegin
     told = subst (λ (x : ScriptCommand). IsFirst disks x (course after) (λ s. (pace s after).links) [] t) (sym is) (first_in c [] t has);
   }
 
-  pub begun_by : {T : Type 0} (r : Result Told ScriptFault) (it c : ScriptCommand) (old new : List ℕ) (P : Told → Type 0) → it ≡ c → new ≡ old → ((t : Told) → P t → IsFirstOf disks c b.before (course after) (λ s. (pace s after).links) [] t) → IfOk r P
+  pub begun_by : (r : Result Told ScriptFault) (it c : ScriptCommand) (old new : List ℕ) (P : Told → Type 0) → it ≡ c → new ≡ old → ((t : Told) → P t → IsFirstOf disks c b.before (course after) (λ s. (pace s after).links) [] t) → IfOk r P
       → IfOk r (λ t. IsBegunWith disks it after old new t)
-  begun_by r it c old new P is same then has = ok_then r P (λ t. IsBegunWith disks it after old new t) (λ t p. begun_with it c old new t is same (then t p)) has
+  begun_by r it c old new P is same leads has = ok_then r P (λ t. IsBegunWith disks it after old new t) (λ t p. begun_with it c old new t is same (leads t p)) has
 
   -- what a frame shows
   pub begun_screen : (r : Result Told ScriptFault) (it : ScriptCommand) (f : ℕ) (q : Record) (old new : List ℕ) → it ≡ script.Screen f → q ≡ record_of b.before → IfOk r (λ t. (lines : List ℕ) × (new ≡ old ++ lines) × IsShown (shown q f) lines t)
@@ -200,8 +208,8 @@ module _ {D : Type 0} (disks : Disks D) where
   first_later (script.Release inc) before k links more lines t less has = has
 
   if_begun : (x : Option (ℕ × List (Event D))) (P Q : List (Event D) → Type 0) → ((before : List (Event D)) → P before → Q before) → IfBegun x P → IfBegun x Q
-  if_begun None P Q then has = has
-  if_begun (Some b) P Q then has = then b.1 has
+  if_begun None P Q leads has = has
+  if_begun (Some b) P Q leads has = leads b.1 has
 
   -- what is told first stays so
   pub first_on : (c : ScriptCommand) (es after : List (Event D)) (lines : List ℕ) (t : Told) → course after ≡ course es → ((s : ℕ) → (pace s es).links ≤ (pace s after).links)

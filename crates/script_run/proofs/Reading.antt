@@ -2,6 +2,7 @@
 use Rattle.std.proofs.Common.{◌≡◌, ◌≢◌, ◌<◌, ◌⊎◌, ⊎_elim, inl, inr, ℕ, List, [], ◌∷◌, length, Option, Some, None, Result, Ok, Err, IfOk, IfErr, refl, sym, ap, ◌∙◌, subst}
 use Rattle.container_core.specs.Opening.{looked_at}
 use Rattle.container_model.specs.Opens.{Given as Holds, IsReadAs, opened}
+use Rattle.container_documents.specs.Reading.{as_given}
 use Rattle.container_model.specs.Record.{Record}
 use Rattle.container_model.specs.declared.fault.ContainerFault.{ContainerFault}
 use Rattle.container_model.specs.declared.fault.ContainerFault.TheVariants as fault
@@ -92,7 +93,7 @@ module _ {D : Type 0} (disks : Disks D) (name : List ℕ) (w h : ℕ) (es after 
   not_found r e has = ok_then r (λ t. t ≡ told.Unread e) (λ t. IsOpenTold disks looked name w h (course after).opening t) (λ t is. unfound_as e t is) has
 
 pub opening_looked : {D : Type 0} (name : List ℕ) (found : Option D) (es after : List (Event D)) → after ≡ Found name found ∷ es → but_opening (course after) ≡ but_opening (course es)
-opening_looked name found es after is = ap (λ (h : List (Event _)). but_opening (course h)) is
+opening_looked {D = D} name found es after is = ap (λ (h : List (Event D)). but_opening (course h)) is
 
 -- ---- what is looked at first
 
@@ -105,10 +106,20 @@ module _ {D : Type 0} (disks : Disks D) (r : Record) (name : List ℕ) (w h : �
       subst (λ (x : Result (Unit {0}) ContainerFault). IsOpenTold disks x name w h o (told.Fault e)) may
       (subst (λ (p : Opening D). IsOpenTold disks (Err e) name w h p (told.Fault e)) (sym unasked) refl)
 
+-- a file that holds no document
+pub given_none : (file : List ℕ) (d : Option Doc) → d ≡ None → IsReadAs (Some file) (as_given d) → IsReadAs (Some file) Holds.Broken
+given_none file d none given = subst (λ (x : Option Doc). IsReadAs (Some file) (as_given x)) none given
+
+pub found_none : {D : Type 0} (es after : List (Event D)) (name n : List ℕ) (x : Option D) → after ≡ Found n x ∷ es → n ≡ name → x ≡ None → after ≡ Found name None ∷ es
+found_none {D = D} es after name n x is same none = is ∙ ap (λ (m : List ℕ). Found m x ∷ es) same ∙ ap (λ (y : Option D). Found name y ∷ es) none
+
 -- ---- more bytes than are opened
 
-pub fault_of : {A : Type 0} (e : StoreFault) → Err {T = A} e ≡ Err store.TooBig → e ≡ store.TooBig
-fault_of e is = cc
+pub err_same : {A : Type 0} {r : Result A StoreFault} (e : StoreFault) → r ≡ Err e → e ≡ store.TooBig → r ≡ Err store.TooBig
+err_same e is same = cc
+
+pub fault_of : {A : Type 0} {r : Result A StoreFault} (e : StoreFault) → r ≡ Err store.TooBig → r ≡ Err e → e ≡ store.TooBig
+fault_of e is so = cc
 
 module _ {D : Type 0} (disks : Disks D) (given : D) where
   pub more_of : {A : Type 0} (told : Result A StoreFault) (document : List ℕ) → restored (disks.reads given) ≡ Some document → (told ≡ Err store.TooBig → 134217728 < length document) → told ≡ Err store.TooBig → HoldsMore disks given

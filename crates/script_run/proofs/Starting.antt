@@ -27,6 +27,16 @@ both_of : (P : ℕ → Type 0) (xs ys : List ℕ) → AllByRecursion P xs → Al
 both_of P [] ys one other = other
 both_of P (x ∷ xs) ys one other = (one.0, both_of P xs ys one.1 other)
 
+-- a start that was tried: whoever isn't started by it still doesn't run
+started_one : (a b : Bool) (n : ℕ) → b ≡ false → n ≡ 0 → (if a && b then n + 1 else n) ≡ 0
+started_one true true n other none = absurd (cc)
+started_one true false n other none = none
+started_one false b n other none = none
+
+ended_one : (b : Bool) (n : ℕ) → n ≡ 0 → (if b then n - 1 else n) ≡ 0
+ended_one true n none = omega (arith, none)
+ended_one false n none = none
+
 module _ {D : Type 0} where
   -- those that were asked for and don't run
   one_idle : (es : List (Event D)) (inc : ℕ) (incs : List ℕ) (b : Bool) → (running inc es == 0) ≡ b → AreIdle es incs → AreIdle es (if b then inc ∷ incs else incs)
@@ -37,12 +47,6 @@ module _ {D : Type 0} where
   asked_idle es [] = tt
   asked_idle es (inc ∷ incs) = one_idle es inc (not_running es incs) (running inc es == 0) refl (asked_idle es incs)
 
-  -- a start that was tried: whoever isn't started by it still doesn't run
-  started_one : (a b : Bool) (n : ℕ) → b ≡ false → n ≡ 0 → (if a && b then n + 1 else n) ≡ 0
-  started_one true true n other none = absurd (cc)
-  started_one true false n other none = none
-  started_one false b n other none = none
-
   started_pick : (session inc : ℕ) (ok : Bool) (es : List (Event D)) (s : ℕ) (ss : List ℕ) (b : Bool) → (inc == s) ≡ b → running s es ≡ 0 → AreIdle (Started session inc ok ∷ es) (without inc ss)
       → AreIdle (Started session inc ok ∷ es) (if b then without inc ss else s ∷ without inc ss)
   started_pick session inc ok es s ss true is none rest = rest
@@ -51,10 +55,6 @@ module _ {D : Type 0} where
   started_idle : (session inc : ℕ) (ok : Bool) (es : List (Event D)) (ss : List ℕ) → AreIdle es ss → AreIdle (Started session inc ok ∷ es) (without inc ss)
   started_idle session inc ok es [] idle = tt
   started_idle session inc ok es (s ∷ ss) idle = started_pick session inc ok es s ss (inc == s) refl idle.0 (started_idle session inc ok es ss idle.1)
-
-  ended_one : (b : Bool) (n : ℕ) → n ≡ 0 → (if b then n - 1 else n) ≡ 0
-  ended_one true n none = omega (arith, none)
-  ended_one false n none = none
 
   ended_idle : (inc : ℕ) (es : List (Event D)) (ss : List ℕ) → AreIdle es ss → AreIdle (Ended inc ∷ es) ss
   ended_idle inc es [] idle = tt
@@ -177,6 +177,9 @@ pub starts_from : (actions : List Action) (place : ℕ) (d : Action) → place <
 starts_from [] place d within = absurd (omega (arith, within))
 starts_from (a ∷ actions) zero d within = refl
 starts_from (a ∷ actions) (suc place) d within = let next : suc place + 1 ≡ suc (place + 1) = omega arith in rw next (starts_from actions place d (omega (arith, within)))
+
+pub starts_at : (actions : List Action) (place : ℕ) (a : Action) → place < length actions → a ≡ slice_index_or actions place a → starts_in (drop place actions) ≡ with_start a (starts_in (drop (place + 1) actions))
+starts_at actions place a within is = starts_from actions place a within ∙ ap (λ (x : Action). with_start x (starts_in (drop (place + 1) actions))) (sym is)
 
 pub nothing_from : (actions : List Action) (place : ℕ) → length actions ≤ place → starts_in (drop place actions) ≡ []
 nothing_from [] zero past = refl

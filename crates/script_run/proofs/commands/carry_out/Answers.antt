@@ -1,5 +1,8 @@
-use Rattle.std.proofs.Common.{◌≡◌, ◌∙◌, None, ap, inr, refl, sym, rules}
+use Rattle.std.proofs.Common.{◌≡◌, ◌++◌, ◌∙◌, List, None, ap, inr, refl, subst, sym, rules, ℕ}
+use Rattle.std.specs.Io.KnownBytes.{Appends}
 use Rattle.std.specs.Result.{IsErrAnd}
+use Rattle.script_model.specs.Answers.{told_line}
+use Rattle.script_model.specs.declared.answer.Told.{Told}
 use Rattle.container_model.specs.Record.{Record}
 use Rattle.script_model.specs.Errors.{behind_hold}
 use Rattle.script_model.specs.Orders.{asked, ordered_by, orders}
@@ -83,4 +86,8 @@ pub begin-requires-clause-seen : goal.begin-requires-clause-seen
 begin-requires-clause-seen g c = begins_quiet (g.H.Host.told c.args.host.now) c.requires.begins None refl
 
 pub returns-in-Ok-clause-printed : goal.returns-in-Ok-clause-printed
-returns-in-Ok-clause-printed g c = ?
+returns-in-Ok-clause-printed g c =
+    line_of g.H.Disk.Disk c.args.command (g.H.Host.told c.begin.new.host) (g.H.Host.told c.turns.new.host) c.new-text.result.items c.begin.new.text.items c.push_told.new.text.items c.in_ok-told.told c.turns.new.noticed
+    (g.W.Write.contents c.args.writer.now) (g.W.Write.contents c.write_all.new.writer) c.new-text.ensures.items c.turns.ensures.ordered c.in_ok-turns.ensures.anew c.in_ok-told.ensures.first c.in_ok-turns.ensures.seen
+    (c.in_ok-push_told.ensures ∙ ap (λ (t : Told). c.begin.new.text.items ++ told_line t) c.further.ensures)
+    (subst (λ (b : List ℕ). Appends (g.W.Write.contents c.args.writer.now) (g.W.Write.contents c.write_all.new.writer) b) c.deref.ensures.value c.in-Ok.ensures)

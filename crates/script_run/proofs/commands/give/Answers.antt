@@ -34,14 +34,8 @@ act-requires-clause-seen g c = seen_still (notices (g.H.Host.told c.args.host.no
 pub returns-in_err-act-in-Ok-clause-ordered : goal.returns-in_err-act-in-Ok-clause-ordered
 returns-in_err-act-in-Ok-clause-ordered g c = given_on (g.H.Host.told c.args.host.now) (g.H.Host.told c.act.new.host) (g.H.Host.told c.command.new.host) c.args.ordered c.act.ensures.ordered c.command.ensures.ordered
 
-pub returns-in-Ok-clause-ordered : goal.returns-in-Ok-clause-ordered
-returns-in-Ok-clause-ordered g c = given_on (g.H.Host.told c.args.host.now) (g.H.Host.told c.act.new.host) (g.H.Host.told c.command.new.host) c.args.ordered c.act.ensures.ordered c.command.ensures.ordered
-
 pub returns-in-Err-clause-ordered : goal.returns-in-Err-clause-ordered
 returns-in-Err-clause-ordered g c = given_on (g.H.Host.told c.args.host.now) (g.H.Host.told c.command.new.host) (g.H.Host.told c.command.new.host) c.args.ordered refl c.command.ensures.ordered
-
-pub returns-in-Ok-clause-answered : goal.returns-in-Ok-clause-answered
-returns-in-Ok-clause-answered g c = answer_told c.args.core.now c.command.new.core c.args.ordered c.in-Ok.answer c.made_by.result c.in-Ok.ensures.answered c.made_by.ensures
 
 pub returns-in-Err-clause-answered : goal.returns-in-Err-clause-answered
 returns-in-Err-clause-answered g c =

@@ -1,7 +1,10 @@
-use Rattle.std.proofs.Common.{◌≡◌, ◌++◌, ◌∷◌, [], ap, sym, ◌∙◌, rules}
-use Rattle.script_links.specs.Links.{links_of}
+use Rattle.std.proofs.Common.{◌≡◌, ◌<◌, ◌++◌, ◌∷◌, [], List, ap, length, subst, sym, ◌∙◌, rules}
+use Rattle.script_links.specs.Links.{IsLinkAt, links_of}
+use Rattle.script_links.specs.declared.links.Link.{Link}
 use Rattle.script_links.proofs.Linked.{started_linked}
 use Rattle.script_links.proofs.Served.{started_served, unstarted_served}
+use Rattle.script_run.proofs.Held.{linked_there}
+use Rattle.script_run.proofs.Starting.{linked_runs, runs_already}
 use Rattle.script_run.proofs.commands.start.Goals as goal
 
 pub returns-in-Ok-clause-linked : goal.returns-in-Ok-clause-linked
@@ -12,7 +15,7 @@ returns-in-Ok-clause-linked g c =
 pub returns-in-Ok-clause-served : goal.returns-in-Ok-clause-served
 returns-in-Ok-clause-served g c =
     let with_one : c.add.new.list.items ≡ c.args.links.now.items ++ c.new.result ∷ [] = search rules in
-    let none : links_of c.args.inc c.args.links.now.items ≡ 0 = ap (links_of c.args.inc) (sym c.deref.ensures.value) ∙ c.is_linked.ensures c.if-is_linked.false in
+    let none : links_of c.args.inc c.args.links.now.items ≡ 0 = ap (links_of c.args.inc) (sym c.deref.ensures.value) ∙ c.in-None.ensures.none in
     started_served (g.H.Host.told c.args.host.now) (g.H.Host.told c.start.new.self) c.args.links.now.items c.add.new.list.items c.session-session.result c.args.inc c.new.result none c.new.ensures.server c.new.ensures.served c.in-Ok.ensures with_one c.requires.served
 
 pub returns-in-Err-NoMemory-clause-served : goal.returns-in-Err-NoMemory-clause-served
@@ -20,3 +23,10 @@ returns-in-Err-NoMemory-clause-served g c = unstarted_served (g.H.Host.told c.ar
 
 pub returns-in-Err-Failed-clause-served : goal.returns-in-Err-Failed-clause-served
 returns-in-Err-Failed-clause-served g c = unstarted_served (g.H.Host.told c.args.host.now) (g.H.Host.told c.start.new.self) c.args.links.now.items c.reserve.new.self.items c.session-session.result c.args.inc c.in-Err-Failed.ensures c.in_ok-reserve.ensures.items c.requires.served
+
+pub returns-in-Some-clause-tried : goal.returns-in-Some-clause-tried
+returns-in-Some-clause-tried g c =
+    runs_already c.args.inc (g.H.Host.told c.args.host.now)
+    (linked_runs c.args.inc (g.H.Host.told c.args.host.now) c.args.links.now.items c.requires.linked
+    (linked_there c.args.inc c.args.links.now.items c.in-Some.field-0 (subst (λ (ls : List Link). c.in-Some.field-0 < length ls) c.deref.ensures.value c.in-Some.ensures.within)
+    (subst (λ (ls : List Link). IsLinkAt ls c.in-Some.field-0 c.args.inc) c.deref.ensures.value c.in-Some.ensures.there)))

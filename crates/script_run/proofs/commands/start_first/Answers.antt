@@ -2,7 +2,7 @@ use Rattle.std.proofs.Common.{◌≡◌, ◌∙◌, inr, refl, sym}
 use Rattle.container_model.specs.declared.command.Command.TheVariants as asks
 use Rattle.script_model.specs.Orders.{asked}
 use Rattle.script_run.proofs.Coursed.{asked_given}
-use Rattle.script_run.proofs.Lines.{begun_so, commanded_before, commanded_so}
+use Rattle.script_run.proofs.Lines.{begun_so, commanded_before, commanded_so, raised_so, unraised_so}
 use Rattle.script_run.proofs.Ordered.{raising_begun, start_begun, started_behind}
 use Rattle.script_run.proofs.commands.start_first.Goals as goal
 
@@ -66,7 +66,15 @@ returns-clause-standing g c =
     ∙ begun_so (g.H.Host.told c.args.host.now) (g.H.Host.told c.give.new.host) c.args.core.now asks.Session c.requires.told.recorded c.give.ensures.ordered
 
 pub returns-then-lacks-clause-first : goal.returns-then-lacks-clause-first
-returns-then-lacks-clause-first g c = ?
+returns-then-lacks-clause-first g c = (
+  commanded_before (g.H.Host.told c.give.new.host) (g.H.Host.told c.give-2.new.host) c.give.new.core asks.Start c.give.ensures.told.recorded c.give-2.ensures.ordered c.in_ok-raised.raised (unraised_so c.give.new.core (sym c.session-lacks.ensures ∙ c.if-lacks.true))
+      (commanded_so (g.H.Host.told c.args.host.now) (g.H.Host.told c.give.new.host) c.args.core.now asks.Session c.requires.told.recorded c.give.ensures.ordered c.in_ok-raised.raised refl c.in_ok-raised.ensures.answered),
+  c.in_ok-started.ensures.tried,
+)
 
 pub returns-clause-first : goal.returns-clause-first
-returns-clause-first g c = ?
+returns-clause-first g c = (
+  commanded_so (g.H.Host.told c.give.new.host) (g.H.Host.told c.give-2.new.host) c.give.new.core asks.Start c.give.ensures.told.recorded c.give-2.ensures.ordered c.in_ok-started.started (raised_so c.give.new.core (λ none. c.if-lacks.false (c.session-lacks.ensures ∙ none)))
+      c.in_ok-started.ensures.answered,
+  c.in_ok-started.ensures.tried,
+)

@@ -1,3 +1,4 @@
+use Rattle.std.proofs.Common.{refl}
 use Rattle.doc_store.specs.Opened.{disk_of, needs_reopen_of}
 use Rattle.script_container.proofs.Kept.{read_on_opened}
 use Rattle.script_run.proofs.Reading.{fault_of, more_of, never_more}
@@ -15,4 +16,4 @@ returns-in-Ok-clause-large g c = λ m is.
     more_of g.D.Disk c.args.disk c.current_within-file.result (g.D.Disk.reads (disk_of c.in-Ok.store)).document (c.in-Ok.ensures.document m) (c.current_within-file.ensures.too_big m) is
 
 pub returns-in-Err-clause-large : goal.returns-in-Err-clause-large
-returns-in-Err-clause-large g c = λ m is. never_more g.D.Disk c.args.disk c.in-Err.refused.fault c.in-Err.refused.disk c.in-Err.ensures.refuses (fault_of c.in-Err.refused.fault is)
+returns-in-Err-clause-large g c = λ m is. never_more g.D.Disk c.args.disk c.in-Err.refused.fault c.in-Err.refused.disk c.in-Err.ensures.refuses (fault_of c.in-Err.refused.fault is refl)
