@@ -2,7 +2,9 @@
 
 use crate::texts::{number, word};
 use cfb_names::name::{Name, named};
-use std::alloc::Global;
+use file_writer::write::write_file;
+use refusal_marks::marks::{begin, end};
+use std::alloc::{AllocError, Global};
 use std::process::Abort;
 use storage_tree::fault::TreeFault;
 use storage_tree::storage::{Found, Storage, copy};
@@ -10,7 +12,8 @@ use storage_tree::tree::Tree;
 use stored_values::bytes::Bytes;
 use stored_values::class_id::ClassId;
 
-/// Four words a call: the call, a path, an argument and the answer. A point stands for nothing.
+/// Four words a call: the call, a path, an argument and the answer. A point stands for nothing. `start` and `undo` are `begin` and
+/// `revert` to which no memory is refused.
 const CALLS: &str = "begin . . ok
 put A 123 ok
 begin . . ok
@@ -78,13 +81,15 @@ begin . . ok
 begin . . ok
 begin . . TooDeep
 commit . . ok
-begin . . ok
-new . 0 ok
+begin . . ok";
+
+/// Calls of a tree with many children.
+const MANY: &str = "new . 0 ok
 many . 50000 ok
 count . 50000 ok
 get 49999 49999 ok
-begin . . ok
-revert . . ok
+start . . ok
+undo . . ok
 get 7 7 ok";
 
 fn name(rt: &impl Abort, text: &str) -> Name {
@@ -141,24 +146,56 @@ fn whether(holds: bool) -> &'static str {
 }
 
 fn put(rt: &impl Abort, alloc: Global, tree: &mut Tree, at: &str, text: &str) -> &'static str {
-    told(tree.put_stream(&path(rt, alloc, at), content(rt, alloc, text)))
+    let (path, content) = (path(rt, alloc, at), content(rt, alloc, text));
+    begin(alloc);
+    let answer = tree.put_stream(&path, content);
+    end(alloc);
+    told(answer)
 }
 
 fn add(rt: &impl Abort, alloc: Global, tree: &mut Tree, at: &str, text: &str) -> &'static str {
-    told(tree.make_stream(&path(rt, alloc, at), content(rt, alloc, text)))
+    let (path, content) = (path(rt, alloc, at), content(rt, alloc, text));
+    begin(alloc);
+    let answer = tree.make_stream(&path, content);
+    end(alloc);
+    told(answer)
 }
 
 /// The state bits of a storage are the letter of its class.
 fn make(rt: &impl Abort, alloc: Global, tree: &mut Tree, at: &str, with: u8) -> &'static str {
-    told(tree.make_storage(&path(rt, alloc, at), class(with), u32::from(with)))
+    let path = path(rt, alloc, at);
+    begin(alloc);
+    let answer = tree.make_storage(&path, class(with), u32::from(with));
+    end(alloc);
+    told(answer)
 }
 
 fn remove(rt: &impl Abort, alloc: Global, tree: &mut Tree, at: &str) -> &'static str {
-    told(tree.remove(&path(rt, alloc, at)))
+    let path = path(rt, alloc, at);
+    begin(alloc);
+    let answer = tree.remove(&path);
+    end(alloc);
+    told(answer)
 }
 
 fn rename(rt: &impl Abort, alloc: Global, tree: &mut Tree, at: &str, new: &str) -> &'static str {
-    told(tree.rename(&path(rt, alloc, at), name(rt, new)))
+    let (path, name) = (path(rt, alloc, at), name(rt, new));
+    begin(alloc);
+    let answer = tree.rename(&path, name);
+    end(alloc);
+    told(answer)
+}
+
+/// Begins a transaction, commits it or reverts it.
+fn transact(alloc: Global, tree: &mut Tree, call: &str) -> &'static str {
+    begin(alloc);
+    let answer = match call {
+        "begin" => tree.begin(),
+        "commit" => tree.commit(),
+        _ => tree.revert(),
+    };
+    end(alloc);
+    told(answer)
 }
 
 /// Whether the stream at a path of a storage has these bytes.
@@ -183,9 +220,39 @@ fn has(storage: &Storage, with: u8) -> bool {
     storage.class == class(with) && storage.state == u32::from(with)
 }
 
+fn names_once(alloc: Global, root: &Storage) -> Result<Vec<Name>, AllocError> {
+    begin(alloc);
+    let names = storage_tree::storage::names(root, alloc);
+    end(alloc);
+    names
+}
+
+/// The names in a storage, asked for again where memory is refused.
+fn named_in(rt: &impl Abort, alloc: Global, root: &Storage) -> Vec<Name> {
+    match names_once(alloc, root) {
+        Ok(names) => names,
+        Err(_) => names_once(alloc, root).expect(rt, "memory"),
+    }
+}
+
+fn copy_once(alloc: Global, root: &Storage) -> Result<Storage, AllocError> {
+    begin(alloc);
+    let copy = copy(root, alloc);
+    end(alloc);
+    copy
+}
+
+/// A copy of a storage, made again where memory is refused.
+fn twin(rt: &impl Abort, alloc: Global, root: &Storage) -> Storage {
+    match copy_once(alloc, root) {
+        Ok(copy) => copy,
+        Err(_) => copy_once(alloc, root).expect(rt, "memory"),
+    }
+}
+
 /// Whether the root's only child is spelled so.
 fn is_named(rt: &impl Abort, alloc: Global, tree: &Tree, text: &str) -> bool {
-    let names = storage_tree::storage::names(tree.root(), alloc).expect(rt, "memory");
+    let names = named_in(rt, alloc, tree.root());
     match names.as_slice() {
         [name] => name.as_bytes() == text.as_bytes(),
         _ => false,
@@ -194,7 +261,7 @@ fn is_named(rt: &impl Abort, alloc: Global, tree: &Tree, text: &str) -> bool {
 
 /// Whether a copy of the root, taken before its storage `D` goes, has these bytes.
 fn copied(rt: &impl Abort, alloc: Global, tree: &mut Tree, at: &str, text: &str) -> &'static str {
-    let copy = copy(tree.root(), alloc).expect(rt, "memory");
+    let copy = twin(rt, alloc, tree.root());
     let _ = remove(rt, alloc, tree, "D");
     if copy.class != tree.root().class || copy.state != tree.root().state {
         return "otherwise";
@@ -216,7 +283,9 @@ fn renew(alloc: Global, tree: &mut Tree, with: u8) -> &'static str {
 fn put_many(rt: &impl Abort, alloc: Global, tree: &mut Tree, count: u32) -> &'static str {
     for number in 0..count {
         let digits = format!(in alloc; "{number}").expect(rt, "memory");
-        let _ = put(rt, alloc, tree, digits.as_str(), digits.as_str());
+        let path = path(rt, alloc, digits.as_str());
+        let content = content(rt, alloc, digits.as_str());
+        assert!(rt; tree.put_stream(&path, content).is_ok());
     }
     "ok"
 }
@@ -235,9 +304,9 @@ fn call(
 ) -> &'static str {
     match call {
         "new" => renew(alloc, tree, letter(with)),
-        "begin" => told(tree.begin()),
-        "commit" => told(tree.commit()),
-        "revert" => told(tree.revert()),
+        "begin" | "commit" | "revert" => transact(alloc, tree, call),
+        "start" => told(tree.begin()),
+        "undo" => told(tree.revert()),
         "put" => put(rt, alloc, tree, at, with),
         "add" => add(rt, alloc, tree, at, with),
         "make" => make(rt, alloc, tree, at, letter(with)),
@@ -253,19 +322,44 @@ fn call(
     }
 }
 
-/// Whether a call has its answer.
+/// The most children of a root whose file is written before each call.
+const FEW: usize = 100;
+
+/// The file of a tree, none of one with many children.
+fn file_of(rt: &impl Abort, alloc: Global, tree: &Tree) -> Vec<u8> {
+    if tree.root().children.len() > FEW {
+        return Vec::new(alloc);
+    }
+    write_file(alloc, tree).expect(rt, "a file")
+}
+
+/// Whether a call has its answer. Where memory is refused, the tree is as before, and is called again.
 fn answers(rt: &impl Abort, alloc: Global, tree: &mut Tree, row: &str) -> bool {
     let mut words = row.split_whitespace();
     let name = word(&mut words);
     let at = word(&mut words);
     let with = word(&mut words);
-    call(rt, alloc, tree, name, at, with) == word(&mut words)
+    let want = word(&mut words);
+    let before = file_of(rt, alloc, tree);
+    let answer = call(rt, alloc, tree, name, at, with);
+    if answer != "NoMemory" {
+        return answer == want;
+    }
+    file_of(rt, alloc, tree) == before && call(rt, alloc, tree, name, at, with) == want
 }
 
 #[test]
 fn calls_have_their_answers(rt: HostRuntime) {
     let mut tree = fresh(rt.alloc(), 0);
     for row in CALLS.split('\n') {
+        assert!(rt; answers(&rt, rt.alloc(), &mut tree, row), "{row}");
+    }
+}
+
+#[test]
+fn a_tree_holds_many_streams(rt: HostRuntime) {
+    let mut tree = fresh(rt.alloc(), 0);
+    for row in MANY.split('\n') {
         assert!(rt; answers(&rt, rt.alloc(), &mut tree, row), "{row}");
     }
 }

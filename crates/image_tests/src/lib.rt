@@ -6,6 +6,8 @@ mod placing;
 #[cfg(test)]
 mod random;
 #[cfg(test)]
+mod refusals;
+#[cfg(test)]
 mod trees;
 #[cfg(test)]
 mod trimming;
