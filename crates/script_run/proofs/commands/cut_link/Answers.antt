@@ -24,6 +24,7 @@ pub returns-clause-first : goal.returns-clause-first
 returns-clause-first g c =
     let ran = running c.args.inc (g.H.Host.told c.args.host.now) in
     let at = subst (λ (ls : List Link). IsLinkAt ls c.in-Some.place c.args.inc) c.deref.ensures.value c.in-Some.ensures.there in
-    let within = subst (λ (ls : List Link). c.in-Some.place < length ls) c.deref.ensures.value c.in-Some.ensures.within in
-    (told_some ran (linked_runs c.args.inc (g.H.Host.told c.args.host.now) c.args.links.now.items c.requires.linked (linked_there c.args.inc c.args.links.now.items c.in-Some.place within at)),
-     cut_some ran (pace c.args.inc (g.H.Host.told c.cut.new.host)).links (cut_anew (g.H.Host.told c.cut.new.host) c.args.inc c.args.links.now.items c.in-Some.place at c.in_ok-cut.ensures.anew))
+    let within = subst (λ (ls : List Link). c.in-Some.place < length ls) c.deref.ensures.value c.in-Some.ensures.within in (
+      told_some ran (linked_runs c.args.inc (g.H.Host.told c.args.host.now) c.args.links.now.items c.requires.linked (linked_there c.args.inc c.args.links.now.items c.in-Some.place within at)),
+      cut_some ran (pace c.args.inc (g.H.Host.told c.cut.new.host)).links (cut_anew (g.H.Host.told c.cut.new.host) c.args.inc c.args.links.now.items c.in-Some.place at c.in_ok-cut.ensures.anew),
+    )
