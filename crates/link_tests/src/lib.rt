@@ -10,8 +10,6 @@ mod ends;
 #[cfg(test)]
 mod given;
 #[cfg(test)]
-mod refusals;
-#[cfg(test)]
 mod saves;
 #[cfg(test)]
 mod server;
