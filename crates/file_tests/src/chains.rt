@@ -5,8 +5,7 @@ use cfb_chain::fat::Fat;
 use cfb_chain::image::Image;
 use cfb_header::fault::ChainFault;
 use cfb_header::header::Header;
-use refusal_marks::marks::{begin, end};
-use std::alloc::{AllocError, Global};
+use std::alloc::Global;
 use std::process::Abort;
 
 /// A header: the FAT in sector 0, the directory at sector 1, a mini FAT of one sector at sector 5.
@@ -72,19 +71,8 @@ fn header_of(rt: &impl Abort, file: &[u8]) -> Header {
     Header::read(file).expect(rt, "a header")
 }
 
-fn load_once<'a>(alloc: Global, header: &Header, file: &'a [u8]) -> Result<Fat<'a>, ChainFault> {
-    begin(alloc);
-    let fat = Fat::load(alloc, header, Image::Whole(file));
-    end(alloc);
-    fat
-}
-
-/// The table of a file, read again where memory is refused.
 fn load<'a>(rt: &impl Abort, alloc: Global, header: &Header, file: &'a [u8]) -> Fat<'a> {
-    match load_once(alloc, header, file) {
-        Err(ChainFault::NoMemory) => load_once(alloc, header, file).expect(rt, "a table"),
-        fat => fat.expect(rt, "a table"),
-    }
+    Fat::load(alloc, header, Image::Whole(file)).expect(rt, "a table")
 }
 
 /// Checks that a table tells what each call wants.
@@ -124,24 +112,9 @@ fn free(fat: &Fat) -> u32 {
     fat.free_sector().unwrap_or(u32::MAX)
 }
 
-fn chain_once(alloc: Global, fat: &mut Fat, start: u32) -> Result<Vec<u32>, ChainFault> {
-    begin(alloc);
-    let chain = fat.chain(alloc, start);
-    end(alloc);
-    chain
-}
-
-/// The chain from a sector on. Where memory is refused, none of its sectors is marked, and it is followed again.
-fn chain(alloc: Global, fat: &mut Fat, start: u32) -> Result<Vec<u32>, ChainFault> {
-    match chain_once(alloc, fat, start) {
-        Err(ChainFault::NoMemory) => chain_once(alloc, fat, start),
-        chain => chain,
-    }
-}
-
 /// Whether no chain is found from a sector on, for this fault.
 fn is_refused(alloc: Global, fat: &mut Fat, start: u32, want: &str) -> bool {
-    match chain(alloc, fat, start) {
+    match fat.chain(alloc, start) {
         Ok(_) => false,
         Err(fault) => fault.name() == want,
     }
@@ -171,52 +144,12 @@ fn are_held(
     bytes: &[u8],
     want: &str,
 ) -> bool {
-    compared(rt, alloc, fat, start, bytes) && are_spelled(rt, alloc, bytes, want)
+    let same = fat.holds(alloc, start, bytes).expect(rt, "memory");
+    same && are_spelled(rt, alloc, bytes, want)
 }
 
-fn compared_once(alloc: Global, fat: &Fat, start: u32, bytes: &[u8]) -> Result<bool, AllocError> {
-    begin(alloc);
-    let same = fat.holds(alloc, start, bytes);
-    end(alloc);
-    same
-}
-
-/// Whether the first bytes of a chain are these, compared again where memory is refused.
-fn compared(rt: &impl Abort, alloc: Global, fat: &Fat, start: u32, bytes: &[u8]) -> bool {
-    match compared_once(alloc, fat, start, bytes) {
-        Ok(same) => same,
-        Err(_) => compared_once(alloc, fat, start, bytes).expect(rt, "memory"),
-    }
-}
-
-fn held_once(alloc: Global, fat: &Fat, start: u32, len: u32) -> Result<Vec<u8>, AllocError> {
-    begin(alloc);
-    let bytes = fat.held(alloc, start, len);
-    end(alloc);
-    bytes
-}
-
-/// The first bytes of a chain, read again where memory is refused.
 fn held(rt: &impl Abort, alloc: Global, fat: &Fat, start: u32, len: u32) -> Vec<u8> {
-    match held_once(alloc, fat, start, len) {
-        Ok(bytes) => bytes,
-        Err(_) => held_once(alloc, fat, start, len).expect(rt, "memory"),
-    }
-}
-
-fn joined_once(alloc: Global, fat: &Fat, sectors: &[u32]) -> Result<Vec<u8>, AllocError> {
-    begin(alloc);
-    let bytes = fat.join(alloc, sectors);
-    end(alloc);
-    bytes
-}
-
-/// The bytes of sectors, joined again where memory is refused.
-fn joined(rt: &impl Abort, alloc: Global, fat: &Fat, sectors: &[u32]) -> Vec<u8> {
-    match joined_once(alloc, fat, sectors) {
-        Ok(bytes) => bytes,
-        Err(_) => joined_once(alloc, fat, sectors).expect(rt, "memory"),
-    }
+    fat.held(alloc, start, len).expect(rt, "memory")
 }
 
 /// Whether the chain from a sector on is of these sectors, and has these bytes.
@@ -228,8 +161,8 @@ fn joins(
     bytes: &str,
     sectors: &str,
 ) -> bool {
-    let chain = chain(alloc, fat, start).expect(rt, "a chain");
-    let joined = joined(rt, alloc, fat, &chain);
+    let chain = fat.chain(alloc, start).expect(rt, "a chain");
+    let joined = fat.join(alloc, &chain).expect(rt, "memory");
     are_numbers(rt, alloc, &chain, sectors) && are_spelled(rt, alloc, &joined, bytes)
 }
 
@@ -260,24 +193,9 @@ fn chains_are_followed(rt: HostRuntime) {
     play(&rt, rt.alloc(), &mut fat, LINKED_CALLS);
 }
 
-fn mini_once<'a>(alloc: Global, fat: &mut Fat<'a>, header: &Header) -> Result<Fat<'a>, ChainFault> {
-    begin(alloc);
-    let mini = fat.mini(alloc, header, 2, 640);
-    end(alloc);
-    mini
-}
-
-/// The mini stream of a table. Where memory is refused, none of its sectors is marked, and it is read again.
-fn mini<'a>(rt: &impl Abort, alloc: Global, fat: &mut Fat<'a>, header: &Header) -> Fat<'a> {
-    match mini_once(alloc, fat, header) {
-        Err(ChainFault::NoMemory) => mini_once(alloc, fat, header).expect(rt, "a mini stream"),
-        mini => mini.expect(rt, "a mini stream"),
-    }
-}
-
 /// Checks what the mini stream of a table tells.
 fn play_mini(rt: &impl Abort, alloc: Global, fat: &mut Fat, header: &Header) {
-    let mut mini = mini(rt, alloc, fat, header);
+    let mut mini = fat.mini(alloc, header, 2, 640).expect(rt, "a mini stream");
     play(rt, alloc, &mut mini, STREAM_CALLS);
 }
 

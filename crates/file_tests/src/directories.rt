@@ -6,7 +6,6 @@ use cfb_names::fault::DirFault;
 use cfb_names::name::{LONGEST, Name, key, keys_agree, named};
 use directory_writing::links::{Links, balanced, build};
 use directory_writing::write::{EntryFields, write_entry, write_free_entry};
-use refusal_marks::marks::{begin, end};
 use std::alloc::{AllocError, Global};
 use std::cmp::Ordering;
 use std::process::Abort;
@@ -123,31 +122,16 @@ fn free_entry(rt: &impl Abort, out: &mut Vec<u8>) {
     push_free(out).expect(rt, "memory");
 }
 
-/// Adds an entry, or a free one. Where memory is refused, what stood there stands, and what is behind it goes before it is added again.
-fn add_entry(rt: &impl Abort, alloc: Global, out: &mut Vec<u8>, fields: Option<&EntryFields>) {
-    let len = out.len();
-    begin(alloc);
-    let added = match fields {
-        Some(fields) => push(out, "Ab", fields),
-        None => push_free(out),
-    };
-    end(alloc);
-    if added.is_err() {
-        assert!(rt; out.len() >= len);
-        out.truncate(len);
-        match fields {
-            Some(fields) => entry(rt, out, "Ab", fields),
-            None => free_entry(rt, out),
-        }
-    }
-}
-
 #[test]
 fn entries_are_written(rt: HostRuntime) {
     let mut bytes = Vec::new(rt.alloc());
-    let fields = fields(EntryKind::Root, NO_STREAM, 0x55, 2);
-    add_entry(&rt, rt.alloc(), &mut bytes, Some(&fields));
-    add_entry(&rt, rt.alloc(), &mut bytes, None);
+    entry(
+        &rt,
+        &mut bytes,
+        "Ab",
+        &fields(EntryKind::Root, NO_STREAM, 0x55, 2),
+    );
+    free_entry(&rt, &mut bytes);
     assert!(rt; are_spelled(&rt, rt.alloc(), &bytes, WRITTEN));
 }
 
@@ -211,62 +195,22 @@ fn are_entries(entries: &Entries) -> bool {
         && entry_is(entries, 5, "BadEntry", EntryKind::Root, 0)
 }
 
-fn children_once(alloc: Global, entries: &mut Entries, id: u32) -> Result<Vec<u32>, DirFault> {
-    begin(alloc);
-    let children = entries.children(alloc, id);
-    end(alloc);
-    children
-}
-
-/// What stands in a storage. Where memory is refused, nothing is marked, and it is read again.
-fn children(alloc: Global, entries: &mut Entries, id: u32) -> Result<Vec<u32>, DirFault> {
-    match children_once(alloc, entries, id) {
-        Err(DirFault::NoMemory) => children_once(alloc, entries, id),
-        children => children,
-    }
-}
-
 /// The root's are marked once they are read.
 fn are_children(rt: &impl Abort, alloc: Global, entries: &mut Entries) -> bool {
-    are_found(rt, alloc, children(alloc, entries, 0), "2,1,3", "")
-        && are_found(rt, alloc, children(alloc, entries, 2), "", "")
-        && are_found(rt, alloc, children(alloc, entries, 0), "", "TreeCycle")
-}
-
-fn in_order_once(alloc: Global, entries: &mut Entries, id: u32) -> Result<Vec<u32>, DirFault> {
-    begin(alloc);
-    let children = entries.in_order(alloc, id);
-    end(alloc);
-    children
+    are_found(rt, alloc, entries.children(alloc, 0), "2,1,3", "")
+        && are_found(rt, alloc, entries.children(alloc, 2), "", "")
+        && are_found(rt, alloc, entries.children(alloc, 0), "", "TreeCycle")
 }
 
 /// The same where they are read in order.
-fn in_order(alloc: Global, entries: &mut Entries, id: u32) -> Result<Vec<u32>, DirFault> {
-    match in_order_once(alloc, entries, id) {
-        Err(DirFault::NoMemory) => in_order_once(alloc, entries, id),
-        children => children,
-    }
-}
-
 fn are_in_order(rt: &impl Abort, alloc: Global, entries: &mut Entries) -> bool {
-    are_found(rt, alloc, in_order(alloc, entries, 0), "1,2,3", "")
-        && are_found(rt, alloc, in_order(alloc, entries, 2), "", "")
-        && are_found(rt, alloc, in_order(alloc, entries, 0), "", "TreeCycle")
+    are_found(rt, alloc, entries.in_order(alloc, 0), "1,2,3", "")
+        && are_found(rt, alloc, entries.in_order(alloc, 2), "", "")
+        && are_found(rt, alloc, entries.in_order(alloc, 0), "", "TreeCycle")
 }
 
-fn load_once<'a>(alloc: Global, bytes: &'a [u8]) -> Result<Entries<'a>, DirFault> {
-    begin(alloc);
-    let entries = Entries::load(alloc, bytes);
-    end(alloc);
-    entries
-}
-
-/// The entries of a directory, read again where memory is refused.
 fn entries_in<'a>(rt: &impl Abort, alloc: Global, bytes: &'a [u8]) -> Entries<'a> {
-    match load_once(alloc, bytes) {
-        Err(DirFault::NoMemory) => load_once(alloc, bytes).expect(rt, "memory"),
-        entries => entries.expect(rt, "a directory"),
-    }
+    Entries::load(alloc, bytes).expect(rt, "memory")
 }
 
 #[test]
@@ -305,24 +249,9 @@ fn links_are(
         && are_numbers(rt, alloc, &links.right, word(words))
 }
 
-fn balanced_once(alloc: Global, count: u32) -> Result<Links, AllocError> {
-    begin(alloc);
-    let links = balanced(alloc, count);
-    end(alloc);
-    links
-}
-
-/// The links of so many siblings, made again where memory is refused.
-fn links_of(rt: &impl Abort, alloc: Global, count: u32) -> Links {
-    match balanced_once(alloc, count) {
-        Ok(links) => links,
-        Err(_) => balanced_once(alloc, count).expect(rt, "memory"),
-    }
-}
-
 fn is_balanced(rt: &impl Abort, alloc: Global, row: &str) -> bool {
     let mut words = row.split_whitespace();
-    let links = links_of(rt, alloc, number(word(&mut words)));
+    let links = balanced(alloc, number(word(&mut words))).expect(rt, "memory");
     links_are(rt, alloc, &links, &mut words)
 }
 
@@ -334,22 +263,12 @@ fn names(rt: &impl Abort, alloc: Global, names: &str) -> Vec<Name> {
     list
 }
 
-fn built_once(alloc: Global, names: &[Name]) -> Result<Links, DirFault> {
+/// The links of siblings with these names.
+fn built(alloc: Global, names: &[Name]) -> Result<Links, DirFault> {
     if names.len() > 100 {
         return Err(DirFault::NameTooLong);
     }
-    begin(alloc);
-    let links = build(alloc, names);
-    end(alloc);
-    links
-}
-
-/// The links of siblings with these names, made again where memory is refused.
-fn built(alloc: Global, names: &[Name]) -> Result<Links, DirFault> {
-    match built_once(alloc, names) {
-        Err(DirFault::NoMemory) => built_once(alloc, names),
-        links => links,
-    }
+    build(alloc, names)
 }
 
 fn is_built(rt: &impl Abort, alloc: Global, row: &str) -> bool {

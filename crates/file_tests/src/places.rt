@@ -2,14 +2,11 @@
 
 use crate::reading::{FILE, first_size};
 use crate::texts::{are_all, spelled};
-use file_outline::outline::Outline;
 use file_places::fault::PlacesFault;
 use file_places::reading::{Catalog, read_catalog};
 use file_places::source::{Sought, Source};
-use refusal_marks::marks::{begin, end};
 use std::alloc::Global;
 use std::io::{self, Cursor, ErrorKind};
-use stream_io::fault::ReadFault;
 use stream_io::read::read_placed;
 
 /// How many calls the file takes: one for its length, and one each for its header, the FAT, the directory and the mini FAT.
@@ -44,34 +41,8 @@ impl<'a> Source for Broken<'a> {
     }
 }
 
-fn catalog_once<S: Source>(alloc: Global, source: &mut S) -> Result<Catalog, PlacesFault> {
-    begin(alloc);
-    let catalog = read_catalog(alloc, source);
-    end(alloc);
-    catalog
-}
-
-/// What a listing needs of a file, read again where memory is refused.
 fn cataloged<S: Source>(alloc: Global, source: &mut S) -> Result<Catalog, PlacesFault> {
-    match catalog_once(alloc, source) {
-        Err(PlacesFault::NoMemory) => catalog_once(alloc, source),
-        catalog => catalog,
-    }
-}
-
-fn placed_once(alloc: Global, catalog: &Catalog) -> Result<Outline, ReadFault> {
-    begin(alloc);
-    let outline = read_placed(alloc, &catalog.header, &catalog.file);
-    end(alloc);
-    outline
-}
-
-/// The outline of a file of which only these places were read.
-fn placed(alloc: Global, catalog: &Catalog) -> Result<Outline, ReadFault> {
-    match placed_once(alloc, catalog) {
-        Err(ReadFault::NoMemory) => placed_once(alloc, catalog),
-        outline => outline,
-    }
+    read_catalog(alloc, source)
 }
 
 /// Whether a block has zeros alone.
@@ -93,22 +64,17 @@ fn is_small(alloc: Global, catalog: &Catalog) -> bool {
     is_zeros(alloc, catalog, 4)
 }
 
-/// How many bytes the first stream has of a file of which only these places were read.
-fn sized(alloc: Global, catalog: Result<Catalog, PlacesFault>) -> Option<u32> {
-    let Ok(catalog) = catalog else {
+fn listed<S: Source>(alloc: Global, source: &mut S) -> Option<u32> {
+    let Ok(catalog) = read_catalog(alloc, source) else {
         return None;
     };
     if !is_small(alloc, &catalog) {
         return None;
     }
-    let Ok(outline) = placed(alloc, &catalog) else {
+    let Ok(outline) = read_placed(alloc, &catalog.header, &catalog.file) else {
         return None;
     };
     first_size(&outline)
-}
-
-fn listed<S: Source>(alloc: Global, source: &mut S) -> Option<u32> {
-    sized(alloc, cataloged(alloc, source))
 }
 
 fn is_unreadable(answer: Result<Catalog, PlacesFault>) -> bool {
@@ -131,12 +97,12 @@ fn a_listing_reads_its_places(rt: HostRuntime) {
 
 fn fails(alloc: Global, bytes: &[u8], calls: usize) -> bool {
     let mut source = Broken { bytes, calls };
-    is_unreadable(read_catalog(alloc, &mut source))
+    is_unreadable(cataloged(alloc, &mut source))
 }
 
 fn is_listed(alloc: Global, bytes: &[u8], calls: usize) -> bool {
     let mut source = Broken { bytes, calls };
-    sized(alloc, read_catalog(alloc, &mut source)) == Some(3)
+    listed(alloc, &mut source) == Some(3)
 }
 
 #[test]

@@ -3,11 +3,8 @@
 
 use crate::texts::{are_all, spelled};
 use cfb_names::name::{Name, named};
-use file_model::fault::WriteFault;
 use file_outline::outline::{Outline, Part};
 use file_queries::queries::{is_file_of, read_stream};
-use file_writer::write::write_file;
-use refusal_marks::marks::{begin, end};
 use std::alloc::Global;
 use std::process::Abort;
 use storage_tree::storage::Found;
@@ -52,114 +49,27 @@ fn name(rt: &impl Abort, text: &str) -> Name {
     named(text.as_bytes()).expect(rt, "a name")
 }
 
-fn file_once(alloc: Global, file: &[u8]) -> Result<Tree, ReadFault> {
-    begin(alloc);
-    let tree = read_file(alloc, file);
-    end(alloc);
-    tree
-}
-
-/// The tree of a file, read again where memory is refused.
-fn tree_of(rt: &impl Abort, alloc: Global, file: &[u8]) -> Tree {
-    match file_once(alloc, file) {
-        Err(ReadFault::NoMemory) => file_once(alloc, file).expect(rt, "a file"),
-        tree => tree.expect(rt, "a file"),
-    }
-}
-
 fn is_whole(rt: &impl Abort, alloc: Global, file: &[u8]) -> bool {
-    is_read(&tree_of(rt, alloc, file), name(rt, "A"))
-}
-
-fn outline_once(alloc: Global, file: &[u8]) -> Result<Outline, ReadFault> {
-    begin(alloc);
-    let outline = read_outline(alloc, file);
-    end(alloc);
-    outline
-}
-
-/// The outline of a file, read again where memory is refused.
-fn outline_of(rt: &impl Abort, alloc: Global, file: &[u8]) -> Outline {
-    match outline_once(alloc, file) {
-        Err(ReadFault::NoMemory) => outline_once(alloc, file).expect(rt, "a file"),
-        outline => outline.expect(rt, "a file"),
-    }
+    let tree = read_file(alloc, file).expect(rt, "a file");
+    is_read(&tree, name(rt, "A"))
 }
 
 fn is_outlined(rt: &impl Abort, alloc: Global, file: &[u8]) -> bool {
-    first_size(&outline_of(rt, alloc, file)) == Some(3)
-}
-
-fn stream_once(alloc: Global, file: &[u8], path: &[Name]) -> Result<Vec<u8>, StreamFault> {
-    begin(alloc);
-    let bytes = read_stream(alloc, file, path);
-    end(alloc);
-    bytes
-}
-
-/// Whether a fault of a stream tells that memory was refused.
-fn is_lack(answer: &Result<Vec<u8>, StreamFault>) -> bool {
-    match answer {
-        Err(StreamFault::Read(ReadFault::NoMemory)) => true,
-        _ => false,
-    }
-}
-
-/// The bytes of a stream, or why there are none. It is read again where memory is refused.
-fn stream(alloc: Global, file: &[u8], path: &[Name]) -> Result<Vec<u8>, StreamFault> {
-    let answer = stream_once(alloc, file, path);
-    if is_lack(&answer) {
-        return stream_once(alloc, file, path);
-    }
-    answer
+    let outline = read_outline(alloc, file).expect(rt, "a file");
+    first_size(&outline) == Some(3)
 }
 
 fn has_stream(rt: &impl Abort, alloc: Global, file: &[u8]) -> bool {
-    let bytes = stream(alloc, file, &[name(rt, "a")]).expect(rt, "a stream");
+    let bytes = read_stream(alloc, file, &[name(rt, "a")]).expect(rt, "a stream");
     bytes.as_slice() == b"\x01\x02\x03".as_slice()
-}
-
-fn told_once(alloc: Global, file: &[u8], tree: &Tree) -> Result<bool, ReadFault> {
-    begin(alloc);
-    let is_of = is_file_of(alloc, file, tree);
-    end(alloc);
-    is_of
-}
-
-/// Whether a file denotes a tree, asked again where memory is refused.
-fn denotes(rt: &impl Abort, alloc: Global, file: &[u8], tree: &Tree) -> bool {
-    match told_once(alloc, file, tree) {
-        Err(ReadFault::NoMemory) => told_once(alloc, file, tree).expect(rt, "a file"),
-        is_of => is_of.expect(rt, "a file"),
-    }
 }
 
 /// Whether it is told of a file's tree that the file denotes it, and of another that it doesn't.
 fn is_told_of_its_tree(rt: &impl Abort, alloc: Global, file: &[u8]) -> bool {
-    let tree = tree_of(rt, alloc, file);
+    let tree = read_file(alloc, file).expect(rt, "a file");
     let other = Tree::new(alloc, ClassId::from_bytes([0; 16]), 0);
-    denotes(rt, alloc, file, &tree) && !denotes(rt, alloc, file, &other)
-}
-
-fn written_once(alloc: Global, tree: &Tree) -> Result<Vec<u8>, WriteFault> {
-    begin(alloc);
-    let file = write_file(alloc, tree);
-    end(alloc);
-    file
-}
-
-/// The file of a tree, written again where memory is refused.
-fn written(rt: &impl Abort, alloc: Global, tree: &Tree) -> Vec<u8> {
-    match written_once(alloc, tree) {
-        Err(WriteFault::NoMemory) => written_once(alloc, tree).expect(rt, "a file"),
-        file => file.expect(rt, "a tree that fits"),
-    }
-}
-
-/// Whether a file's tree is written as a file of that tree.
-fn is_written(rt: &impl Abort, alloc: Global, file: &[u8]) -> bool {
-    let tree = tree_of(rt, alloc, file);
-    denotes(rt, alloc, &written(rt, alloc, &tree), &tree)
+    let same = is_file_of(alloc, file, &tree).expect(rt, "a file");
+    same && !is_file_of(alloc, file, &other).expect(rt, "a file")
 }
 
 #[test]
@@ -169,7 +79,6 @@ fn a_file_is_read(rt: HostRuntime) {
     assert!(rt; is_outlined(&rt, rt.alloc(), &file));
     assert!(rt; has_stream(&rt, rt.alloc(), &file));
     assert!(rt; is_told_of_its_tree(&rt, rt.alloc(), &file));
-    assert!(rt; is_no_stream(stream(rt.alloc(), &file, &[])));
-    assert!(rt; is_written(&rt, rt.alloc(), &file));
+    assert!(rt; is_no_stream(read_stream(rt.alloc(), &file, &[])));
     assert!(rt; ReadFault::NoMemory.name() == "NoMemory");
 }

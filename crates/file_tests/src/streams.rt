@@ -2,8 +2,7 @@
 
 use crate::texts::{number, word};
 use cfb_names::name::{Name, named};
-use refusal_marks::marks::{begin, end};
-use std::alloc::{AllocError, Global};
+use std::alloc::Global;
 use std::process::Abort;
 use storage_tree::fault::TreeFault;
 use stored_streams::fault::StreamsFault;
@@ -30,36 +29,10 @@ fn bytes(rt: &impl Abort, alloc: Global, text: &str) -> Bytes {
     Bytes::from_slice(alloc, text.as_bytes()).expect(rt, "memory")
 }
 
-fn push_once(
-    rt: &impl Abort,
-    alloc: Global,
-    streams: &mut Streams,
-    name: &Name,
-    text: &str,
-) -> Result<(), StreamsFault> {
-    let (name, bytes) = (name.copy(), bytes(rt, alloc, text));
-    begin(alloc);
-    let answer = streams.push(NamedStream { name, bytes });
-    end(alloc);
-    answer
-}
-
-fn is_pushed(answer: Result<(), StreamsFault>) -> bool {
-    match answer {
+fn push(streams: &mut Streams, name: Name, bytes: Bytes) -> bool {
+    match streams.push(NamedStream { name, bytes }) {
         Ok(()) => true,
         Err(fault) => fault.name() != "OutOfOrder",
-    }
-}
-
-/// Whether a stream is taken. Where memory is refused, there is none more, and it is pushed again.
-fn push(rt: &impl Abort, alloc: Global, streams: &mut Streams, name: &Name, text: &str) -> bool {
-    let len = streams.len();
-    match push_once(rt, alloc, streams, name, text) {
-        Err(StreamsFault::NoMemory) => {
-            assert!(rt; streams.len() == len);
-            is_pushed(push_once(rt, alloc, streams, name, text))
-        }
-        answer => is_pushed(answer),
     }
 }
 
@@ -87,7 +60,7 @@ fn carry_out(
     with: &str,
 ) -> bool {
     match call {
-        "push" => push(rt, alloc, streams, &name, with),
+        "push" => push(streams, name, bytes(rt, alloc, with)),
         "get" => holds(streams, &name, with),
         "len" => are_so_many(streams, number(with)),
         _ => streams.is_next(&name),
@@ -115,57 +88,20 @@ fn play(rt: &impl Abort, alloc: Global, streams: &mut Streams, calls: &str) {
     }
 }
 
-fn vec_once(alloc: Global, bytes: Bytes) -> Result<Vec<u8>, AllocError> {
-    begin(alloc);
-    let vec = bytes.into_vec(alloc);
-    end(alloc);
-    vec
-}
-
-fn bytes_once(alloc: Global, text: &str) -> Result<Bytes, AllocError> {
-    begin(alloc);
-    let bytes = Bytes::from_slice(alloc, text.as_bytes());
-    end(alloc);
-    bytes
-}
-
-/// The bytes of a text, made again where memory is refused.
-fn bytes_of(rt: &impl Abort, alloc: Global, text: &str) -> Bytes {
-    match bytes_once(alloc, text) {
-        Ok(bytes) => bytes,
-        Err(_) => bytes_once(alloc, text).expect(rt, "memory"),
-    }
-}
-
 fn is_seven(rt: &impl Abort, alloc: Global, picture: Bytes) -> bool {
-    let again = picture.copy(alloc).expect(rt, "memory");
-    let bytes = match vec_once(alloc, picture) {
-        Ok(bytes) => bytes,
-        Err(_) => vec_once(alloc, again).expect(rt, "memory"),
-    };
+    let bytes = picture.into_vec(alloc).expect(rt, "memory");
     bytes.as_slice() == b"7".as_slice()
 }
 
-fn copy_once(alloc: Global, stored: &Stored) -> Result<Stored, AllocError> {
-    begin(alloc);
-    let copy = stored.copy(alloc);
-    end(alloc);
-    copy
-}
-
-/// A copy, made again where memory is refused.
 fn copy(rt: &impl Abort, alloc: Global, stored: &Stored) -> Stored {
-    match copy_once(alloc, stored) {
-        Ok(copy) => copy,
-        Err(_) => copy_once(alloc, stored).expect(rt, "memory"),
-    }
+    stored.copy(alloc).expect(rt, "memory")
 }
 
 #[test]
 fn streams_stand_in_name_order(rt: HostRuntime) {
     let mut stored = Stored::new(rt.alloc());
     play(&rt, rt.alloc(), &mut stored.streams, PUSHES);
-    stored.picture = bytes_of(&rt, rt.alloc(), "7");
+    stored.picture = bytes(&rt, rt.alloc(), "7");
     let mut copy = copy(&rt, rt.alloc(), &stored);
     play(&rt, rt.alloc(), &mut copy.streams, COPIED);
     assert!(rt; is_seven(&rt, rt.alloc(), copy.picture));

@@ -2,9 +2,7 @@
 
 use crate::texts::{number, word};
 use cfb_names::name::{Name, named};
-use file_writer::write::write_file;
-use refusal_marks::marks::{begin, end};
-use std::alloc::{AllocError, Global};
+use std::alloc::Global;
 use std::process::Abort;
 use storage_tree::fault::TreeFault;
 use storage_tree::storage::{Found, Storage, copy};
@@ -12,8 +10,7 @@ use storage_tree::tree::Tree;
 use stored_values::bytes::Bytes;
 use stored_values::class_id::ClassId;
 
-/// Four words a call: the call, a path, an argument and the answer. A point stands for nothing. `start` and `undo` are `begin` and
-/// `revert` to which no memory is refused.
+/// Four words a call: the call, a path, an argument and the answer. A point stands for nothing.
 const CALLS: &str = "begin . . ok
 put A 123 ok
 begin . . ok
@@ -81,15 +78,13 @@ begin . . ok
 begin . . ok
 begin . . TooDeep
 commit . . ok
-begin . . ok";
-
-/// Calls of a tree with many children.
-const MANY: &str = "new . 0 ok
+begin . . ok
+new . 0 ok
 many . 50000 ok
 count . 50000 ok
 get 49999 49999 ok
-start . . ok
-undo . . ok
+begin . . ok
+revert . . ok
 get 7 7 ok";
 
 fn name(rt: &impl Abort, text: &str) -> Name {
@@ -146,56 +141,24 @@ fn whether(holds: bool) -> &'static str {
 }
 
 fn put(rt: &impl Abort, alloc: Global, tree: &mut Tree, at: &str, text: &str) -> &'static str {
-    let (path, content) = (path(rt, alloc, at), content(rt, alloc, text));
-    begin(alloc);
-    let answer = tree.put_stream(&path, content);
-    end(alloc);
-    told(answer)
+    told(tree.put_stream(&path(rt, alloc, at), content(rt, alloc, text)))
 }
 
 fn add(rt: &impl Abort, alloc: Global, tree: &mut Tree, at: &str, text: &str) -> &'static str {
-    let (path, content) = (path(rt, alloc, at), content(rt, alloc, text));
-    begin(alloc);
-    let answer = tree.make_stream(&path, content);
-    end(alloc);
-    told(answer)
+    told(tree.make_stream(&path(rt, alloc, at), content(rt, alloc, text)))
 }
 
 /// The state bits of a storage are the letter of its class.
 fn make(rt: &impl Abort, alloc: Global, tree: &mut Tree, at: &str, with: u8) -> &'static str {
-    let path = path(rt, alloc, at);
-    begin(alloc);
-    let answer = tree.make_storage(&path, class(with), u32::from(with));
-    end(alloc);
-    told(answer)
+    told(tree.make_storage(&path(rt, alloc, at), class(with), u32::from(with)))
 }
 
 fn remove(rt: &impl Abort, alloc: Global, tree: &mut Tree, at: &str) -> &'static str {
-    let path = path(rt, alloc, at);
-    begin(alloc);
-    let answer = tree.remove(&path);
-    end(alloc);
-    told(answer)
+    told(tree.remove(&path(rt, alloc, at)))
 }
 
 fn rename(rt: &impl Abort, alloc: Global, tree: &mut Tree, at: &str, new: &str) -> &'static str {
-    let (path, name) = (path(rt, alloc, at), name(rt, new));
-    begin(alloc);
-    let answer = tree.rename(&path, name);
-    end(alloc);
-    told(answer)
-}
-
-/// Begins a transaction, commits it or reverts it.
-fn transact(alloc: Global, tree: &mut Tree, call: &str) -> &'static str {
-    begin(alloc);
-    let answer = match call {
-        "begin" => tree.begin(),
-        "commit" => tree.commit(),
-        _ => tree.revert(),
-    };
-    end(alloc);
-    told(answer)
+    told(tree.rename(&path(rt, alloc, at), name(rt, new)))
 }
 
 /// Whether the stream at a path of a storage has these bytes.
@@ -220,39 +183,9 @@ fn has(storage: &Storage, with: u8) -> bool {
     storage.class == class(with) && storage.state == u32::from(with)
 }
 
-fn names_once(alloc: Global, root: &Storage) -> Result<Vec<Name>, AllocError> {
-    begin(alloc);
-    let names = storage_tree::storage::names(root, alloc);
-    end(alloc);
-    names
-}
-
-/// The names in a storage, asked for again where memory is refused.
-fn named_in(rt: &impl Abort, alloc: Global, root: &Storage) -> Vec<Name> {
-    match names_once(alloc, root) {
-        Ok(names) => names,
-        Err(_) => names_once(alloc, root).expect(rt, "memory"),
-    }
-}
-
-fn copy_once(alloc: Global, root: &Storage) -> Result<Storage, AllocError> {
-    begin(alloc);
-    let copy = copy(root, alloc);
-    end(alloc);
-    copy
-}
-
-/// A copy of a storage, made again where memory is refused.
-fn twin(rt: &impl Abort, alloc: Global, root: &Storage) -> Storage {
-    match copy_once(alloc, root) {
-        Ok(copy) => copy,
-        Err(_) => copy_once(alloc, root).expect(rt, "memory"),
-    }
-}
-
 /// Whether the root's only child is spelled so.
 fn is_named(rt: &impl Abort, alloc: Global, tree: &Tree, text: &str) -> bool {
-    let names = named_in(rt, alloc, tree.root());
+    let names = storage_tree::storage::names(tree.root(), alloc).expect(rt, "memory");
     match names.as_slice() {
         [name] => name.as_bytes() == text.as_bytes(),
         _ => false,
@@ -261,7 +194,7 @@ fn is_named(rt: &impl Abort, alloc: Global, tree: &Tree, text: &str) -> bool {
 
 /// Whether a copy of the root, taken before its storage `D` goes, has these bytes.
 fn copied(rt: &impl Abort, alloc: Global, tree: &mut Tree, at: &str, text: &str) -> &'static str {
-    let copy = twin(rt, alloc, tree.root());
+    let copy = copy(tree.root(), alloc).expect(rt, "memory");
     let _ = remove(rt, alloc, tree, "D");
     if copy.class != tree.root().class || copy.state != tree.root().state {
         return "otherwise";
@@ -283,9 +216,7 @@ fn renew(alloc: Global, tree: &mut Tree, with: u8) -> &'static str {
 fn put_many(rt: &impl Abort, alloc: Global, tree: &mut Tree, count: u32) -> &'static str {
     for number in 0..count {
         let digits = format!(in alloc; "{number}").expect(rt, "memory");
-        let path = path(rt, alloc, digits.as_str());
-        let content = content(rt, alloc, digits.as_str());
-        assert!(rt; tree.put_stream(&path, content).is_ok());
+        let _ = put(rt, alloc, tree, digits.as_str(), digits.as_str());
     }
     "ok"
 }
@@ -304,9 +235,9 @@ fn call(
 ) -> &'static str {
     match call {
         "new" => renew(alloc, tree, letter(with)),
-        "begin" | "commit" | "revert" => transact(alloc, tree, call),
-        "start" => told(tree.begin()),
-        "undo" => told(tree.revert()),
+        "begin" => told(tree.begin()),
+        "commit" => told(tree.commit()),
+        "revert" => told(tree.revert()),
         "put" => put(rt, alloc, tree, at, with),
         "add" => add(rt, alloc, tree, at, with),
         "make" => make(rt, alloc, tree, at, letter(with)),
@@ -322,44 +253,19 @@ fn call(
     }
 }
 
-/// The most children of a root whose file is written before each call.
-const FEW: usize = 100;
-
-/// The file of a tree, none of one with many children.
-fn file_of(rt: &impl Abort, alloc: Global, tree: &Tree) -> Vec<u8> {
-    if tree.root().children.len() > FEW {
-        return Vec::new(alloc);
-    }
-    write_file(alloc, tree).expect(rt, "a file")
-}
-
-/// Whether a call has its answer. Where memory is refused, the tree is as before, and is called again.
+/// Whether a call has its answer.
 fn answers(rt: &impl Abort, alloc: Global, tree: &mut Tree, row: &str) -> bool {
     let mut words = row.split_whitespace();
     let name = word(&mut words);
     let at = word(&mut words);
     let with = word(&mut words);
-    let want = word(&mut words);
-    let before = file_of(rt, alloc, tree);
-    let answer = call(rt, alloc, tree, name, at, with);
-    if answer != "NoMemory" {
-        return answer == want;
-    }
-    file_of(rt, alloc, tree) == before && call(rt, alloc, tree, name, at, with) == want
+    call(rt, alloc, tree, name, at, with) == word(&mut words)
 }
 
 #[test]
 fn calls_have_their_answers(rt: HostRuntime) {
     let mut tree = fresh(rt.alloc(), 0);
     for row in CALLS.split('\n') {
-        assert!(rt; answers(&rt, rt.alloc(), &mut tree, row), "{row}");
-    }
-}
-
-#[test]
-fn a_tree_holds_many_streams(rt: HostRuntime) {
-    let mut tree = fresh(rt.alloc(), 0);
-    for row in MANY.split('\n') {
         assert!(rt; answers(&rt, rt.alloc(), &mut tree, row), "{row}");
     }
 }
