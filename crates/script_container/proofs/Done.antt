@@ -1,12 +1,16 @@
 -- Which commits are done, once the container was told what became of them.
-use Rattle.std.proofs.Common.{◌≡◌, ◌≢◌, ◌==◌, inl, inr, ◌⊎◌, ⊎_elim, ℕ, Bool, true, false, List, [], Option, Some, None, if◌then◌else◌, Result, Ok, Err, IfOk, IfErr, OnOk, OnErr, refl, sym, ap, ◌∙◌, subst}
+use Rattle.std.proofs.Common.{◌≡◌, ◌≢◌, ◌==◌, ◌<◌, ◌+◌, length, take, get_or, inl, inr, ◌⊎◌, ⊎_elim, ℕ, Bool, true, false, List, [], Option, Some, None, if◌then◌else◌, Result, Ok, Err, IfOk, IfErr, OnOk, OnErr, refl, sym, ap, ◌∙◌, subst}
 use Rattle.std.proofs.lemmas.Bool.{eqb-true, eqb-false}
+use Rattle.std.proofs.lemmas.List.Elements.{All-more}
+use Rattle.std.specs.Prelude.{slice_index_or}
 use Rattle.wire_msgs.specs.Found.{nth, set_nth}
 use Rattle.file_model.specs.Refusals.{writable}
 use Rattle.file_model.specs.declared.fault.WriteFault.{WriteFault}
 use Rattle.container_queues.proofs.SteadyLookups.{nth-set_other, nth-set_same}
 use Rattle.container_model.specs.Record.{Record, Refuses, Took, counts_none, is_doubtful}
-use Rattle.container_model.specs.Saves.{commit_at, commit_done, commit_failed, commit_doubted, commit_fitting, committed_frame, document_tree, doubted_frame, dropped_frame, failed_at, fitting, fitting_in, frame_document, has_image, held_parts, image, image_at, is_committing, is_document, parts_in, resolve, resolved_as, resolved_at}
+use Rattle.container_model.specs.Saves.{commit_at, commit_done, commit_failed, commit_doubted, commit_fitting, commit_made, committed_frame, document_tree, doubted_frame, dropped_frame, failed_at, fitting, fitting_in, frame_document, has_image, held_parts, image, image_at, is_committing, is_document, parts_in, resolve, resolved_as, resolved_at, save_dropped}
+use Rattle.container_model.specs.declared.answer.Action.{Action}
+use Rattle.container_model.specs.declared.answer.Action.TheVariants as action
 use Rattle.container_model.specs.declared.answer.Answer.{Answer}
 use Rattle.container_model.specs.declared.answer.Done.{Done}
 use Rattle.container_model.specs.declared.answer.FrameDocument.{FrameDocument}
@@ -16,8 +20,8 @@ use Rattle.container_model.specs.declared.record.Frame.{Frame}
 use Rattle.container_model.specs.declared.record.Phase.{Phase}
 use Rattle.container_model.specs.declared.record.Phase.TheVariants.{Idle, Saving, HandingOff, Committing, InDoubt}
 use Rattle.script_model.specs.Saved.{is_unsaved}
-use Rattle.script_container.specs.Done.{IsAnswered, IsCertain, IsDone, OnlyDone, OnlyDoneBut, is_in}
-use Rattle.script_container.specs.declared.fault.ScriptFault.{ScriptFault}
+use Rattle.script_container.proofs.Answered.{refused_with}
+use Rattle.script_container.specs.Done.{AreCarriedOut, IsAnswered, IsCarriedOut, IsCertain, IsDone, OnlyDone, OnlyDoneBut, is_in}
 
 -- ---- frames of which one is put in the place of another
 
@@ -55,30 +59,14 @@ certain_then r mid f first certain = ⊎_elim (λ same. inl (ap (is_in is_doubtf
 pub none_done : (r : Record) (f : ℕ) → nth r.frames f ≡ None → IsDone r f
 none_done r f none = ap (is_in is_unsaved) none
 
--- ---- refusals
-
-pub is_refused : {A : Type 0} (x : Result A ContainerFault) (e : ContainerFault) → e ≢ fault.NoMemory → Refuses x e → x ≡ Err e
-is_refused x fault.NoSuch other is = is
-is_refused x fault.Busy other is = is
-is_refused x fault.NotRunning other is = is
-is_refused x fault.InDoubt other is = is
-is_refused x fault.WrongLink other is = is
-is_refused x fault.Stale other is = is
-is_refused x fault.Full other is = is
-is_refused x fault.NumbersSpent other is = is
-is_refused x fault.WrongState other is = is
-is_refused x fault.BadFile other is = is
-is_refused x fault.BadAnswer other is = is
-is_refused x fault.UnknownClass other is = is
-is_refused x fault.NoMemory other is = absurd (other refl)
-
 module _ (r : Record) (f : ℕ) where
   -- ---- a commit that is done
 
   kept_fit : (frame : Frame) (told : Result FrameDocument ContainerFault) (took : Took) → nth r.frames f ≡ Some frame → commit_fitting r f frame told ≡ Ok took → IsDone took.rec f × OnlyDoneBut f r took.rec
   kept_fit frame (Err e) took here is = absurd (cc)
   kept_fit frame (Ok d) took here is =
-      let changed : took.rec.frames ≡ set_nth r.frames f (committed_frame frame) = cc in
+      let made : took ≡ commit_made r f frame = cc in
+      let changed : took.rec.frames ≡ set_nth r.frames f (committed_frame frame) = ap (λ (t : Took). t.rec.frames) made in
       (put_in is_unsaved r took.rec f frame (committed_frame frame) here changed refl, but_one r took.rec f (committed_frame frame) changed)
 
   kept_if : (b : Bool) (frame : Frame) (took : Took) → nth r.frames f ≡ Some frame → (if b then commit_fitting r f frame (image r f) else Err fault.WrongState) ≡ Ok took → IsDone took.rec f × OnlyDoneBut f r took.rec
@@ -105,7 +93,8 @@ module _ (r : Record) (f : ℕ) where
 
   doubted_if : (b : Bool) (frame : Frame) (took : Took) → nth r.frames f ≡ Some frame → (if b then Ok (commit_doubted r f frame) else Err fault.WrongState) ≡ Ok took → IsAnswered took.rec f × OnlyDoneBut f r took.rec
   doubted_if true frame took here is =
-      let changed : took.rec.frames ≡ set_nth r.frames f (doubted_frame frame) = cc in
+      let made : took ≡ commit_doubted r f frame = cc in
+      let changed : took.rec.frames ≡ set_nth r.frames f (doubted_frame frame) = ap (λ (t : Took). t.rec.frames) made in
       (put_in is_committing r took.rec f frame (doubted_frame frame) here changed refl, but_one r took.rec f (doubted_frame frame) changed)
   doubted_if false frame took here is = absurd (cc)
 
@@ -126,7 +115,8 @@ module _ (r : Record) (f : ℕ) where
 
   dropped_if : (b : Bool) (frame : Frame) (took : Took) → nth r.frames f ≡ Some frame → (if b then resolved_as r f frame false else Err fault.WrongState) ≡ Ok took → IsDone took.rec f × OnlyDoneBut f r took.rec
   dropped_if true frame took here is =
-      let changed : took.rec.frames ≡ set_nth r.frames f (dropped_frame frame) = cc in
+      let made : took ≡ save_dropped r f frame = cc in
+      let changed : took.rec.frames ≡ set_nth r.frames f (dropped_frame frame) = ap (λ (t : Took). t.rec.frames) made in
       (put_in is_unsaved r took.rec f frame (dropped_frame frame) here changed refl, but_one r took.rec f (dropped_frame frame) changed)
   dropped_if false frame took here is = absurd (cc)
 
@@ -172,7 +162,7 @@ module _ (r : Record) (f : ℕ) where
 
   -- a frame of which no image is made, though one would fit
   pub imageless_done : (e : ContainerFault) → e ≢ fault.NoMemory → e ≢ fault.Full → Refuses (image r f) e → IsDone r f
-  imageless_done e other room refuses = imaged_refused (nth r.frames f) e room (is_refused (image r f) e other refuses)
+  imageless_done e other room refuses = imaged_refused (nth r.frames f) e room (refused_with (image r f) e other refuses)
 
   -- ---- what calls leave
 
@@ -185,7 +175,7 @@ module _ (r : Record) (f : ℕ) where
         → (saved : FrameDocument) → image r f ≡ Ok saved → IsCertain r f → IsDone now f
     commit_ends counted (Ok a) known taken refused kept saved fits certain = (kept_at (nth r.frames f) (record { rec = now; answer = a; counted = counted }) refl taken).0
     commit_ends counted (Err e) known taken refused kept saved fits certain =
-        subst (λ (q : Record). IsDone q f) (sym kept) (kept_refused (nth r.frames f) saved e fits certain (is_refused (commit_done r f) e known refused))
+        subst (λ (q : Record). IsDone q f) (sym kept) (kept_refused (nth r.frames f) saved e fits certain (refused_with (commit_done r f) e known refused))
 
     pub commit_done_by : {X E : Type 0} (result : Result X E) (counted : List Done) (told x : Result Answer ContainerFault) → x ≡ told → OnOk result (IfErr x (λ e. e ≢ fault.NoMemory))
         → IfOk told (λ a. commit_done r f ≡ Ok (record { rec = now; answer = a; counted = counted })) → IfErr told (Refuses (commit_done r f)) → OnErr told (now ≡ r)
@@ -199,7 +189,7 @@ module _ (r : Record) (f : ℕ) where
 
     pub failure_answered : (told : Result Answer ContainerFault) → IfErr told (λ e. e ≢ fault.NoMemory) → IfOk told (λ a. commit_failed r f ≡ Ok (counts_none now a)) → IfErr told (Refuses (commit_failed r f)) → OnErr told (now ≡ r) → IsAnswered now f
     failure_answered (Ok a) known taken refused kept = (doubted_at (nth r.frames f) (counts_none now a) refl taken).0
-    failure_answered (Err e) known taken refused kept = subst (λ (q : Record). IsAnswered q f) (sym kept) (doubted_refused (nth r.frames f) e (is_refused (commit_failed r f) e known refused))
+    failure_answered (Err e) known taken refused kept = subst (λ (q : Record). IsAnswered q f) (sym kept) (doubted_refused (nth r.frames f) e (refused_with (commit_failed r f) e known refused))
 
     pub drop_leaves : (counted : List Done) (told : Result Answer ContainerFault) → IfOk told (λ a. resolve r f false ≡ Ok (record { rec = now; answer = a; counted = counted })) → OnErr told (now ≡ r) → OnlyDone r now
     drop_leaves counted (Ok a) taken kept = let x = dropped_at (nth r.frames f) (record { rec = now; answer = a; counted = counted }) refl taken in only_done r now f x.1 x.0
@@ -209,7 +199,7 @@ module _ (r : Record) (f : ℕ) where
         → IsAnswered r f → IsDone now f
     drop_ends counted (Ok a) known taken refused kept answered = (dropped_at (nth r.frames f) (record { rec = now; answer = a; counted = counted }) refl taken).0
     drop_ends counted (Err e) known taken refused kept answered =
-        subst (λ (q : Record). IsDone q f) (sym kept) (dropped_refused (nth r.frames f) e answered (is_refused (resolve r f false) e known refused))
+        subst (λ (q : Record). IsDone q f) (sym kept) (dropped_refused (nth r.frames f) e answered (refused_with (resolve r f false) e known refused))
 
     pub drop_done_by : {X E : Type 0} (result : Result X E) (counted : List Done) (told x : Result Answer ContainerFault) → x ≡ told → OnOk result (IfErr x (λ e. e ≢ fault.NoMemory))
         → IfOk told (λ a. resolve r f false ≡ Ok (record { rec = now; answer = a; counted = counted })) → IfErr told (Refuses (resolve r f false)) → OnErr told (now ≡ r)
@@ -225,3 +215,23 @@ lost_done (Err e) mid now f answered done = tt
 pub lost_leaves : {X E : Type 0} (result : Result X E) (r mid now : Record) (f : ℕ) → OnlyDoneBut f r mid → IsAnswered mid f → OnlyDone mid now → OnOk result (IsAnswered mid f → IsDone now f) → OnOk result (OnlyDone r now)
 lost_leaves (Ok x) r mid now f but answered next done = λ g. ⊎_elim (λ same. ⊎_elim (λ was. inl (same ∙ was)) (λ is. inr (subst (λ (n : ℕ). IsDone now n) (sym is) (done answered))) (but g)) (λ is. inr is) (next g)
 lost_leaves (Err e) r mid now f but answered next done = tt
+
+-- ---- actions
+
+carried_still : (r mid now : Record) (a : Action) → OnlyDone mid now → IsCarriedOut r mid a → IsCarriedOut r now a
+carried_still r mid now (action.Send m) next done = tt
+carried_still r mid now (action.Start inc) next done = tt
+carried_still r mid now (action.End inc) next done = tt
+carried_still r mid now (action.Commit f) next done = λ certain. done_then mid now f next (done certain)
+
+carried_new : (r mid now : Record) (a : Action) → OnlyDone r mid → OnlyDone mid now → IsCarriedOut mid now a → IsCarriedOut r now a
+carried_new r mid now (action.Send m) first next done = tt
+carried_new r mid now (action.Start inc) first next done = tt
+carried_new r mid now (action.End inc) first next done = tt
+carried_new r mid now (action.Commit f) first next done = λ certain. ⊎_elim (λ still. done still) (λ is. done_then mid now f next is) (certain_then r mid f first certain)
+
+-- one action more
+pub carried_more : (r mid now : Record) (actions : List Action) (i : ℕ) (a : Action) → i < length actions → OnlyDone r mid → OnlyDone mid now → AreCarriedOut r mid (take i actions) → IsCarriedOut mid now (get_or actions i a)
+    → AreCarriedOut r now (take (i + 1) actions)
+carried_more r mid now actions i a within first next done here =
+    All-more (IsCarriedOut r now) actions i a within (λ k d lt. carried_still r mid now (slice_index_or (take i actions) k d) next (done k d lt)) (carried_new r mid now (get_or actions i a) first next here)
