@@ -1,14 +1,12 @@
 -- Which commits are done, once the container was told what became of them.
-use Rattle.std.proofs.Common.{◌≡◌, ◌≢◌, ◌==◌, ◌<◌, ◌+◌, length, take, get_or, inl, inr, ◌⊎◌, ⊎_elim, ℕ, Bool, true, false, List, [], Option, Some, None, if◌then◌else◌, Result, Ok, Err, IfOk, IfErr, OnOk, OnErr, refl, sym, ap, ◌∙◌, subst}
+use Rattle.std.proofs.Common.{◌≡◌, ◌≢◌, ◌==◌, ◌<◌, ◌+◌, length, take, get_or, inl, inr, ◌⊎◌, ⊎_elim, ℕ, Bool, true, false, List, Option, Some, None, if◌then◌else◌, Result, Ok, Err, IfOk, IfErr, OnOk, OnErr, refl, sym, ap, ◌∙◌, subst}
 use Rattle.std.proofs.lemmas.Bool.{eqb-true, eqb-false}
 use Rattle.std.proofs.lemmas.List.Elements.{All-more}
 use Rattle.std.specs.Prelude.{slice_index_or}
 use Rattle.wire_msgs.specs.Found.{nth, set_nth}
-use Rattle.file_model.specs.Refusals.{writable}
-use Rattle.file_model.specs.declared.fault.WriteFault.{WriteFault}
 use Rattle.container_queues.proofs.SteadyLookups.{nth-set_other, nth-set_same}
 use Rattle.container_model.specs.Record.{Record, Refuses, Took, counts_none, is_doubtful}
-use Rattle.container_model.specs.Saves.{commit_at, commit_done, commit_failed, commit_doubted, commit_fitting, commit_made, committed_frame, document_tree, doubted_frame, dropped_frame, failed_at, fitting, fitting_in, frame_document, has_image, held_parts, image, image_at, is_committing, is_document, parts_in, resolve, resolved_as, resolved_at, save_dropped}
+use Rattle.container_model.specs.Saves.{commit_at, commit_done, commit_failed, commit_doubted, commit_fitting, commit_made, committed_frame, doubted_frame, dropped_frame, failed_at, image, is_committing, resolve, resolved_as, resolved_at, save_dropped}
 use Rattle.container_model.specs.declared.answer.Action.{Action}
 use Rattle.container_model.specs.declared.answer.Action.TheVariants as action
 use Rattle.container_model.specs.declared.answer.Answer.{Answer}
@@ -55,9 +53,6 @@ done_then mid now f next done = ⊎_elim (λ same. ap (is_in is_unsaved) same �
 -- what isn't in doubt is not in doubt later
 pub certain_then : (r mid : Record) (f : ℕ) → OnlyDone r mid → IsCertain r f → IsCertain mid f ⊎ IsDone mid f
 certain_then r mid f first certain = ⊎_elim (λ same. inl (ap (is_in is_doubtful) same ∙ certain)) (λ done. inr done) (first f)
-
-pub none_done : (r : Record) (f : ℕ) → nth r.frames f ≡ None → IsDone r f
-none_done r f none = ap (is_in is_unsaved) none
 
 module _ (r : Record) (f : ℕ) where
   -- ---- a commit that is done
@@ -136,34 +131,6 @@ module _ (r : Record) (f : ℕ) where
   dropped_refused None e answered is = refl
   dropped_refused (Some frame) e answered is = dropped_phase frame.phase frame e answered is
 
-  -- ---- an image that isn't made
-
-  fits_in : (d : FrameDocument) (e : ContainerFault) (told : Result (Unit {0}) WriteFault) → fitting_in d told ≡ Err e → e ≡ fault.Full
-  fits_in d e (Ok x) is = absurd (cc)
-  fits_in d e (Err x) is = cc
-
-  fits_if : (b : Bool) (d : FrameDocument) (e : ContainerFault) (told : Result (Unit {0}) WriteFault) → (if b then fitting_in d told else Err fault.Full) ≡ Err e → e ≡ fault.Full
-  fits_if true d e told is = fits_in d e told is
-  fits_if false d e told is = cc
-
-  unfit : (d : FrameDocument) (e : ContainerFault) → fitting d ≡ Err e → e ≡ fault.Full
-  unfit d e is = fits_if (is_document (held_parts d.parts)) d e (writable (document_tree d)) is
-
-  imaged_phase : (p : Phase) (d : FrameDocument) (e : ContainerFault) → e ≢ fault.Full → (if has_image p then fitting d else Err fault.WrongState) ≡ Err e → is_unsaved p ≡ false
-  imaged_phase Idle d e room is = refl
-  imaged_phase Saving d e room is = refl
-  imaged_phase HandingOff d e room is = refl
-  imaged_phase Committing d e room is = absurd (room (unfit d e is))
-  imaged_phase InDoubt d e room is = absurd (room (unfit d e is))
-
-  imaged_refused : (found : Option Frame) (e : ContainerFault) → e ≢ fault.Full → image_at r f found ≡ Err e → is_in is_unsaved found ≡ false
-  imaged_refused None e room is = refl
-  imaged_refused (Some frame) e room is = imaged_phase frame.phase (frame_document frame (parts_in f r.objects)) e room is
-
-  -- a frame of which no image is made, though one would fit
-  pub imageless_done : (e : ContainerFault) → e ≢ fault.NoMemory → e ≢ fault.Full → Refuses (image r f) e → IsDone r f
-  imageless_done e other room refuses = imaged_refused (nth r.frames f) e room (refused_with (image r f) e other refuses)
-
   -- ---- what calls leave
 
   module _ (now : Record) where
@@ -231,7 +198,8 @@ carried_new r mid now (action.End inc) first next done = tt
 carried_new r mid now (action.Commit f) first next done = λ certain. ⊎_elim (λ still. done still) (λ is. done_then mid now f next is) (certain_then r mid f first certain)
 
 -- one action more
-pub carried_more : (r mid now : Record) (actions : List Action) (i : ℕ) (a : Action) → i < length actions → OnlyDone r mid → OnlyDone mid now → AreCarriedOut r mid (take i actions) → IsCarriedOut mid now (get_or actions i a)
+pub carried_more : (r mid now : Record) (actions : List Action) (i : ℕ) (a : Action) → i < length actions → a ≡ get_or actions i a → OnlyDone r mid → OnlyDone mid now → AreCarriedOut r mid (take i actions) → IsCarriedOut mid now a
     → AreCarriedOut r now (take (i + 1) actions)
-carried_more r mid now actions i a within first next done here =
-    All-more (IsCarriedOut r now) actions i a within (λ k d lt. carried_still r mid now (slice_index_or (take i actions) k d) next (done k d lt)) (carried_new r mid now (get_or actions i a) first next here)
+carried_more r mid now actions i a within is first next done here =
+    All-more (IsCarriedOut r now) actions i a within (λ k d lt. carried_still r mid now (slice_index_or (take i actions) k d) next (done k d lt))
+    (subst (λ (x : Action). IsCarriedOut r now x) is (carried_new r mid now a first next here))
