@@ -1,6 +1,6 @@
 //! The stream `\1CompObj` (MS-OLEDS 2.3.8).
 
-ghost use Rattle.std.specs.Prelude.{◌≡◌, ◌≢◌, ◌<◌, ◌^◌, ◌+◌, Err, IfOk, length};
+ghost use Rattle.std.specs.Prelude.{◌≡◌, ◌≢◌, ◌<◌, ◌^◌, ◌+◌, Err, IfErr, IfOk, IsOk, length};
 ghost use Rattle.ole_parts.specs.CompObjs.{PAST_USER_TYPE, comp_obj_bytes, user_type_behind, user_type_read};
 ghost use Rattle.ole_parts.specs.Fields.{map_ok};
 ghost use Rattle.ole_parts.specs.declared.fault.OleFault.TheVariants.{NoMemory};
@@ -19,7 +19,8 @@ const HEADER: [u8; 12] = [
 /// The user type behind the header, where a clipboard format stands behind it.
 #[tactic(auto, unfolding(crate::specs::CompObjs::user_type_behind))]
 fn user_type_behind(bytes: &[u8]) -> Result<&[u8], OleFault>
-    ensures { map_ok (λ user. user.now) result ≡ user_type_behind bytes.now }
+    ensures read { map_ok (λ user. user.now) result ≡ user_type_behind bytes.now }
+    ensures memory { IfErr result (λ fault. fault ≢ NoMemory) }
 {
     match string(bytes) {
         Ok((user, rest)) => match format(rest) {
@@ -34,7 +35,8 @@ fn user_type_behind(bytes: &[u8]) -> Result<&[u8], OleFault>
 ///
 /// Refused as by `CompObj::read`.
 pub fn user_type(bytes: &[u8]) -> Result<&[u8], OleFault>
-    ensures { map_ok (λ user. user.now) result ≡ user_type_read bytes.now }
+    ensures read { map_ok (λ user. user.now) result ≡ user_type_read bytes.now }
+    ensures memory { IfErr result (λ fault. fault ≢ NoMemory) }
 {
     match bytes.split_first_chunk::<28>() {
         Some((_, rest)) => user_type_behind(rest),
@@ -56,7 +58,8 @@ impl CompObj {
     /// the mark or the number of the clipboard format are missing; `BadString` where the user type or the name of the
     /// clipboard format passes the end or its last byte isn't zero. Then `NoMemory`.
     pub fn read(alloc: Global, bytes: &[u8]) -> Result<CompObj, OleFault>
-        ensures { result ≢ Err NoMemory → map_ok (λ c. c.user_type) result ≡ user_type_read bytes.now }
+        ensures read { result ≢ Err NoMemory → map_ok (λ c. c.user_type) result ≡ user_type_read bytes.now }
+        ensures wanting { result ≡ Err NoMemory → IsOk (user_type_read bytes.now) }
     {
         match user_type(bytes) {
             Ok(user) => Ok(CompObj {

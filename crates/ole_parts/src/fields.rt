@@ -1,8 +1,9 @@
 //! Fields of streams, read from the front of the bytes that are left, with what stands behind them.
 
-ghost use Rattle.std.specs.Prelude.{◌≡◌, ◌<◌, ◌^◌, ◌+◌, ◌++◌, OnOk, length};
+ghost use Rattle.std.specs.Prelude.{◌≡◌, ◌≢◌, ◌<◌, ◌^◌, ◌+◌, ◌++◌, IfErr, OnOk, length};
 ghost use Rattle.std.specs.Int.{to_le_bytes, w32};
 ghost use Rattle.ole_parts.specs.Fields.{behind_format, characters, format, map_ok, number, string, string_bytes};
+ghost use Rattle.ole_parts.specs.declared.fault.OleFault.TheVariants.{NoMemory};
 
 use crate::fault::OleFault;
 use std::alloc::AllocError;
@@ -14,7 +15,8 @@ const MACINTOSH_FORMAT: u32 = 0xffff_fffe;
 
 /// A number in four bytes, least byte first.
 pub(crate) fn number(bytes: &[u8]) -> Result<(u32, &[u8]), OleFault>
-    ensures { map_ok (λ f. (f.0, f.1.now)) result ≡ number bytes.now }
+    ensures read { map_ok (λ f. (f.0, f.1.now)) result ≡ number bytes.now }
+    ensures memory { IfErr result (λ fault. fault ≢ NoMemory) }
 {
     match bytes.split_first_chunk::<4>() {
         Some((first, rest)) => Ok((u32::from_le_bytes(*first), rest)),
@@ -24,7 +26,8 @@ pub(crate) fn number(bytes: &[u8]) -> Result<(u32, &[u8]), OleFault>
 
 /// The characters of a string that has so many bytes, of which the last one closes it.
 fn characters(size: u32, bytes: &[u8]) -> Result<(&[u8], &[u8]), OleFault>
-    ensures { map_ok (λ f. (f.0.now, f.1.now)) result ≡ characters size bytes.now }
+    ensures read { map_ok (λ f. (f.0.now, f.1.now)) result ≡ characters size bytes.now }
+    ensures memory { IfErr result (λ fault. fault ≢ NoMemory) }
 {
     let size = size as usize;
     if size == 0 {
@@ -41,7 +44,8 @@ fn characters(size: u32, bytes: &[u8]) -> Result<(&[u8], &[u8]), OleFault>
 
 /// A string behind its size (MS-OLEDS 2.1.4).
 pub(crate) fn string(bytes: &[u8]) -> Result<(&[u8], &[u8]), OleFault>
-    ensures { map_ok (λ f. (f.0.now, f.1.now)) result ≡ string bytes.now }
+    ensures read { map_ok (λ f. (f.0.now, f.1.now)) result ≡ string bytes.now }
+    ensures memory { IfErr result (λ fault. fault ≢ NoMemory) }
 {
     match number(bytes) {
         Ok((size, rest)) => characters(size, rest),
@@ -51,7 +55,8 @@ pub(crate) fn string(bytes: &[u8]) -> Result<(&[u8], &[u8]), OleFault>
 
 /// What stands behind a clipboard format of this mark.
 fn behind_format(mark: u32, bytes: &[u8]) -> Result<&[u8], OleFault>
-    ensures { map_ok (λ f. f.now) result ≡ behind_format mark bytes.now }
+    ensures read { map_ok (λ f. f.now) result ≡ behind_format mark bytes.now }
+    ensures memory { IfErr result (λ fault. fault ≢ NoMemory) }
 {
     if mark == 0 {
         return Ok(bytes);
@@ -70,7 +75,8 @@ fn behind_format(mark: u32, bytes: &[u8]) -> Result<&[u8], OleFault>
 
 /// What stands behind a clipboard format (MS-OLEDS 2.3.1).
 pub(crate) fn format(bytes: &[u8]) -> Result<&[u8], OleFault>
-    ensures { map_ok (λ f. f.now) result ≡ format bytes.now }
+    ensures read { map_ok (λ f. f.now) result ≡ format bytes.now }
+    ensures memory { IfErr result (λ fault. fault ≢ NoMemory) }
 {
     match number(bytes) {
         Ok((mark, rest)) => behind_format(mark, rest),
