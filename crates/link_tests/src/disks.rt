@@ -11,7 +11,6 @@ use script_links::fault::ScriptFault;
 use script_run::script::run_script;
 use std::alloc::Global;
 use std::process::Abort;
-use store_model::disk::Disk;
 use store_model::fault::StoreFault;
 
 /// Two notes, each in a server of its own, one of which is ended before the save.
@@ -114,13 +113,11 @@ pub(crate) fn document(rt: &impl Abort, alloc: Global, disk: MemoryDisk) -> Vec<
     }
 }
 
-/// The document from before a save, and the one that is saved: in the sectors of the one from before, or, where that isn't read, in
-/// its own.
+/// The document from before a save, and the one that is saved.
 #[derive(Drop)]
 pub(crate) struct Documents {
     old: Vec<u8>,
     new: Vec<u8>,
-    plain: Vec<u8>,
 }
 
 impl Documents {
@@ -131,7 +128,7 @@ impl Documents {
 
     /// Whether a document is the one that is saved.
     pub(crate) fn is_new(&self, found: &[u8]) -> bool {
-        found == self.new.as_slice() || found == self.plain.as_slice()
+        found == self.new.as_slice()
     }
 }
 
@@ -200,17 +197,12 @@ fn count(rt: &impl Abort, alloc: Global, once: bool, documents: &Documents) -> [
 pub(crate) fn made_documents(rt: &impl Abort, alloc: Global) -> Documents {
     let begun = run_script_on(rt, alloc, START, 0, Faults::Never);
     let (_, disk) = run(rt, alloc, Faults::Never);
-    let (_, unread) = run(rt, alloc, Faults::Once(0));
     let made = Documents {
         old: document(rt, alloc, begun.disk),
         new: document(rt, alloc, disk),
-        plain: document(rt, alloc, unread),
     };
-    let (old, new, plain) = (made.old.len(), made.new.len(), made.plain.len());
-    assert!(rt;
-        old == 3_584 && new == 4_608 && plain == 4_608,
-        "{old} {new} {plain}"
-    );
+    let (old, new) = (made.old.len(), made.new.len());
+    assert!(rt; old == 3_584 && new == 4_608, "{old} {new}");
     made
 }
 
