@@ -1,10 +1,11 @@
 //! What a command line over files asks for.
 
 use crate::command_lines::{CHECK, EXTRACT, FOLDER, FORCE, MAP, PACK};
-use crate::running::{Listing, check, clean, get, list, map};
+use crate::running::{check, clean, get, list, map};
 use clap::ArgMatches;
 use edit_program::command_lines::{EDIT, MV, NAME, PUT, RM, ZERO};
 use edit_program::editing::{edit, put, remove, rename};
+use file_commands::asking::Listing;
 use file_making::making::make_with_tree;
 use folder_program::extracting::extract;
 use folder_program::packing::pack;
@@ -108,18 +109,10 @@ fn making<'m, 'a>(made: &'m ArgMatches<'a>) -> Option<Task<'m, 'a>> {
 }
 
 fn listing<'m, 'a>(listed: &'m ArgMatches<'a>) -> Option<Task<'m, 'a>> {
-    Some(Task::List(listed.get_str(FILE)?, form_of(listed)))
-}
-
-/// How a file is to be listed.
-fn form_of(listed: &ArgMatches<'_>) -> Listing {
-    if listed.get_flag(JSON) {
-        Listing::Json
-    } else if listed.get_flag(LONG) {
-        Listing::Long
-    } else {
-        Listing::Lines
-    }
+    Some(Task::List(
+        listed.get_str(FILE)?,
+        Listing::of(listed.get_flag(JSON), listed.get_flag(LONG)),
+    ))
 }
 
 fn getting<'m, 'a>(got: &'m ArgMatches<'a>) -> Option<Task<'m, 'a>> {

@@ -45,12 +45,13 @@ fn is_named(number: u32, want: &[u8]) -> bool {
     fault_name(number, &mut out, &mut needed) == DONE && out.get(..needed) == Some(want)
 }
 
-const LINES: &[u8] = b"root 00000000-0000-0000-0000-000000000000\nstream A 3\n";
+pub(crate) const LINES: &[u8] = b"root 00000000-0000-0000-0000-000000000000\nstream A 3\n";
 
-const JSON: &[u8] =
+pub(crate) const JSON: &[u8] =
     b"[{\"type\":\"root\",\"path\":\"\",\"class\":\"00000000-0000-0000-0000-000000000000\",\"state\":0},{\"type\":\"stream\",\"path\":\"A\",\"size\":3,\"first\":0}]\n";
 
-const LONG: &[u8] = b"kind         size  path\nroot               /\nstream          3  A\n";
+pub(crate) const LONG: &[u8] =
+    b"kind         size  path\nroot               /\nstream          3  A\n";
 
 #[test]
 fn calls_answer(rt: HostRuntime) {

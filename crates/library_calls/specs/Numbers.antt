@@ -12,10 +12,10 @@ use Rattle.stream_io.specs.declared.fault.ReadFault.{ReadFault}
 use Rattle.stream_io.specs.declared.fault.ReadFault.TheVariants as read
 use Rattle.texts.specs.declared.input.InputFault.{InputFault}
 use Rattle.texts.specs.declared.input.InputFault.TheVariants as input
-use Rattle.file_commands.specs.declared.fault.CleanFault.{CleanFault}
-use Rattle.file_commands.specs.declared.fault.CleanFault.TheVariants as clean
-use Rattle.file_commands.specs.declared.fault.GetFault.{GetFault}
-use Rattle.file_commands.specs.declared.fault.GetFault.TheVariants as get
+use Rattle.file_cleaning.specs.declared.fault.CleanFault.{CleanFault}
+use Rattle.file_cleaning.specs.declared.fault.CleanFault.TheVariants as clean
+use Rattle.file_listings.specs.declared.fault.GetFault.{GetFault}
+use Rattle.file_listings.specs.declared.fault.GetFault.TheVariants as get
 use Rattle.tree_descriptions.specs.declared.fault.LineFault.{LineFault}
 use Rattle.tree_descriptions.specs.declared.fault.LineFault.TheVariants as line
 use Rattle.file_commands.specs.declared.fault.ListFault.{ListFault}

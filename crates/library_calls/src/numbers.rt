@@ -5,7 +5,9 @@ ghost use Rattle.std.specs.Prelude.{◌≡◌, ◌<◌};
 
 use cfb_header::fault::ChainFault;
 use cfb_names::fault::DirFault;
-use file_commands::fault::{CleanFault, GetFault, ListFault};
+use file_cleaning::fault::CleanFault;
+use file_commands::fault::ListFault;
+use file_listings::fault::GetFault;
 use file_making::fault::{LineFault, MakeFault};
 use file_model::fault::WriteFault;
 use storage_tree::fault::TreeFault;

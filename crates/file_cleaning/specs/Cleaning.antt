@@ -8,8 +8,8 @@ use Rattle.file_writer.specs.Laid.{IsLaidOut}
 use Rattle.texts.specs.Input.{MayRefuseInput}
 use Rattle.texts.specs.declared.input.InputFault.TheVariants.{TooBig}
 use Rattle.stream_io.specs.Reads.{MayRefuseRead}
-use Rattle.file_commands.specs.declared.fault.CleanFault.{CleanFault}
-use Rattle.file_commands.specs.declared.fault.CleanFault.TheVariants.{Cut, Input, Read, Write, Unwritable}
+use Rattle.file_cleaning.specs.declared.fault.CleanFault.{CleanFault}
+use Rattle.file_cleaning.specs.declared.fault.CleanFault.TheVariants.{Cut, Input, Read, Write, Unwritable}
 
 -- a file of the tree that the given one denotes was written, of so many bytes
 pub record Cleans (file : List ℕ) (old new : Option (List ℕ)) (count : ℕ) : Type 0 where

@@ -1,6 +1,6 @@
 use Rattle.std.proofs.Common.{rules}
 use Rattle.file_commands.proofs.ReadRefused.{read_refused}
-use Rattle.file_commands.proofs.cleaning.clean_file.Goals as goal
+use Rattle.file_cleaning.proofs.cleaning.clean_file.Goals as goal
 
 pub returns-in-Err-read_file-clause-refused : goal.returns-in-Err-read_file-clause-refused
 returns-in-Err-read_file-clause-refused g c =

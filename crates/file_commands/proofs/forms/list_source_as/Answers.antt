@@ -6,13 +6,13 @@ use Rattle.file_outline.specs.declared.outline.Outline.{Outline}
 use Rattle.file_outline.specs.View.{outline_view}
 use Rattle.stream_io.proofs.ReadingAlike.{alike_read}
 use Rattle.stream_io.proofs.ReadingTold.{read_refused}
-use Rattle.file_listings.specs.Lists.{ListsAs}
-use Rattle.stream_seeking.proofs.Alike.{placed_in}
-use Rattle.file_listings.proofs.Listed.{lists}
+use Rattle.file_commands.specs.Lists.{ListsAs}
+use Rattle.file_commands.proofs.Placed.{placed_in}
+use Rattle.file_commands.proofs.Formed.{lists}
 use Rattle.file_commands.specs.Run.{IsOfWriting, MayRefuseList}
 use Rattle.file_commands.specs.declared.fault.ListFault.TheVariants as list
 use Rattle.file_commands.proofs.Listed.{err_map, no_fault, not_written, ok_map, outlined_alike, some_map}
-use Rattle.file_listings.proofs.listing.list_source_as.Goals as goal
+use Rattle.file_commands.proofs.forms.list_source_as.Goals as goal
 
 pub returns-in-Err-read_placed-clause-refused : goal.returns-in-Err-read_placed-clause-refused
 returns-in-Err-read_placed-clause-refused g c =

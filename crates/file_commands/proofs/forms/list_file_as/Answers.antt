@@ -2,11 +2,10 @@ use Rattle.std.proofs.Common.{List, Option, ℕ, IfSome}
 use Rattle.std.specs.Io.KnownBytes.{Appends}
 use Rattle.file_outline.specs.declared.outline.Outline.{Outline}
 use Rattle.file_commands.proofs.Listed.{ok_map}
-use Rattle.file_listings.specs.Lists.{ListsAs}
-use Rattle.file_listings.proofs.Listed.{lists}
-use Rattle.file_listings.proofs.Mapped.{of_input}
-use Rattle.file_commands.proofs.ReadRefused.{read_refused}
-use Rattle.file_listings.proofs.listing.list_file_as.Goals as goal
+use Rattle.file_commands.specs.Lists.{ListsAs}
+use Rattle.file_commands.proofs.Formed.{lists}
+use Rattle.file_commands.proofs.ReadRefused.{of_input, read_refused}
+use Rattle.file_commands.proofs.forms.list_file_as.Goals as goal
 
 pub returns-in-Err-read_outline-clause-refused : goal.returns-in-Err-read_outline-clause-refused
 returns-in-Err-read_outline-clause-refused g c =

@@ -6,8 +6,8 @@ use Rattle.file_model.specs.Denotes.{Denotes}
 use Rattle.file_outline.specs.Streams.{stream_at}
 use Rattle.texts.specs.Input.{MayRefuseInput}
 use Rattle.stream_io.specs.Reads.{MayRefuseRead}
-use Rattle.file_commands.specs.declared.fault.GetFault.{GetFault}
-use Rattle.file_commands.specs.declared.fault.GetFault.TheVariants.{Input, Read, Tree as Missing, Unwritable}
+use Rattle.file_listings.specs.declared.fault.GetFault.{GetFault}
+use Rattle.file_listings.specs.declared.fault.GetFault.TheVariants.{Input, Read, Tree as Missing, Unwritable}
 
 -- the bytes of the stream at a path of the tree that the file denotes were written
 pub record Gets (file : List ℕ) (path : List (List ℕ)) (old new : Option (List ℕ)) : Type 0 where

@@ -1,11 +1,11 @@
 //! Listing files in a form.
 
 ghost use Rattle.file_commands.specs.Run.{IsOfWriting, MayRefuseList};
-ghost use Rattle.file_listings.specs.Lists.{ListsAs};
+ghost use Rattle.file_commands.specs.Lists.{ListsAs};
 ghost use Rattle.std.specs.Io.KnownBytes.{Appends};
 ghost use Rattle.std.specs.Prelude.{◌≡◌, ◌≢◌, IfErr, IfSome, OnOk};
 
-use file_commands::fault::ListFault;
+use crate::fault::ListFault;
 use file_outline::outline::Outline;
 use file_places::reading::read_catalog;
 use file_places::source::Source;
