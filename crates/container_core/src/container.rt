@@ -1,5 +1,6 @@
 //! The container.
 
+use crate::frame_images::Images;
 use crate::{commits, images, opens, reaps};
 use container_checks::lookups::{frame_numbers, object_numbers};
 use container_laws::apart_laws::messages_stay_apart;
@@ -15,6 +16,7 @@ use container_numbers::sound_laws::{
 use container_screen::screen::screen;
 use container_state::state::State;
 use container_steps::steady_laws::steady_after;
+use file_image::image::Image;
 use std::alloc::{AllocError, Global};
 use std::marker::Model;
 use stored_values::bytes::Bytes;
@@ -29,9 +31,13 @@ pub struct Limits {
 
 /// A container: its frames and objects, and the servers that it started. Its record is steady, within its numbers and has at
 /// most 8 frames, whatever it was told. All of it is in its one session, and before it has one no server is started.
+///
+/// Beside its record it keeps of each frame the image of the file that was counted last, and the one of its commit that isn't
+/// counted yet, where it was given these. What a frame is saved in next depends on them, and no step of the record does.
 #[derive(Drop)]
 pub struct ContainerCore {
     state: State,
+    images: Images,
 }
 
 impl Model for ContainerCore {
@@ -69,7 +75,7 @@ impl ContainerCore {
     ghost use Rattle.document_model.specs.DocOf.{DocOf};
     ghost use Rattle.file_model.specs.Denotes.{Denotes};
     ghost use Rattle.file_model.specs.Limits.{MOST_BYTES};
-    ghost use Rattle.file_writer.specs.Laid.{IsLaidOut};
+    ghost use Rattle.file_zeros.specs.Zeroed.{IsZeroed};
     ghost use Rattle.wire_msgs.specs.Found.{find, nth};
 
     /// A container without frames, objects and servers.
@@ -82,6 +88,7 @@ impl ContainerCore {
         in_session_from_the_start();
         ContainerCore {
             state: State::new(alloc, limits.numbers),
+            images: Images::new(),
         }
     }
 
@@ -280,7 +287,9 @@ impl ContainerCore {
         sound_after();
         few_frames_after();
         sessions_stay();
-        commits::commit_done(alloc, &mut self.state, f)
+        let answer = commits::commit_done(alloc, &mut self.state, f);
+        self.images.settle(f, true, &answer);
+        answer
     }
 
     /// The commit of a frame failed: it isn't known whether its file is the new one. Nothing is counted and nobody told, until
@@ -329,7 +338,9 @@ impl ContainerCore {
         sound_after();
         few_frames_after();
         sessions_stay();
-        commits::resolve(alloc, &mut self.state, f, is_kept)
+        let answer = commits::resolve(alloc, &mut self.state, f, is_kept);
+        self.images.settle(f, is_kept, &answer);
+        answer
     }
 
     /// Whether a file may be opened under this name, as a frame so many columns wide and so many lines high: what is looked at
@@ -370,7 +381,7 @@ impl ContainerCore {
         sound_after();
         few_frames_after();
         sessions_stay();
-        opens::open_file(alloc, &mut self.state, name, w, h, file)
+        opens::open_file(alloc, &mut self.state, &mut self.images, name, w, h, file)
     }
 
     /// The calls that are pending, by their objects, each as it was first sent: at most one for each object, and so at most 512,
@@ -397,37 +408,49 @@ impl ContainerCore {
         images::document(alloc, &self.state, f)
     }
 
-    /// The document of a frame, as `document`, and the file that is to be committed: it denotes a tree that holds the document, so
-    /// it gives it again where it is opened. It is laid out of that tree alone, so that nothing else stands in it, and is no longer
-    /// than a store takes.
+    /// The document of a frame, as `document`, and the image of its file that is to be committed: it denotes a tree that holds the
+    /// document, so it gives it again where it is opened. All that the tree doesn't take is zero, so that nothing else stands in
+    /// it, and it is no longer than a store takes.
+    ///
+    /// It has the sectors of the frame's committed image where that is known, and else is laid out anew, as also where it would be
+    /// more than twice as long as so. That is tested, and in no clause.
     ///
     /// Refused: as `document`.
     pub fn commit_image(
         &self,
         alloc: Global,
         f: u32,
-    ) -> Result<(FrameDocument, Vec<u8>), ContainerFault>
+    ) -> Result<(FrameDocument, Image), ContainerFault>
         ensures document { IfOk result (λ w. image self.now f ≡ Ok w.0) }
-        ensures denotes { IfOk result (λ w. ∥ Denotes w.1.items (document_tree w.0) ∥₁) }
-        ensures laid_out { IfOk result (λ w. IsLaidOut (document_tree w.0) w.1.items) }
-        ensures few { IfOk result (λ w. length w.1.items ≤ MOST_BYTES) }
+        ensures denotes { IfOk result (λ w. ∥ Denotes w.1 (document_tree w.0) ∥₁) }
+        ensures zeroed { IfOk result (λ w. IsZeroed w.1) }
+        ensures few { IfOk result (λ w. length w.1 ≤ MOST_BYTES) }
         ensures holds { IfOk result (λ w. DocOf (document_tree w.0) (saves.document w.0)) }
         ensures refused { IfErr result (Refuses (image self.now f)) }
     {
-        images::commit_image(alloc, &self.state, f)
+        images::commit_image(alloc, &self.state, self.images.committed(f), f)
     }
 
-    /// The file that is to be committed for a frame, which denotes its document (MS-CFB 2), and so gives it again where it is
-    /// opened. It is no longer than a store takes.
+    /// The image of the file that is to be committed for a frame. It denotes the frame's document (MS-CFB 2), and so gives it
+    /// again where it is opened. All else in it is zero, and it is no longer than a store takes.
     ///
     /// Refused: as `document`.
-    pub fn image(&self, alloc: Global, f: u32) -> Result<Vec<u8>, ContainerFault>
-        ensures denotes { IfOk result (λ v. (d : FrameDocument) × (image self.now f ≡ Ok d) × ∥ Denotes v.items (document_tree d) ∥₁ × DocOf (document_tree d) (saves.document d)) }
-        ensures few { IfOk result (λ v. length v.items ≤ MOST_BYTES) }
+    pub fn image(&self, alloc: Global, f: u32) -> Result<Image, ContainerFault>
+        ensures denotes { IfOk result (λ v. (d : FrameDocument) × (image self.now f ≡ Ok d) × ∥ Denotes v (document_tree d) ∥₁ × DocOf (document_tree d) (saves.document d)) }
+        ensures zeroed { IfOk result (λ v. IsZeroed v) }
+        ensures few { IfOk result (λ v. length v ≤ MOST_BYTES) }
         ensures refused { IfErr result (Refuses (image self.now f)) }
     {
-        let (_, file) = self.commit_image(alloc, f)?;
-        Ok(file)
+        let (_, image) = self.commit_image(alloc, f)?;
+        Ok(image)
+    }
+
+    /// Takes the image of the commit of a frame that is asked for or in doubt, as `commit_image` gave it: the frame's committed
+    /// image once that commit is counted, dropped where it is lost. The record stays as it is.
+    pub fn put_image(&mut self, f: u32, image: Image)
+        ensures same { self.new ≡ self.old }
+    {
+        self.images.put(f, image);
     }
 
     /// What a frame shows, as text: the line of its menus, then each line of its cells.

@@ -1,4 +1,4 @@
-//! The documents of frames whose commits are asked for or in doubt, and their files.
+//! The documents of frames whose commits are asked for or in doubt, and their images.
 
 ghost use Rattle.std.specs.Prelude.{◌≡◌, ◌≢◌, ◌≤◌, IfErr, IfOk, Ok, length};
 ghost use Rattle.container_model.specs.Record.{Refuses};
@@ -8,14 +8,15 @@ ghost use Rattle.container_model.specs.declared.fault.ContainerFault.TheVariants
 ghost use Rattle.document_model.specs.DocOf.{DocOf};
 ghost use Rattle.file_model.specs.Denotes.{Denotes};
 ghost use Rattle.file_model.specs.Limits.{MOST_BYTES};
-ghost use Rattle.file_writer.specs.Laid.{IsLaidOut};
+ghost use Rattle.file_zeros.specs.Zeroed.{IsZeroed};
 
 use container_checks::checks::has_image;
-use container_documents::documents::{file_of, fits, parts_in};
+use container_documents::documents::{fits, image_of, parts_in};
 use container_model::answer::FrameDocument;
 use container_model::fault::ContainerFault;
 use container_objects::commits::session_after;
 use container_state::state::State;
+use file_image::image::Image;
 use std::alloc::Global;
 use wire_msgs::items::Items;
 
@@ -60,22 +61,23 @@ pub(crate) fn document(
     }
 }
 
-/// The document of a frame, and the file that is to be committed.
+/// The document of a frame, and the image that is to be committed, in the sectors of the one that was counted last, if any.
 pub(crate) fn commit_image(
     alloc: Global,
     state: &State,
+    committed: Option<&Image>,
     f: u32,
-) -> Result<(FrameDocument, Vec<u8>), ContainerFault>
+) -> Result<(FrameDocument, Image), ContainerFault>
     ensures document { IfOk result (λ w. image state.now f ≡ Ok w.0) }
-    ensures denotes { IfOk result (λ w. ∥ Denotes w.1.items (document_tree w.0) ∥₁) }
-    ensures laid_out { IfOk result (λ w. IsLaidOut (document_tree w.0) w.1.items) }
-    ensures few { IfOk result (λ w. length w.1.items ≤ MOST_BYTES) }
+    ensures denotes { IfOk result (λ w. ∥ Denotes w.1 (document_tree w.0) ∥₁) }
+    ensures zeroed { IfOk result (λ w. IsZeroed w.1) }
+    ensures few { IfOk result (λ w. length w.1 ≤ MOST_BYTES) }
     ensures holds { IfOk result (λ w. DocOf (document_tree w.0) (saves.document w.0)) }
     ensures refused { IfErr result (Refuses (image state.now f)) }
 {
     let saved = document(alloc, state, f)?;
-    match file_of(alloc, &saved) {
-        Ok(file) => Ok((saved, file)),
+    match image_of(alloc, &saved, committed) {
+        Ok(image) => Ok((saved, image)),
         Err(_) => Err(ContainerFault::NoMemory),
     }
 }

@@ -4,6 +4,7 @@
 
 mod commits;
 pub mod container;
+mod frame_images;
 mod images;
 mod opens;
 mod reaps;

@@ -7,7 +7,9 @@ ghost use Rattle.container_model.specs.Record.{MOST_OBJECTS, Refuses, counts_non
 ghost use Rattle.container_model.specs.Room.{IsSound};
 ghost use Rattle.container_model.specs.Saves.{is_document};
 ghost use Rattle.container_steady.specs.Steady.{Steady};
+ghost use Rattle.file_image.specs.Trimmed.{trimmed};
 
+use crate::frame_images::Images;
 use container_checks::checks;
 use container_checks::lookups::object_numbers;
 use container_documents::reading::document_in;
@@ -16,6 +18,7 @@ use container_model::fault::ContainerFault;
 use container_model::record::Object;
 use container_objects::opens::{opened_frame, opened_objects};
 use container_state::state::State;
+use file_image::image::Image;
 use ole_streams::doc::Doc;
 use std::alloc::{AllocError, Global};
 use stored_values::bytes::Bytes;
@@ -122,10 +125,23 @@ fn open_document(
     }
 }
 
-// A frame of a file under a name, and in a size, that may be.
+// The image of a file that gives a document, which is a compound file.
+//
+// Refused for want of memory alone.
+fn image_read(alloc: Global, file: &[u8]) -> Result<Image, AllocError>
+    ensures { IfOk result (λ image. image ≡ trimmed file.now) }
+{
+    match Image::open(alloc, Vec::from_slice(alloc, file)?) {
+        Ok(image) => Ok(image),
+        Err(_) => Err(AllocError),
+    }
+}
+
+// A frame of a file under a name, and in a size, that may be. Its image is kept.
 fn open_named(
     alloc: Global,
     state: &mut State,
+    images: &mut Images,
     name: Bytes,
     w: u16,
     h: u16,
@@ -146,15 +162,23 @@ fn open_named(
         return Err(ContainerFault::NoMemory);
     };
     match read {
-        Some(document) => open_document(alloc, state, name, w, h, document),
+        Some(document) => {
+            let Ok(image) = image_read(alloc, bytes) else {
+                return Err(ContainerFault::NoMemory);
+            };
+            let answer = open_document(alloc, state, name, w, h, document);
+            images.start(&answer, image);
+            answer
+        }
         None => Err(ContainerFault::BadFile),
     }
 }
 
-/// A frame of a file.
+/// A frame of a file. Its image is kept.
 pub(crate) fn open_file(
     alloc: Global,
     state: &mut State,
+    images: &mut Images,
     name: Bytes,
     w: u16,
     h: u16,
@@ -168,7 +192,7 @@ pub(crate) fn open_file(
     ensures kept { OnErr result (state.new ≡ state.old) }
 {
     match may_open(state, name.as_slice(), w, h) {
-        Ok(()) => open_named(alloc, state, name, w, h, file),
+        Ok(()) => open_named(alloc, state, images, name, w, h, file),
         Err(fault) => Err(fault),
     }
 }

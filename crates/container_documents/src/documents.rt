@@ -1,25 +1,27 @@
 //! The document of a frame: its objects, each with the content that a save counts, and the file that holds them.
 
-ghost use Rattle.std.specs.Prelude.{◌≡◌, ◌≤◌, IfOk, Ok, is_ok, length, true};
+ghost use Rattle.std.specs.Prelude.{◌≡◌, ◌≤◌, IfErr, IfOk, Ok, OnOk, is_ok, length, true};
 ghost use Rattle.container_model.specs.Saves.{are_objects, document, document_tree, fitting, held_part, held_parts, is_document, part_of, parts_in};
 ghost use Rattle.document_model.specs.DocOf.{DocOf, is_object};
 ghost use Rattle.file_model.specs.Denotes.{Denotes};
 ghost use Rattle.file_model.specs.Limits.{MOST_BYTES};
-ghost use Rattle.file_writer.specs.Laid.{IsLaidOut};
+ghost use Rattle.file_model.specs.Refusals.{Refuses, writable};
+ghost use Rattle.file_zeros.specs.Zeroed.{IsZeroed};
+ghost use Rattle.storage_tree.specs.Kept.{kept};
 
 use crate::room::has_room;
 use container_checks::contents::kept;
 use container_model::answer::{FrameDocument, Part};
 use container_model::record::Object;
+use file_image::image::Image;
 use file_model::fault::WriteFault;
-use file_writer::write::write_file;
 use object_parts::limits::is_within;
 use ole_parts::fault::OleFault;
 use ole_streams::doc::{Doc, DocObject, MOST_OBJECTS};
 use ole_streams::document_tree::document_tree;
 use ole_streams::laws::document_is_read_again;
 use std::alloc::{AllocError, Global};
-use store_laws::laws::files_are_taken;
+use storage_tree::tree::Tree;
 
 /// The first length that a user type can't have, so that its size with the closing zero fits four bytes.
 const PAST_USER_TYPE: usize = 0xffff_ffff;
@@ -131,24 +133,58 @@ fn document(alloc: Global, session: u32, parts: &[Part]) -> Result<Doc, AllocErr
     Ok(doc)
 }
 
-/// The file of a document that a file can hold: it denotes the document's tree (MS-CFB 2), which holds the document, and is laid
-/// out of that tree alone, so that nothing else stands in it. It is no longer than a store takes.
+/// The tree of a document that a file can hold (MS-CFB 2): it holds the document.
 ///
 /// Refused for want of memory alone.
-pub fn file_of(alloc: Global, saved: &FrameDocument) -> Result<Vec<u8>, AllocError>
+fn tree_of(alloc: Global, saved: &FrameDocument) -> Result<Tree, AllocError>
     requires { fitting saved.now ≡ Ok saved.now }
-    ensures denotes { IfOk result (λ v. ∥ Denotes v.items (document_tree saved.now) ∥₁) }
-    ensures laid_out { IfOk result (λ v. IsLaidOut (document_tree saved.now) v.items) }
-    ensures few { IfOk result (λ v. length v.items ≤ MOST_BYTES) }
-    ensures holds { IfOk result (λ v. DocOf (document_tree saved.now) (document saved.now)) }
+    ensures tree { IfOk result (λ t. (kept t).now ≡ document_tree saved.now) }
+    ensures holds { OnOk result (DocOf (document_tree saved.now) (document saved.now)) }
+    ensures writable { OnOk result (writable (document_tree saved.now) ≡ Ok tt) }
 {
     let doc = document(alloc, saved.session, saved.parts.as_slice())?;
     document_is_read_again();
-    files_are_taken();
     let _ = doc.as_slice();
     let tree = document_tree(alloc, doc)?;
-    match write_file(alloc, &tree) {
-        Ok(file) => Ok(file),
+    Ok(tree)
+}
+
+/// The image of a tree, in the sectors of an older one, if there is any.
+///
+/// Refused: as `Image::made`.
+fn image_over(alloc: Global, tree: &Tree, older: Option<&Image>) -> Result<Image, WriteFault>
+    ensures denotes { IfOk result (λ image. ∥ Denotes image (kept tree.now).now ∥₁) }
+    ensures zeroed { IfOk result (λ image. IsZeroed image) }
+    ensures few { IfOk result (λ image. length image ≤ MOST_BYTES) }
+    ensures refused { IfErr result (Refuses (writable (kept tree.now).now)) }
+{
+    match older {
+        Some(image) => image.with_tree(alloc, tree),
+        None => Image::made(alloc, tree),
+    }
+}
+
+/// The image of a document that a file can hold: it denotes the document's tree, which holds the document. All that the tree
+/// doesn't take is zero, so that nothing else stands in it. It is no longer than a store takes.
+///
+/// It is laid out anew, or has the sectors of an older image, if there is any, as `Image::with_tree` gives them: which of both it
+/// is, is tested, and in no clause.
+///
+/// Refused for want of memory alone.
+pub fn image_of(
+    alloc: Global,
+    saved: &FrameDocument,
+    older: Option<&Image>,
+) -> Result<Image, AllocError>
+    requires { fitting saved.now ≡ Ok saved.now }
+    ensures denotes { IfOk result (λ image. ∥ Denotes image (document_tree saved.now) ∥₁) }
+    ensures zeroed { IfOk result (λ image. IsZeroed image) }
+    ensures few { IfOk result (λ image. length image ≤ MOST_BYTES) }
+    ensures holds { OnOk result (DocOf (document_tree saved.now) (document saved.now)) }
+{
+    let tree = tree_of(alloc, saved)?;
+    match image_over(alloc, &tree, older) {
+        Ok(image) => Ok(image),
         Err(WriteFault::NoMemory) => Err(AllocError),
         Err(WriteFault::TooBig) => unreachable!(),
     }

@@ -5,6 +5,7 @@ use crate::words::{counts, number, word};
 use container_core::container::ContainerCore;
 use container_model::answer::FrameDocument;
 use container_model::fault::ContainerFault;
+use file_image::image::Image;
 use refusal_marks::marks::{begin, end};
 use std::alloc::Global;
 use std::str::SplitWhitespace;
@@ -79,7 +80,7 @@ pub(crate) fn are_sessions(
 fn commit_image_once(
     alloc: Global,
     core: &ContainerCore,
-) -> Result<(FrameDocument, Vec<u8>), ContainerFault> {
+) -> Result<(FrameDocument, Image), ContainerFault> {
     begin(alloc);
     let image = core.commit_image(alloc, 1);
     end(alloc);
@@ -90,14 +91,14 @@ fn commit_image_once(
 fn commit_image(
     alloc: Global,
     core: &ContainerCore,
-) -> Result<(FrameDocument, Vec<u8>), ContainerFault> {
+) -> Result<(FrameDocument, Image), ContainerFault> {
     match commit_image_once(alloc, core) {
         Err(ContainerFault::NoMemory) => commit_image_once(alloc, core),
         image => image,
     }
 }
 
-fn image_once(alloc: Global, core: &ContainerCore) -> Result<Vec<u8>, ContainerFault> {
+fn image_once(alloc: Global, core: &ContainerCore) -> Result<Image, ContainerFault> {
     begin(alloc);
     let image = core.image(alloc, 1);
     end(alloc);
@@ -105,7 +106,7 @@ fn image_once(alloc: Global, core: &ContainerCore) -> Result<Vec<u8>, ContainerF
 }
 
 /// The same of its file.
-fn image(alloc: Global, core: &ContainerCore) -> Result<Vec<u8>, ContainerFault> {
+fn image(alloc: Global, core: &ContainerCore) -> Result<Image, ContainerFault> {
     match image_once(alloc, core) {
         Err(ContainerFault::NoMemory) => image_once(alloc, core),
         image => image,
@@ -114,19 +115,19 @@ fn image(alloc: Global, core: &ContainerCore) -> Result<Vec<u8>, ContainerFault>
 
 fn is_image(alloc: Global, core: &ContainerCore, file: &[u8]) -> bool {
     match image(alloc, core) {
-        Ok(image) => image.as_slice() == file,
+        Ok(image) => image.bytes() == file,
         Err(_) => false,
     }
 }
 
-/// Whether a commit of frame 1 counts so many objects, and the file with them is the frame's image.
+/// Whether a commit of frame 1 counts so many objects, and the image with them is the frame's image.
 pub(crate) fn is_file(
     alloc: Global,
     core: &ContainerCore,
     words: &mut SplitWhitespace<'_>,
 ) -> bool {
     match commit_image(alloc, core) {
-        Ok((document, file)) => counts(words, document.parts.len()) && is_image(alloc, core, &file),
+        Ok((document, image)) => counts(words, document.parts.len()) && is_image(alloc, core, image.bytes()),
         Err(fault) => is_fault(fault, words),
     }
 }

@@ -10,6 +10,8 @@ mod events;
 #[cfg(test)]
 mod files;
 #[cfg(test)]
+mod images;
+#[cfg(test)]
 mod messages;
 #[cfg(test)]
 mod opens;

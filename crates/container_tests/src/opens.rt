@@ -11,6 +11,7 @@ use crate::words::{halves, number, word};
 use container_core::container::{ContainerCore, Limits};
 use container_model::answer::Answer;
 use container_model::fault::ContainerFault;
+use file_image::image::Image;
 use file_writer::write::write_file;
 use object_parts::area::Area;
 use ole_streams::doc::{Doc, DocObject};
@@ -130,8 +131,12 @@ fn other(rt: &impl Abort, alloc: Global, session: u32) -> Vec<u8> {
     written(rt, alloc, &tree)
 }
 
-fn image(rt: &impl Abort, alloc: Global, core: &ContainerCore, f: u32) -> Vec<u8> {
+fn image(rt: &impl Abort, alloc: Global, core: &ContainerCore, f: u32) -> Image {
     core.image(alloc, f).expect(rt, "an image")
+}
+
+fn image_file(rt: &impl Abort, alloc: Global, core: &ContainerCore) -> Vec<u8> {
+    Vec::from_slice(alloc, image(rt, alloc, core, 1).bytes()).expect(rt, "memory")
 }
 
 fn text(rt: &impl Abort, alloc: Global) -> Vec<u8> {
@@ -140,7 +145,7 @@ fn text(rt: &impl Abort, alloc: Global) -> Vec<u8> {
 
 fn file(rt: &impl Abort, alloc: Global, core: &ContainerCore, word: &str) -> Option<Vec<u8>> {
     match word.as_bytes() {
-        [b'i', ..] => Some(image(rt, alloc, core, 1)),
+        [b'i', ..] => Some(image_file(rt, alloc, core)),
         [b't', ..] => Some(text(rt, alloc)),
         [b'm', ..] => Some(many(rt, alloc)),
         [b'o', ..] => Some(other(rt, alloc, 0)),
@@ -228,7 +233,7 @@ fn same(
     want: &mut SplitWhitespace<'_>,
 ) -> bool {
     let other = image(rt, alloc, core, number(word(row)));
-    word(want) == "yes" && image(rt, alloc, core, 1).as_slice() == other.as_slice()
+    word(want) == "yes" && image(rt, alloc, core, 1).bytes() == other.bytes()
 }
 
 fn renew(alloc: Global, core: &mut ContainerCore) -> bool {

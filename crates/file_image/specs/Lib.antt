@@ -1,4 +1,5 @@
 pub mod Changed
 pub mod Freed
+pub mod Need
 pub mod Trimmed
 pub mod Undone

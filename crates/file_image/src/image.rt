@@ -4,6 +4,7 @@ ghost use Rattle.cfb_header.specs.declared.fault.ChainFault.{ChainFault};
 ghost use Rattle.cfb_header.specs.Header.{fat_count, header_read};
 ghost use Rattle.file_image.specs.Changed.{changed_blocks};
 ghost use Rattle.file_image.specs.Freed.{IsFreedAs};
+ghost use Rattle.file_image.specs.Need.{length_anew};
 ghost use Rattle.file_image.specs.Trimmed.{trimmed};
 ghost use Rattle.file_image.specs.Undone.{undone};
 ghost use Rattle.file_model.specs.Denotes.{Denotes};
@@ -21,8 +22,10 @@ use crate::in_place::{Was, lay_over, put_back};
 use crate::update::overlaid;
 use cfb_bytes::numbers::read_u32;
 use file_model::fault::WriteFault;
+use file_model::limit::MOST_BYTES;
 use file_placing::freed::Freed;
 use file_placing::placing::place_over;
+use file_planning::needs::count;
 use file_queries::queries::is_file_of;
 use file_writer::write::{fits, write_file};
 use file_zeros::zeroed::is_zeroed;
@@ -31,6 +34,9 @@ use std::marker::Model;
 use storage_tree::tree::Tree;
 use stream_io::fault::ReadFault;
 use stream_io::read::read_outline;
+
+/// The most bytes that a store takes.
+const MOST: usize = MOST_BYTES as usize;
 
 /// A compound file: its bytes, which denote a tree.
 #[derive(Drop)]
@@ -72,6 +78,18 @@ fn check_room(tree: &Tree) -> Result<(), WriteFault>
 {
     fits(tree.root())?;
     Ok(())
+}
+
+/// How many bytes the file of a tree has where it is laid out anew. It takes no memory.
+///
+/// Refused: as `write_file`, but never `NoMemory`.
+fn length_anew(tree: &Tree) -> Result<usize, WriteFault>
+    ensures length { IfOk result (λ n. n ≡ length_anew (kept tree.now).now) }
+    ensures refused { IfErr result (Refuses (writable (kept tree.now).now)) }
+    ensures allowed { OnOk result (writable (kept tree.now).now ≡ Ok tt) }
+{
+    let counts = count(tree.root())?;
+    Ok(counts.file_len())
 }
 
 /// The file, if what no list of it takes is zero. Nothing is known of it but this.
@@ -332,6 +350,61 @@ impl Image {
                 }
             }
             Err(fault) => Err(fault),
+        }
+    }
+
+    /// The image of a tree, laid out anew: all that the tree doesn't take is zero, and it is no longer than a store takes. It is
+    /// looked at: that `write_file` leaves zeros where nothing lies is in no clause.
+    ///
+    /// Refused: as `write_file`: `TooBig`, then `NoMemory`.
+    pub fn made(alloc: Global, tree: &Tree) -> Result<Image, WriteFault>
+        ensures denotes { IfOk result (λ image. ∥ Denotes image (kept tree.now).now ∥₁) }
+        ensures zeroed { IfOk result (λ image. IsZeroed image) }
+        ensures short { IfOk result (λ image. length image ≤ MOST_BYTES) }
+        ensures refused { IfErr result (Refuses (writable (kept tree.now).now)) }
+        ensures allowed { OnOk result (writable (kept tree.now).now ≡ Ok tt) }
+    {
+        let file = written(alloc, tree)?;
+        let Ok(Some(_)) = freed_so(alloc, &file, Freed::Zeroed) else {
+            return Err(WriteFault::NoMemory);
+        };
+        Ok(Image { file })
+    }
+
+    /// The image of a tree in the sectors of this one. None where it would have more bytes than this.
+    ///
+    /// Refused: as `write_file`.
+    fn placed(&self, alloc: Global, tree: &Tree, most: usize) -> Result<Option<Image>, WriteFault>
+        requires { writable (kept tree.now).now ≡ Ok tt }
+        ensures denotes { IfOk result (λ placed. IfSome placed (λ image. ∥ Denotes image (kept tree.now).now ∥₁)) }
+        ensures zeroed { IfOk result (λ placed. IfSome placed (λ image. IsZeroed image)) }
+        ensures short { IfOk result (λ placed. IfSome placed (λ image. length image ≤ most)) }
+        ensures refused { IfErr result (Refuses (writable (kept tree.now).now)) }
+    {
+        let mut image = self.copy(alloc)?;
+        image.update_zeroed(alloc, tree)?;
+        if image.bytes().len() > most {
+            return Ok(None);
+        }
+        Ok(Some(image))
+    }
+
+    /// The image of a tree that takes the place of this one's: all that the tree doesn't take is zero, and it is no longer than a
+    /// store takes. It has the sectors that `update_zeroed` gives it, unless it would be longer than that so, or more than twice as
+    /// long as it is laid out anew. Then it is laid out anew. Which of both it is, is tested, and in no clause.
+    ///
+    /// Refused: as `write_file`: `TooBig`, then `NoMemory`.
+    pub fn with_tree(&self, alloc: Global, tree: &Tree) -> Result<Image, WriteFault>
+        ensures denotes { IfOk result (λ image. ∥ Denotes image (kept tree.now).now ∥₁) }
+        ensures zeroed { IfOk result (λ image. IsZeroed image) }
+        ensures short { IfOk result (λ image. length image ≤ MOST_BYTES) }
+        ensures refused { IfErr result (Refuses (writable (kept tree.now).now)) }
+        ensures allowed { OnOk result (writable (kept tree.now).now ≡ Ok tt) }
+    {
+        let most = length_anew(tree)?.saturating_mul(2).min(MOST);
+        match self.placed(alloc, tree, most)? {
+            Some(image) => Ok(image),
+            None => Image::made(alloc, tree),
         }
     }
 

@@ -150,3 +150,44 @@ fn a_refused_update_is_made_again(rt: HostRuntime) {
         )
     );
 }
+
+fn made_once(alloc: Global, tree: &Tree) -> Result<Image, WriteFault> {
+    begin(alloc);
+    let image = Image::made(alloc, tree);
+    end(alloc);
+    image
+}
+
+/// The image of a tree, asked for again where memory is refused.
+fn made(rt: &impl Abort, alloc: Global, tree: &Tree) -> Image {
+    match made_once(alloc, tree) {
+        Err(WriteFault::NoMemory) => made_once(alloc, tree).expect(rt, "an image"),
+        image => image.expect(rt, "a tree that fits"),
+    }
+}
+
+fn with_tree_once(alloc: Global, image: &Image, tree: &Tree) -> Result<Image, WriteFault> {
+    begin(alloc);
+    let image = image.with_tree(alloc, tree);
+    end(alloc);
+    image
+}
+
+/// The image of a tree in the place of another one, asked for again where memory is refused.
+fn with_tree(rt: &impl Abort, alloc: Global, image: &Image, tree: &Tree) -> Image {
+    match with_tree_once(alloc, image, tree) {
+        Err(WriteFault::NoMemory) => with_tree_once(alloc, image, tree).expect(rt, "an image"),
+        image => image.expect(rt, "a tree that fits"),
+    }
+}
+
+#[test]
+fn a_refused_image_is_made_again(rt: HostRuntime) {
+    let alloc = rt.alloc();
+    let old = tree_of(&rt, alloc, &[("A", 4096, 7), ("B", 4096, 8)]);
+    let new = tree_of(&rt, alloc, &[("B", 4096, 8)]);
+    let image = made(&rt, alloc, &old);
+    assert!(rt; is_of(&rt, alloc, &image, &old));
+    let other = with_tree(&rt, alloc, &image, &new);
+    assert!(rt; is_of(&rt, alloc, &other, &new) && is_of(&rt, alloc, &image, &old));
+}

@@ -3,6 +3,7 @@
 ghost use Rattle.std.specs.Prelude.{◌++◌, ◌∷◌, [], ◌+◌, ◌<◌, ◌≤◌, ◌≡◌, IfOk, IfErr, IfSome, MatchOption, length, true, OnErr, OnOk, Ok, Some, None, List, ℕ, map, option_copied, vec_len, vec_capacity};
 ghost use Rattle.wire_msgs.specs.Found.{nth, set_nth, find};
 ghost use Rattle.container_model.specs.Record as container;
+ghost use Rattle.container_model.specs.Saves as saves;
 ghost use Rattle.container_model.specs.Saves.{commit_done, counted_of, document, done_entry, image, document_tree, name_after};
 ghost use Rattle.container_model.specs.declared.record.Phase.TheVariants as phase;
 ghost use Rattle.document_model.specs.DocOf.{DocOf};
@@ -19,6 +20,7 @@ use crate::opens::file_bytes;
 use container_model::answer::{Done, FrameDocument, Part};
 use container_model::fault::ContainerFault;
 use container_model::record::{Frame, Phase};
+use file_image::image::Image;
 use std::alloc::{AllocError, Global};
 use stored_values::bytes::Bytes;
 use world_model::event::Stop;
@@ -132,15 +134,15 @@ impl Host {
         }
     }
 
-    // The document of a frame whose commit is asked for or in doubt, and the file that is committed: of its clauses those that
-    // a world speaks of.
+    // The document of a frame whose commit is asked for or in doubt, and the image of the file that is committed: of its clauses
+    // those that a world speaks of.
     pub(crate) fn image(
         &self,
         alloc: Global,
         f: u32,
-    ) -> Result<(FrameDocument, Vec<u8>), ContainerFault>
+    ) -> Result<(FrameDocument, Image), ContainerFault>
         ensures document { IfOk result (λ w. image self.now.core f ≡ Ok w.0) }
-        ensures denotes { IfOk result (λ w. ∥ Denotes w.1.items (document_tree w.0) ∥₁) }
+        ensures denotes { IfOk result (λ w. ∥ Denotes w.1 (document_tree w.0) ∥₁) }
         ensures holds { IfOk result (λ w. DocOf (document_tree w.0) (document w.0)) }
         ensures refused { IfErr result (container.Refuses (image self.now.core f)) }
     {
@@ -172,11 +174,11 @@ impl Host {
         alloc: Global,
         f: u32,
         saved: FrameDocument,
-        bytes: Vec<u8>,
+        image: Image,
     ) -> Result<Servers, AllocError>
-        requires image { image self.old.core f ≡ Ok saved }
+        requires saved { saves.image self.old.core f ≡ Ok saved }
         requires committing { is_committing_in (nth self.old.core.frames f) ≡ true }
-        ensures taken { IfOk result (λ s. done (bare self.old) f bytes.items ≡ Ok (started (bare self.new) s.starts.items)) }
+        ensures taken { IfOk result (λ s. done (bare self.old) f image ≡ Ok (started (bare self.new) s.starts.items)) }
         ensures ends { IfOk result (λ s. s.ends.items ≡ ends_in (commit_done self.old.core f)) }
         ensures few { IfOk result (λ s. vec_len s.starts ≤ most self.old.core) }
         ensures kept { OnErr result (bare self.new ≡ bare self.old) }
@@ -186,10 +188,11 @@ impl Host {
         };
         let name = name_after(alloc, frame)?;
         let (k, counted) = self.counted(alloc, f, &saved)?;
-        let bytes = Bytes::from_vec(alloc, bytes)?;
+        let bytes = Bytes::from_slice(alloc, image.bytes())?;
         let room = self.make_room(alloc)?;
         self.files.reserve(1)?;
         self.container_done.reserve(counted.len())?;
+        self.core.put_image(f, image);
         match self.core.commit_done(alloc, f) {
             Ok(answer) => {
                 put_file(&mut self.files, name, bytes);
@@ -217,14 +220,14 @@ impl Host {
             return Err(Stop::NotEnabled);
         }
         match self.image(alloc, f) {
-            Ok((saved, bytes)) => {
+            Ok((saved, image)) => {
                 if self.is_full() {
                     return Err(Stop::EventLimit);
                 }
                 if !room {
                     return Err(Stop::NoMemory);
                 }
-                match self.commit(alloc, f, saved, bytes) {
+                match self.commit(alloc, f, saved, image) {
                     Ok(servers) => Ok(servers),
                     Err(_) => Err(Stop::NoMemory),
                 }

@@ -2,7 +2,8 @@
 
 ghost use Rattle.std.specs.Prelude.{◌≡◌, ◌≤◌, IfErr, IfOk, List, Ok, OnErr, OnOk, false, length, true, vec_len, ℕ};
 ghost use Rattle.wire_msgs.specs.Found.{nth};
-ghost use Rattle.container_model.specs.Saves.{commit_failed, image, resolve};
+ghost use Rattle.container_model.specs.Saves as saves;
+ghost use Rattle.container_model.specs.Saves.{commit_failed, resolve};
 ghost use Rattle.world_model.specs.World.{IsImage, Refuses, limited, making, only_taken, resolved};
 ghost use Rattle.world_model.specs.declared.event.Event.TheVariants as event;
 ghost use Rattle.world_host.specs.Files.{is_committing_in, is_doubtful_in};
@@ -15,6 +16,7 @@ use crate::host::{Host, Servers, add_all};
 use container_model::answer::FrameDocument;
 use container_model::fault::ContainerFault;
 use container_model::record::Phase;
+use file_image::image::Image;
 use std::alloc::{AllocError, Global};
 use stored_values::bytes::Bytes;
 use world_model::event::Stop;
@@ -69,11 +71,11 @@ impl Host {
         alloc: Global,
         f: u32,
         saved: FrameDocument,
-        bytes: Vec<u8>,
+        image: Image,
     ) -> Result<Servers, AllocError>
-        requires image { image self.old.core f ≡ Ok saved }
+        requires saved { saves.image self.old.core f ≡ Ok saved }
         requires doubtful { is_doubtful_in (nth self.old.core.frames f) ≡ true }
-        ensures taken { IfOk result (λ s. resolved (bare self.old) f true bytes.items ≡ Ok (started (bare self.new) s.starts.items)) }
+        ensures taken { IfOk result (λ s. resolved (bare self.old) f true image ≡ Ok (started (bare self.new) s.starts.items)) }
         ensures ends { IfOk result (λ s. s.ends.items ≡ ends_in (resolve self.old.core f true)) }
         ensures few { IfOk result (λ s. vec_len s.starts ≤ most self.old.core) }
         ensures kept { OnErr result (bare self.new ≡ bare self.old) }
@@ -83,10 +85,11 @@ impl Host {
         };
         let name = name_after(alloc, frame)?;
         let (k, counted) = self.counted(alloc, f, &saved)?;
-        let bytes = Bytes::from_vec(alloc, bytes)?;
+        let bytes = Bytes::from_slice(alloc, image.bytes())?;
         let room = self.make_room(alloc)?;
         self.files.reserve(1)?;
         self.container_done.reserve(counted.len())?;
+        self.core.put_image(f, image);
         match self.core.resolve(alloc, f, true) {
             Ok(answer) => {
                 put_file(&mut self.files, name, bytes);
@@ -168,14 +171,14 @@ impl Host {
             return Err(Stop::NotEnabled);
         }
         match self.image(alloc, f) {
-            Ok((saved, bytes)) => {
+            Ok((saved, image)) => {
                 if self.is_full() {
                     return Err(Stop::EventLimit);
                 }
                 if !room {
                     return Err(Stop::NoMemory);
                 }
-                match self.keep(alloc, f, saved, bytes) {
+                match self.keep(alloc, f, saved, image) {
                     Ok(servers) => Ok(servers),
                     Err(_) => Err(Stop::NoMemory),
                 }

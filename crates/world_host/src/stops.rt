@@ -186,9 +186,9 @@ impl Host {
             return Ok(None);
         }
         match self.image(alloc, f) {
-            Ok((_, bytes)) => Ok(Some(File {
+            Ok((_, image)) => Ok(Some(File {
                 name: name_after(alloc, frame)?,
-                bytes: Bytes::from_vec(alloc, bytes)?,
+                bytes: Bytes::from_slice(alloc, image.bytes())?,
             })),
             Err(_) => Err(AllocError),
         }
