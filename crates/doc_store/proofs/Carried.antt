@@ -1,5 +1,5 @@
 -- The blocks of an open journal are written, a run at a time.
-use Rattle.std.proofs.Common.{◌≡◌, ◌≤◌, ◌+◌, ◌-◌, ◌*◌, inr, ⊎_elim, ℕ, suc, List, [], ◌∷◌, ◌++◌, length, take, drop, true, refl, sym, ◌∙◌, ap, subst, arith, length-drop, length-take}
+use Rattle.std.proofs.Common.{◌≡◌, ◌<◌, ◌≤◌, ◌+◌, ◌-◌, ◌*◌, inr, ⊎_elim, ℕ, suc, List, [], ◌∷◌, ◌++◌, length, take, drop, true, refl, sym, ◌∙◌, ap, subst, arith, length-drop, length-take}
 use Rattle.std.proofs.lemmas.List.{append-nil}
 use Rattle.store_model.specs.Image.{Image, put}
 use Rattle.store_model.specs.Journal.{block_at, blocks_from, blocks_in, changed_document, count_in, fit, form_in, is_whole, number_at, size_in}
@@ -66,10 +66,26 @@ is_image image whole form = ⊎_elim (λ is. is) (λ other. let no : 1 ≡ 0 = s
 pub base_makes : (image : Image) → is_whole image ≡ true → form_in image.journal ≡ 1 → Makes (changed_document image) (size_in image.journal) (blocks_in image.journal) image.document
 base_makes image whole form = blocks_make image (changed_document image) (is_blocks image whole form) refl
 
+-- the next block begins in the area, or at its end
+pub run_reached : (image : Image) (size all done : ℕ) (area : List ℕ) → is_whole image ≡ true → form_in image.journal ≡ 1 → all ≡ count_in image.journal → size ≡ size_in image.journal
+    → done < all → Agrees (changed_document image) size (blocks_from (all - done) (13 + 516 * done) image.journal) area
+    → 512 * number_at (13 + 516 * done) image.journal ≤ length area
+run_reached image size all done area whole form is_all is_size some agrees =
+    let J : List ℕ = image.journal in
+    let X : List ℕ = changed_document image in
+    let parts = is_blocks image whole form in
+    let at : ℕ = 13 + 516 * done in
+    let split : blocks_in J ≡ blocks_from done 13 J ++ blocks_from (all - done) at J =
+    ap (λ (m : ℕ). blocks_from m 13 J) (let sum : count_in J ≡ done + (all - done) = omega (arith, is_all, some) in sum) ∙ blocks_more done (all - done) 13 J in
+    let somewhere : FitsSomewhere size (blocks_from (all - done) at J) = subst (λ (m : ℕ). FitsSomewhere m (blocks_from (all - done) at J)) (sym is_size)
+    (fit_behind (size_in J) 0 (length image.document) (blocks_from done 13 J) (blocks_from (all - done) at J) (subst (λ bs. fit (size_in J) 0 (length image.document) bs ≡ true) split parts.fits)) in
+    let one : all - done ≡ suc (all - done - 1) = omega (arith, some) in
+    reaches X size (block_at at J) (blocks_from (all - done - 1) (at + 516) J) area (subst (λ (m : ℕ). FitsSomewhere size (blocks_from m at J)) one somewhere) (subst (λ (m : ℕ). Agrees X size (blocks_from m at J) area) one agrees)
+
 pub run_step : (image : Image) (size all done n number : ℕ) (area later : List ℕ) → is_whole image ≡ true → form_in image.journal ≡ 1 → all ≡ count_in image.journal → size ≡ size_in image.journal
     → 1 ≤ n → done + n ≤ all → number ≡ number_at (13 + 516 * done) image.journal → Follow number (blocks_from n (13 + 516 * done) image.journal)
     → Agrees (changed_document image) size (blocks_from (all - done) (13 + 516 * done) image.journal) area
-    → (512 * number ≤ length area → later ≡ put area (512 * number) (joined (blocks_from n (13 + 516 * done) image.journal)))
+    → later ≡ put area (512 * number) (joined (blocks_from n (13 + 516 * done) image.journal))
     → Agrees (changed_document image) size (blocks_from (all - (done + n)) (13 + 516 * (done + n)) image.journal) later
 run_step image size all done n number area later whole form is_all is_size some room is_number follow agrees written =
     let J : List ℕ = image.journal in
@@ -82,17 +98,13 @@ run_step image size all done n number area later whole form is_all is_size some 
     ap (λ (m : ℕ). blocks_from m 13 J) (let sum : count_in J ≡ done + (all - done) = omega (arith, is_all, room) in sum) ∙ blocks_more done (all - done) 13 J in
     let tells : Tell X size (blocks_from (all - done) at J) = subst (λ (m : ℕ). Tell X m (blocks_from (all - done) at J)) (sym is_size)
     (tell_behind X (size_in J) (blocks_from done 13 J) (blocks_from (all - done) at J) (subst (λ bs. Tell X (size_in J) bs) split makes.tells)) in
-    let somewhere : FitsSomewhere size (blocks_from (all - done) at J) = subst (λ (m : ℕ). FitsSomewhere m (blocks_from (all - done) at J)) (sym is_size)
-    (fit_behind (size_in J) 0 (length image.document) (blocks_from done 13 J) (blocks_from (all - done) at J) (subst (λ bs. fit (size_in J) 0 (length image.document) bs ≡ true) split parts.fits)) in
-    let one : all - done ≡ suc (all - done - 1) = omega (arith, some, room) in
     let two : all - done ≡ n + k = omega (arith, room) in
     let apart : blocks_from (all - done) at J ≡ blocks_from n at J ++ blocks_from k (at + 516 * n) J = ap (λ (m : ℕ). blocks_from m at J) two ∙ blocks_more n k at J in
-    let reached : 512 * number ≤ length area = subst (λ (m : ℕ). 512 * m ≤ length area) (sym is_number)
-    (reaches X size (block_at at J) (blocks_from (all - done - 1) (at + 516) J) area (subst (λ (m : ℕ). FitsSomewhere size (blocks_from m at J)) one somewhere) (subst (λ (m : ℕ). Agrees X size (blocks_from m at J) area) one agrees)) in
+    let reached : 512 * number ≤ length area = subst (λ (m : ℕ). 512 * m ≤ length area) (sym is_number) (run_reached image size all done area whole form is_all is_size (omega (arith, some, room)) agrees) in
     let bound : at + 516 * n ≤ length J = let head = parts.room in omega (arith, head, is_all, room) in
     let ends : at + 516 * n ≡ 13 + 516 * (done + n) = omega arith in
     let step = run_agrees X size number (blocks_from n at J) (blocks_from k (at + 516 * n) J) area follow (blocks_whole n at J bound) (subst (λ bs. Tell X size bs) apart tells) (subst (λ bs. Agrees X size bs area) apart agrees) reached in
-    subst (λ (l : List ℕ). Agrees X size (blocks_from k (13 + 516 * (done + n)) J) l) (sym (written reached))
+    subst (λ (l : List ℕ). Agrees X size (blocks_from k (13 + 516 * (done + n)) J) l) (sym written)
     (subst (λ (m : ℕ). Agrees X size (blocks_from k m J) (put area (512 * number) (joined (blocks_from n at J)))) ends step)
 
 pub runs_end : (image : Image) (size all done : ℕ) (area : List ℕ) → is_whole image ≡ true → form_in image.journal ≡ 1 → size ≡ size_in image.journal → all ≤ done

@@ -51,11 +51,12 @@ pub(crate) fn sync_area<D: Disk>(disk: &mut D, area: Area) -> Result<(), DiskFai
     disk.sync(area)
 }
 
-/// Writes into the document area what an open journal tells.
+/// Writes into the document area what an open journal tells, from its end at most.
 pub(crate) fn write_told<D: Disk>(disk: &mut D, at: u64, bytes: &[u8]) -> Result<(), DiskFailure>
     requires ready { D.follows_model → CanInstall D.reads D.may_leave disk.old }
     requires told { D.follows_model → IsTold (D.reads disk.old).journal at (length bytes.now) }
-    ensures written { D.follows_model → at ≤ length (D.reads disk.old).document
+    requires within { D.follows_model → at ≤ length (D.reads disk.old).document }
+    ensures written { D.follows_model
         → OnOk result (D.reads disk.new ≡ changed Document (put (D.reads disk.old).document at bytes.now) (D.reads disk.old)) }
     ensures stays { D.follows_model → StaysIn D.may_leave D.moment D.left_since disk.old disk.new (IsInstalling (D.reads disk.old)) }
     ensures count { Counts (D.failed disk.old) (D.failed disk.new) result }
@@ -63,11 +64,12 @@ pub(crate) fn write_told<D: Disk>(disk: &mut D, at: u64, bytes: &[u8]) -> Result
     disk.write(Area::Document, at, bytes)
 }
 
-/// Writes into the journal behind its closed gate.
+/// Writes into the journal behind its closed gate, from its end at most.
 pub(crate) fn write_behind<D: Disk>(disk: &mut D, at: u64, bytes: &[u8]) -> Result<(), DiskFailure>
     requires closed { D.follows_model → CanStage D.reads D.may_leave disk.old }
     requires behind { 1 ≤ at }
-    ensures written { D.follows_model → at ≤ length (D.reads disk.old).journal
+    requires within { D.follows_model → at ≤ length (D.reads disk.old).journal }
+    ensures written { D.follows_model
         → OnOk result (D.reads disk.new ≡ changed Journal (put (D.reads disk.old).journal at bytes.now) (D.reads disk.old)) }
     ensures stays { D.follows_model → StaysIn D.may_leave D.moment D.left_since disk.old disk.new (IsStaging (D.reads disk.old)) }
     ensures count { Counts (D.failed disk.old) (D.failed disk.new) result }

@@ -76,8 +76,9 @@ fn copy_piece<D: Disk>(disk: &mut D, done: u64, piece: &mut [u8]) -> Result<(), 
     requires ready { D.follows_model → CanInstall D.reads D.may_leave disk.old }
     requires form { D.follows_model → form_in (D.reads disk.old).journal ≡ WHOLE }
     requires there { D.follows_model → 9 + done + length piece.old ≤ length (D.reads disk.old).journal }
+    requires within { D.follows_model → done ≤ length (D.reads disk.old).document }
     requires small { done < 2 ^ 32 }
-    ensures written { D.follows_model → done ≤ length (D.reads disk.old).document
+    ensures written { D.follows_model
         → OnOk result (D.reads disk.new ≡ changed Document (put (D.reads disk.old).document done (take (length piece.old) (drop (HEADER + done) (D.reads disk.old).journal))) (D.reads disk.old)) }
     ensures stays { D.follows_model → StaysIn D.may_leave D.moment D.left_since disk.old disk.new (IsInstalling (D.reads disk.old)) }
     ensures count { Counts (D.failed disk.old) (D.failed disk.new) result }
@@ -128,13 +129,13 @@ fn write_run<D: Disk>(
     requires some { 516 ≤ length entries.old }
     requires fits { length entries.old ≤ length run.old + 4 * (length entries.old / 516) }
     requires room { D.follows_model → 516 * index + length entries.old ≤ 516 * count_in (D.reads disk.old).journal }
+    requires within { D.follows_model → 512 * (block_at (FIRST_BLOCK + 516 * index) (D.reads disk.old).journal).number ≤ length (D.reads disk.old).document }
     ensures taken { IfOk result (λ n. 1 ≤ n) }
     ensures within { IfOk result (λ n. 516 * n ≤ length entries.old) }
     ensures follow { D.follows_model → IfOk result (λ n. let at = FIRST_BLOCK + 516 * index in
         Follow (block_at at (D.reads disk.old).journal).number (blocks_from n at (D.reads disk.old).journal)) }
     ensures written { D.follows_model → IfOk result (λ n. let at = FIRST_BLOCK + 516 * index in let first = 512 * (block_at at (D.reads disk.old).journal).number in
-        first ≤ length (D.reads disk.old).document
-        → D.reads disk.new ≡ changed Document (put (D.reads disk.old).document first (joined (blocks_from n at (D.reads disk.old).journal))) (D.reads disk.old)) }
+        D.reads disk.new ≡ changed Document (put (D.reads disk.old).document first (joined (blocks_from n at (D.reads disk.old).journal))) (D.reads disk.old)) }
     ensures stays { D.follows_model → StaysIn D.may_leave D.moment D.left_since disk.old disk.new (IsInstalling (D.reads disk.old)) }
     ensures count { Counts (D.failed disk.old) (D.failed disk.new) result }
     ensures entries { length entries.new ≡ length entries.old }

@@ -43,6 +43,13 @@ impl<F: DiskFiles> FileDisk<F> {
         }
     }
 
+    /// How many calls have failed. At its last value the count rises no more.
+    pub fn failures(&self) -> u64
+        ensures { result ≡ failures_of self.now }
+    {
+        self.failed
+    }
+
     /// The files.
     pub fn into_files(self) -> F
         ensures { result ≡ files_of self }
@@ -99,8 +106,8 @@ impl<F: DiskFiles> Disk for FileDisk<F> {
 
     ghost only_now = { λ d c left. F.only_now (files_of d) c left };
 
-    fn failures(&self) -> u64 {
-        self.failed
+    fn counts(&self) {
+        let _failed = self.failed;
     }
 
     fn length(&mut self, area: Area) -> Result<u64, DiskFailure> {

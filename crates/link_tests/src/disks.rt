@@ -11,7 +11,6 @@ use script_links::fault::ScriptFault;
 use script_run::script::run_script;
 use std::alloc::Global;
 use std::process::Abort;
-use store_model::disk::Disk;
 use store_model::fault::StoreFault;
 
 /// Two notes, each in a server of its own, one of which is ended before the save.

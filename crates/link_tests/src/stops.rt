@@ -6,7 +6,6 @@ use disk_images::images::{PENDING, crashed};
 use doc_store::memory_disk::{Faults, MemoryDisk};
 use std::alloc::Global;
 use std::process::Abort;
-use store_model::disk::Disk;
 
 /// The most calls of a disk that are tried.
 const MOST_CALLS: u64 = 300;

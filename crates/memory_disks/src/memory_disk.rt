@@ -101,6 +101,13 @@ impl MemoryDisk {
         self.faults = faults;
     }
 
+    /// How many calls have failed. At its last value the count rises no more.
+    pub fn failures(&self) -> u64
+        ensures { result ≡ failed_of self.now }
+    {
+        self.failed
+    }
+
     /// How many calls have failed for want of memory. At its last value the count rises no more.
     pub fn refused(&self) -> u64
         ensures { result ≡ refused_of self.now }
@@ -154,8 +161,8 @@ impl Disk for MemoryDisk {
 
     ghost only_now = { λ d c left. none_but_now (first_of d) (calls_of d) c left };
 
-    fn failures(&self) -> u64 {
-        self.failed
+    fn counts(&self) {
+        let _failed = self.failed;
     }
 
     fn length(&mut self, area: Area) -> Result<u64, DiskFailure>

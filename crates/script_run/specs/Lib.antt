@@ -1,6 +1,5 @@
 pub mod Again
 pub mod Came
 pub mod Carried
-pub mod Faulted
-pub mod Printed
+pub mod Holding
 pub mod Starts

@@ -7,7 +7,6 @@ use doc_store::memory_disk::{Faults, MemoryDisk};
 use script_run::script::run_script;
 use std::alloc::{AllocError, Global};
 use std::process::Abort;
-use store_model::disk::Disk;
 
 /// A file with one note.
 const FIRST: &str = "new d.ole 40 12\ninsert 1 note 0 0 20 5\nsession\n";

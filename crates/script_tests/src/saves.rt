@@ -7,7 +7,6 @@ use script_links::fault::ScriptFault;
 use script_run::script::run_script;
 use std::alloc::{AllocError, Global};
 use std::process::Abort;
-use store_model::disk::Disk;
 use store_model::fault::StoreFault;
 
 /// A frame with a note is saved to a new file, with its first session. No server is needed for that.

@@ -66,3 +66,10 @@ pub record Counts {T : Type 0} (before now : ℕ) (result : Result T DiskFailure
   pub later : before ≤ now
   pub on_failure : IsErr result → Rose before now
   pub else_same : IsOk result → now ≡ before
+
+-- A call that fails is counted where the disk was to answer it, and no call that answers is. Of one that it wasn't to
+-- answer, as past an area's end, nothing is said: the count may rise or not.
+pub record CountsOwed {T : Type 0} (owed : Type 0) (before now : ℕ) (result : Result T DiskFailure) : Type 0 where
+  pub later : before ≤ now
+  pub on_failure : owed → IsErr result → Rose before now
+  pub else_same : IsOk result → now ≡ before

@@ -1,8 +1,8 @@
 //! A disk as the store sees it: what reads give, and what a crash may leave.
 
-ghost use Rattle.store_model.specs.Crash.{Counts, CutShort, Elapses, Follows, InArea, IsWithin, Torn};
+ghost use Rattle.store_model.specs.Crash.{Counts, CountsOwed, CutShort, Elapses, Follows, InArea, IsWithin, Torn};
 ghost use Rattle.store_model.specs.Image.{Image, bytes_of, changed, put};
-ghost use Rattle.std.specs.Prelude.{◌≡◌, ◌≤◌, IfOk, OnOk, drop, length, take, ℕ};
+ghost use Rattle.std.specs.Prelude.{◌≡◌, ◌<◌, ◌≤◌, ◌+◌, ◌^◌, IfOk, OnOk, drop, length, take, ℕ};
 
 use crate::area::Area;
 use thiserror::Error;
@@ -13,7 +13,8 @@ use thiserror::Error;
 pub struct DiskFailure;
 
 /// A disk with two areas of bytes. What is said of bytes and crashes holds of a disk that follows the model; that
-/// failures are counted holds of each.
+/// failures are counted holds of each. A disk that follows the model owes no answer past the end of an area, so such a
+/// call needn't be counted where it fails. The count isn't told: who uses a disk can't act on it.
 pub trait Disk {
     /// That disks of this type do what the clauses say of bytes and crashes. Of real files no contract can say it.
     ghost follows_model: { Type 0 };
@@ -33,9 +34,10 @@ pub trait Disk {
     /// How many calls have failed.
     ghost failed: { Self → ℕ };
 
-    /// How many calls have failed. At its last value the count rises no more: it is then read as risen.
-    fn failures(&self) -> u64
-        ensures { result ≡ failed self.now };
+    /// That the count of failed calls isn't past its last value, where it rises no more: it is then read as risen. It does
+    /// nothing.
+    fn counts(&self)
+        ensures { failed self.now < 2 ^ 64 };
 
     /// The number of bytes of an area.
     fn length(&mut self, area: Area) -> Result<u64, DiskFailure>
@@ -45,22 +47,23 @@ pub trait Disk {
         ensures time { follows_model → Elapses (moment self.old) (moment self.new) (left_since self.old) (left_since self.new) (may_leave self.new) }
         ensures count { Counts (failed self.old) (failed self.new) result };
 
-    /// Fills the buffer with an area's bytes from an offset on. Where the area ends before, the call fails.
+    /// Fills the buffer with an area's bytes from an offset on. Where the area ends before, the call fails, and the disk owes
+    /// no answer.
     fn read(&mut self, area: Area, at: u64, into: &mut [u8]) -> Result<(), DiskFailure>
         ensures bytes { follows_model → OnOk result (into.new ≡ take (length into.old) (drop at (bytes_of area (reads self.old)))) }
         ensures same { follows_model → OnOk result (reads self.new ≡ reads self.old) }
         ensures crash { follows_model → IsWithin (may_leave self.old) (may_leave self.new) }
         ensures time { follows_model → Elapses (moment self.old) (moment self.new) (left_since self.old) (left_since self.new) (may_leave self.new) }
-        ensures count { Counts (failed self.old) (failed self.new) result };
+        ensures count { CountsOwed (follows_model → at + length into.old ≤ length (bytes_of area (reads self.old))) (failed self.old) (failed self.new) result };
 
     /// Writes over what is there from an offset on, and past the end. Until a sync, a crash may leave any bytes in
-    /// the range, and past the end.
+    /// the range, and past the end. Where the area ends before the offset, the disk owes no answer.
     fn write(&mut self, area: Area, at: u64, bytes: &[u8]) -> Result<(), DiskFailure>
         ensures written { follows_model → at ≤ length (bytes_of area (reads self.old))
             → OnOk result (reads self.new ≡ changed area (put (bytes_of area (reads self.old)) at bytes.now) (reads self.old)) }
         ensures crash { follows_model → Follows (InArea area (Torn at (length bytes.now))) (may_leave self.old) (may_leave self.new) }
         ensures time { follows_model → Elapses (moment self.old) (moment self.new) (left_since self.old) (left_since self.new) (may_leave self.new) }
-        ensures count { Counts (failed self.old) (failed self.new) result };
+        ensures count { CountsOwed (follows_model → at ≤ length (bytes_of area (reads self.old))) (failed self.old) (failed self.new) result };
 
     /// Cuts an area that is longer to this length. Until a sync, a crash may leave any length between.
     fn cut(&mut self, area: Area, size: u64) -> Result<(), DiskFailure>

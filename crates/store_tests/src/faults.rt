@@ -2,7 +2,6 @@
 
 use crate::runs::{commit_failing, crashed, disk, document, open_only};
 use disk_images::images::Pending;
-use doc_store::disk::Disk;
 use doc_store::fault::StoreFault;
 use doc_store::limit::MAX_DOCUMENT;
 use doc_store::memory_disk::{Faults, MemoryDisk};

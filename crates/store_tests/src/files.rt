@@ -2,7 +2,6 @@
 
 use crate::folder::Folder;
 use crate::wide::bytes_of;
-use doc_store::disk::Disk;
 use doc_store::fault::StoreFault;
 use doc_store::store::Store;
 use file_disk::file_disk::FileDisk;

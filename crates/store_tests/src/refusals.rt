@@ -2,7 +2,6 @@
 //! for the list of its calls: there a want of memory is a call that failed.
 
 use crate::runs::disk;
-use doc_store::disk::Disk;
 use doc_store::fault::StoreFault;
 use doc_store::memory_disk::MemoryDisk;
 use doc_store::outcome::Outcome;

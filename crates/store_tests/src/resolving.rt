@@ -1,7 +1,6 @@
 //! Commits that fail once, and what became of them.
 
 use crate::runs::disk;
-use doc_store::disk::Disk;
 use doc_store::fault::StoreFault;
 use doc_store::memory_disk::{Faults, MemoryDisk};
 use doc_store::outcome::Outcome;

@@ -3,7 +3,7 @@ use Rattle.store_model.specs.Image.{Image, put}
 use Rattle.store_model.specs.Journal.{blocks_from, changed_document, count_in, number_at, size_in}
 use Rattle.store_model.specs.Patches.{Agrees, Follow, joined}
 use Rattle.doc_store.specs.Steps.{IsInstalling}
-use Rattle.doc_store.proofs.Carried.{base_makes, run_step, runs_end}
+use Rattle.doc_store.proofs.Carried.{base_makes, run_reached, run_step, runs_end}
 use Rattle.doc_store.proofs.Moments.{begun, then_leaves}
 use Rattle.doc_store.proofs.Under.{installs_again, installs_on}
 use Rattle.doc_store.proofs.carry.write_blocks.Goals as goal
@@ -40,6 +40,16 @@ write_run-requires-clause-room g c model =
     let least = c.min-most.ensures in
     let more = c.loop-done-test.true in
     omega (arith, same, is, from, least, more, length-take (516 * c.min-most.result) c.loop-done.entries)
+
+pub write_run-requires-clause-within : goal.write_run-requires-clause-within
+write_run-requires-clause-within g c model =
+    let base : Image = g.D.Disk.reads c.args.disk.now in
+    let area : List ℕ = (g.D.Disk.reads c.loop-done.disk).document in
+    let at : ℕ = 13 + 516 * c.loop-done.done in
+    let journal = ((c.loop-done.invariant.stays model).now (g.D.Disk.reads c.loop-done.disk) (g.met.D.Disk.reads_are_left c.loop-done.disk)).0 in
+    let holds = c.requires.holds model in
+    subst (λ (j : List ℕ). 512 * number_at at j ≤ length area) (sym journal)
+    (run_reached base c.args.size c.from-all.result c.loop-done.done area (c.requires.ready model).whole holds.0 (c.from-all.ensures ∙ holds.1) holds.2 c.loop-done-test.true (c.loop-done.invariant.agrees model))
 
 pub returns-in_err-taken-clause-stays : goal.returns-in_err-taken-clause-stays
 returns-in_err-taken-clause-stays g c model =
@@ -79,7 +89,7 @@ loop-done-preserved g c =
           let follow : Follow (number_at at base.journal) (blocks_from taken at base.journal) = subst (λ (j : List ℕ). Follow (number_at at j) (blocks_from taken at j)) journal (clauses.follow model) in
           run_step base c.args.size c.from-all.result done taken (number_at at base.journal) (reads c.loop-done.disk).document (reads c.write_run.new.disk).document
           (c.requires.ready model).whole holds.0 (c.from-all.ensures ∙ holds.1) holds.2 some within refl follow (c.loop-done.invariant.agrees model)
-          (λ reached. ap (λ (i : Image). i.document) (clauses.written model (subst (λ (j : List ℕ). 512 * number_at at j ≤ length (reads c.loop-done.disk).document) (sym journal) reached))
+          (ap (λ (i : Image). i.document) (clauses.written model)
           ∙ ap (λ (j : List ℕ). put (reads c.loop-done.disk).document (512 * number_at at j) (joined (blocks_from taken at j))) journal);
       count = search rules;
     }

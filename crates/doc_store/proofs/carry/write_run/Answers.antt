@@ -29,6 +29,17 @@ write_told-requires-clause-told g c model =
     (subst (λ (n : ℕ). IsTold J (512 * n) (length (take (512 * c.gather-taken.result) c.gather-taken.new.run))) (sym number)
     (subst (λ (n : ℕ). IsTold J (512 * number_at at J) n) (sym long) told))
 
+pub write_told-requires-clause-within : goal.write_told-requires-clause-within
+write_told-requires-clause-within g c model =
+    let J : List ℕ = (g.D.Disk.reads c.args.disk.now).journal in
+    let at : ℕ = 13 + 516 * c.args.index in
+    let m : ℕ = length c.args.entries.now in
+    let entries : c.read_into.new.into ≡ take m (drop at J) = c.in_ok-read_into.ensures.bytes model in
+    let some : 4 ≤ m = let enough = c.requires.some in omega (arith, enough) in
+    let number : c.number_in-number.result ≡ number_at at J = c.number_in-number.ensures.number ∙ ap (λ (l : List ℕ). number_at 0 l) entries ∙ read_first J m at some in
+    subst (λ (i : Image). 512 * c.number_in-number.result ≤ length i.document) (sym (c.in_ok-read_into.ensures.same model))
+    (subst (λ (n : ℕ). 512 * n ≤ length (g.D.Disk.reads c.args.disk.now).document) (sym number) (c.requires.within model))
+
 pub returns-clause-follow : goal.returns-clause-follow
 returns-clause-follow g c model =
     let J : List ℕ = (g.D.Disk.reads c.args.disk.now).journal in
@@ -43,7 +54,7 @@ returns-clause-follow g c model =
     (subst (λ (l : List ℕ). Follow (number_at 0 l) (blocks_from c.gather-taken.result 0 l)) entries c.gather-taken.ensures.follow)
 
 pub returns-clause-written : goal.returns-clause-written
-returns-clause-written g c model reached =
+returns-clause-written g c model =
     let reads = g.D.Disk.reads in
     let J : List ℕ = (reads c.args.disk.now).journal in
     let area : List ℕ = (reads c.args.disk.now).document in
@@ -60,7 +71,6 @@ returns-clause-written g c model reached =
     let bytes : run ≡ joined (blocks_from c.gather-taken.result at J) =
     c.gather-taken.ensures.joined ∙ ap (λ (l : List ℕ). joined (blocks_from c.gather-taken.result 0 l)) entries ∙ read_joined J c.gather-taken.result m at within in
     c.in_ok-write_told.ensures.written model
-    (subst (λ (i : Image). 512 * c.number_in-number.result ≤ length i.document) (sym same) (subst (λ (n : ℕ). 512 * n ≤ length area) (sym number) reached))
     ∙ ap (λ (i : Image). changed Document (put i.document (512 * c.number_in-number.result) run) i) same
     ∙ ap (λ (n : ℕ). changed Document (put area (512 * n) run) (reads c.args.disk.now)) number
     ∙ ap (λ (l : List ℕ). changed Document (put area (512 * number_at at J) l) (reads c.args.disk.now)) bytes

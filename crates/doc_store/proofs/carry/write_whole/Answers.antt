@@ -44,7 +44,7 @@ loop-done-preserved g c =
     let parts = (is_image (reads c.args.disk.now) (c.requires.ready model).whole holds.0).room in
     omega (arith, parts, is, all, least, more) in
     let written : (model : g.D.Disk.follows_model) → (reads c.copy_piece.new.disk).document ≡ put (reads c.loop-done.disk).document done (take many (drop (9 + done) (reads c.args.disk.now).journal)) = λ model.
-    ap (λ (i : Image). i.document) (c.in_ok-copy_piece.ensures.written model (c.loop-done.invariant.reached model))
+    ap (λ (i : Image). i.document) (c.in_ok-copy_piece.ensures.written model)
     ∙ ap (λ (n : ℕ). put (reads c.loop-done.disk).document done (take n (drop (9 + done) (reads c.loop-done.disk).journal))) long
     ∙ ap (λ (j : List ℕ). put (reads c.loop-done.disk).document done (take many (drop (9 + done) j))) (at model) in
     record {

@@ -26,8 +26,22 @@ returns-clause-written g c model =
     let journal : List ℕ = (reads c.args.disk.now).journal in
     let there = c.requires.there model in
     let all = begun journal c.args.size there in
-    let sized : (reads c.write_behind.new.disk).journal ≡ put journal 1 (to_le_bytes w64 c.args.size) = ap (λ (i : Image). i.journal) (c.in_ok-write_behind.ensures.written model there) ∙ ap (λ (s : List ℕ). put journal 1 s) c.to_le_bytes.ensures in
+    let sized : (reads c.write_behind.new.disk).journal ≡ put journal 1 (to_le_bytes w64 c.args.size) = ap (λ (i : Image). i.journal) (c.in_ok-write_behind.ensures.written model) ∙ ap (λ (s : List ℕ). put journal 1 s) c.to_le_bytes.ensures in
     let formed : (reads c.write_behind-2.new.disk).journal ≡ put (put journal 1 (to_le_bytes w64 c.args.size)) 8 (1 ∷ []) =
-    ap (λ (i : Image). i.journal) (c.in_ok-write_behind-2.ensures.written model (subst (λ (l : List ℕ). 8 ≤ length l) (sym sized) all.0)) ∙ ap (λ (l : List ℕ). put l 8 (1 ∷ [])) sized in
+    ap (λ (i : Image). i.journal) (c.in_ok-write_behind-2.ensures.written model) ∙ ap (λ (l : List ℕ). put l 8 (1 ∷ [])) sized in
     on_ok_weaker c.write_behind-3.result (λ written. ap (λ (i : Image). take 13 i.journal) written ∙ ap (λ (l : List ℕ). take 13 (put l 9 (0 ∷ 0 ∷ 0 ∷ 0 ∷ []))) formed ∙ all.2)
-    (c.write_behind-3.ensures.written model (subst (λ (l : List ℕ). 9 ≤ length l) (sym formed) all.1))
+    (c.write_behind-3.ensures.written model)
+
+pub write_behind-requires-2-clause-within : goal.write_behind-requires-2-clause-within
+write_behind-requires-2-clause-within g c model =
+    let journal : List ℕ = (g.D.Disk.reads c.args.disk.now).journal in
+    let sized : (g.D.Disk.reads c.write_behind.new.disk).journal ≡ put journal 1 (to_le_bytes w64 c.args.size) = ap (λ (i : Image). i.journal) (c.in_ok-write_behind.ensures.written model) ∙ ap (λ (s : List ℕ). put journal 1 s) c.to_le_bytes.ensures in
+    subst (λ (l : List ℕ). 8 ≤ length l) (sym sized) (begun journal c.args.size (c.requires.there model)).0
+
+pub write_behind-requires-3-clause-within : goal.write_behind-requires-3-clause-within
+write_behind-requires-3-clause-within g c model =
+    let journal : List ℕ = (g.D.Disk.reads c.args.disk.now).journal in
+    let sized : (g.D.Disk.reads c.write_behind.new.disk).journal ≡ put journal 1 (to_le_bytes w64 c.args.size) = ap (λ (i : Image). i.journal) (c.in_ok-write_behind.ensures.written model) ∙ ap (λ (s : List ℕ). put journal 1 s) c.to_le_bytes.ensures in
+    let formed : (g.D.Disk.reads c.write_behind-2.new.disk).journal ≡ put (put journal 1 (to_le_bytes w64 c.args.size)) 8 (1 ∷ []) =
+    ap (λ (i : Image). i.journal) (c.in_ok-write_behind-2.ensures.written model) ∙ ap (λ (l : List ℕ). put l 8 (1 ∷ [])) sized in
+    subst (λ (l : List ℕ). 9 ≤ length l) (sym formed) (begun journal c.args.size (c.requires.there model)).1

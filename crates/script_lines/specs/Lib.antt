@@ -1,0 +1,2 @@
+pub mod Faulted
+pub mod Printed
