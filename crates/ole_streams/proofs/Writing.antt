@@ -1,5 +1,5 @@
 -- Steps of writing a document.
-use Rattle.std.proofs.Common.{◌≡◌, ◌≤◌, ◌<◌, ◌+◌, ◌-◌, ◌++◌, ◌∷◌, ◌∙◌, ℕ, suc, List, [], true, Result, Ok, Err, length, take, drop, refl, sym, ap, arith, append_assoc}
+use Rattle.std.proofs.Common.{◌≡◌, ◌≤◌, ◌<◌, ◌+◌, ◌-◌, ◌*◌, ◌++◌, ◌∷◌, ◌∙◌, ℕ, zero, suc, List, [], true, false, cond, nat_lt, Result, Ok, Err, IsOk, length, take, drop, refl, sym, ap, subst, arith, append_assoc, append-nil, length-drop}
 use Rattle.storage_tree.specs.Tree.{Children}
 use Rattle.storage_tree.specs.Change.{bytes, inner}
 use Rattle.stored_streams.specs.declared.streams.NamedStream.{NamedStream}
@@ -12,6 +12,7 @@ use Rattle.document_model.specs.Layouts.{area_at, areas_read}
 use Rattle.document_model.specs.declared.object.DocObject.{DocObject}
 use Rattle.ole_parts.specs.declared.fault.OleFault.{OleFault}
 use Rattle.ole_parts.specs.declared.fault.OleFault.TheVariants.{NotADocument}
+use Rattle.std.proofs.lemmas.Bool.Decides.{nat_tests}
 use Rattle.ole_parts.proofs.Tests.{cond_false, cond_true, not_lt, is_lt}
 
 pub with_streams-last : (ss : List NamedStream) (s : NamedStream) (cs : Children) → with_streams (ss ++ s ∷ []) cs ≡ with_streams ss (placed s.name (bytes s.bytes) cs)
@@ -55,3 +56,35 @@ pub areas_read-short : (n i : ℕ) (xs : List Area) (rest : List ℕ) → i < n 
 areas_read-short n i xs rest h l =
     ap (λ k. map_ok (λ x. xs ++ x) (areas_read k rest)) (fewer n i h)
     ∙ ap (map_ok (λ x. xs ++ x)) (cond_true _ _ _ (is_lt (length rest) 8 l))
+
+-- Areas whose bytes are counted before they are read.
+pub areas_read-done : (n i : ℕ) (xs : List Area) (rest : List ℕ) → n ≤ i → length rest ≡ 8 * (n - i) → map_ok (λ x. xs ++ x) (areas_read (n - i) rest) ≡ Ok xs
+areas_read-done n i xs [] h l =
+    let e : n - i ≡ 0 = omega arith in
+    ap (λ k. map_ok (λ x. xs ++ x) (areas_read k [])) e ∙ ap Ok (append-nil xs)
+areas_read-done n i xs (b ∷ rest) h l = absurd (omega arith)
+
+less : (bs : List ℕ) → nat_lt (length bs) 8 ≡ false → length bs ≡ 8 + length (drop 8 bs)
+less bs h =
+    let e : 8 ≤ length bs = grind (arith, nat_tests) in
+    rw (length-drop 8 bs) (omega arith)
+
+pub areas_read-apart : (n : ℕ) (bs : List ℕ) → (length bs ≡ 8 * n → ⊥) → areas_read n bs ≡ Err NotADocument
+areas_read-apart zero [] h = absurd (h refl)
+areas_read-apart zero (b ∷ bs) h = refl
+areas_read-apart (suc n) bs h =
+    elim (nat_lt (length bs) 8) as (λ b. nat_lt (length bs) 8 ≡ b → cond b (Err NotADocument) (map_ok (λ areas. area_at (take 8 bs) ∷ areas) (areas_read n (drop 8 bs))) ≡ Err NotADocument) [
+      | true ↦ λ e. refl
+      | false ↦ λ e. ap (map_ok (λ areas. area_at (take 8 bs) ∷ areas)) (areas_read-apart n (drop 8 bs) (λ l. h (let m = less bs e in omega (arith, l, m))))
+    ] refl
+
+ok_more : {A B : Type 0} (f : A → B) (r : Result A OleFault) → IsOk r → IsOk (map_ok f r)
+ok_more f (Ok a) h = refl
+ok_more f (Err e) h = h
+
+pub areas_read-whole : (n : ℕ) (bs : List ℕ) → length bs ≡ 8 * n → IsOk (areas_read n bs)
+areas_read-whole zero [] h = refl
+areas_read-whole zero (b ∷ bs) h = absurd (omega arith)
+areas_read-whole (suc n) bs h =
+    subst (λ (r : Result (List Area) OleFault). IsOk r) (sym (cond_false _ _ _ (not_lt (length bs) 8 (omega arith))))
+    (ok_more (λ areas. area_at (take 8 bs) ∷ areas) (areas_read n (drop 8 bs)) (areas_read-whole n (drop 8 bs) (rw (length-drop 8 bs) (omega arith))))

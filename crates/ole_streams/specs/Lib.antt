@@ -1,3 +1,4 @@
+pub mod Begun
 pub mod Docs
 pub mod Laws
 pub use Rattle.document_model.specs.Documents

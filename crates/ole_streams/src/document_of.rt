@@ -1,6 +1,6 @@
 //! The document that a tree holds.
 
-ghost use Rattle.std.specs.Prelude.{[], ◌≡◌, ◌≢◌, ◌<◌, ◌≤◌, Err, IfOk, length};
+ghost use Rattle.std.specs.Prelude.{[], ◌≡◌, ◌≢◌, ◌<◌, ◌≤◌, Err, IfErr, IfOk, IsOk, length};
 ghost use Rattle.std.specs.Option.{option_map};
 ghost use Rattle.cfb_names.specs.Names.{key};
 ghost use Rattle.object_parts.specs.Limits.{COMP_OBJ, OLE, OLE_PRES};
@@ -12,6 +12,7 @@ ghost use Rattle.ole_parts.specs.Fields.{map_ok, on_ok};
 ghost use Rattle.document_model.specs.Layouts.{layout_read};
 ghost use Rattle.ole_parts.specs.OleStreams.{ole_read};
 ghost use Rattle.ole_parts.specs.declared.fault.OleFault.TheVariants.{NoMemory};
+ghost use Rattle.ole_streams.specs.Begun.{first_behind_ole, first_stream, first_user_type, layout_of, object_user_type, user_type_in, user_type_of};
 ghost use Rattle.ole_streams.specs.declared.doc.TheConstants.{MOST_OBJECTS};
 ghost use Rattle.storage_tree.specs.Change.{find, without};
 ghost use Rattle.storage_tree.specs.Kept.{kept};
@@ -52,6 +53,7 @@ fn take(entries: &mut Entries, name: &Name) -> Option<(Name, Node)>
 fn take_stream(entries: &mut Entries, name: &Name) -> Result<Bytes, OleFault>
     ensures value { result ≡ as_stream (find (key name.now) (children entries.old.entries)) }
     ensures rest { children entries.new.entries ≡ without (key name.now) (children entries.old.entries) }
+    ensures memory { IfErr result (λ fault. fault ≢ NoMemory) }
 {
     match take(entries, name) {
         Some((_, Node::Stream(bytes))) => Ok(bytes),
@@ -64,6 +66,7 @@ fn take_stream(entries: &mut Entries, name: &Name) -> Result<Bytes, OleFault>
 fn take_storage(entries: &mut Entries, name: &Name) -> Result<Storage, OleFault>
     ensures value { map_ok view result ≡ as_storage (find (key name.now) (children entries.old.entries)) }
     ensures rest { children entries.new.entries ≡ without (key name.now) (children entries.old.entries) }
+    ensures memory { IfErr result (λ fault. fault ≢ NoMemory) }
 {
     match take(entries, name) {
         Some((_, Node::Storage(storage))) => Ok(storage),
@@ -76,6 +79,7 @@ fn take_storage(entries: &mut Entries, name: &Name) -> Result<Storage, OleFault>
 fn take_picture(alloc: Global, entries: &mut Entries) -> Result<Bytes, OleFault>
     ensures value { result ≡ as_picture (find (key OLE_PRES) (children entries.old.entries)) }
     ensures rest { children entries.new.entries ≡ without (key OLE_PRES) (children entries.old.entries) }
+    ensures memory { IfErr result (λ fault. fault ≢ NoMemory) }
 {
     match take(entries, &ole_pres()) {
         Some((_, Node::Stream(bytes))) => Ok(bytes),
@@ -88,6 +92,7 @@ fn take_picture(alloc: Global, entries: &mut Entries) -> Result<Bytes, OleFault>
 fn take_user_type(alloc: Global, entries: &mut Entries) -> Result<Bytes, OleFault>
     ensures value { result ≢ Err NoMemory → result ≡ on_ok user_type_read (as_stream (find (key COMP_OBJ) (children entries.old.entries))) }
     ensures rest { children entries.new.entries ≡ without (key COMP_OBJ) (children entries.old.entries) }
+    ensures wanting { result ≡ Err NoMemory → IsOk (user_type_in (children entries.old.entries)) }
 {
     match take_stream(entries, &comp_obj()) {
         Ok(bytes) => match CompObj::read(alloc, bytes.as_slice()) {
@@ -102,6 +107,7 @@ fn take_user_type(alloc: Global, entries: &mut Entries) -> Result<Bytes, OleFaul
 fn take_ole(entries: &mut Entries) -> Result<OleStream, OleFault>
     ensures value { map_ok (λ _. tt) result ≡ on_ok ole_read (as_stream (find (key OLE) (children entries.old.entries))) }
     ensures rest { children entries.new.entries ≡ without (key OLE) (children entries.old.entries) }
+    ensures memory { IfErr result (λ fault. fault ≢ NoMemory) }
 {
     match take_stream(entries, &ole()) {
         Ok(bytes) => OleStream::read(bytes.as_slice()),
@@ -111,7 +117,8 @@ fn take_ole(entries: &mut Entries) -> Result<OleStream, OleFault>
 
 /// The streams that are left of an object, where there is no storage among them.
 fn streams_of(alloc: Global, entries: Entries) -> Result<Streams, OleFault>
-    ensures { result ≢ Err NoMemory → result ≡ streams_behind [] (children entries.entries) }
+    ensures value { result ≢ Err NoMemory → result ≡ streams_behind [] (children entries.entries) }
+    ensures wanting { result ≡ Err NoMemory → IsOk (first_stream (children entries.entries)) }
 {
     let mut streams = Streams::new(alloc);
     for (_, (name, node)) in entries {
@@ -136,7 +143,8 @@ fn object_of(
     user_type: Bytes,
     entries: Entries,
 ) -> Result<DocObject, OleFault>
-    ensures { result ≢ Err NoMemory → result ≡ object_of area class picture user_type (children entries.entries) }
+    ensures value { result ≢ Err NoMemory → result ≡ object_of area class picture user_type (children entries.entries) }
+    ensures wanting { result ≡ Err NoMemory → IsOk (first_stream (children entries.entries)) }
 {
     match streams_of(alloc, entries) {
         Ok(streams) => Ok(DocObject {
@@ -158,7 +166,8 @@ fn behind_comp_obj(
     user_type: Bytes,
     entries: Entries,
 ) -> Result<DocObject, OleFault>
-    ensures { result ≢ Err NoMemory → result ≡ behind_comp_obj area class picture user_type (children entries.entries) }
+    ensures value { result ≢ Err NoMemory → result ≡ behind_comp_obj area class picture user_type (children entries.entries) }
+    ensures wanting { result ≡ Err NoMemory → IsOk (first_behind_ole (children entries.entries)) }
 {
     let mut entries = entries;
     match take_ole(&mut entries) {
@@ -175,7 +184,8 @@ fn behind_picture(
     picture: Bytes,
     entries: Entries,
 ) -> Result<DocObject, OleFault>
-    ensures { result ≢ Err NoMemory → result ≡ behind_picture area class picture (children entries.entries) }
+    ensures value { result ≢ Err NoMemory → result ≡ behind_picture area class picture (children entries.entries) }
+    ensures wanting { result ≡ Err NoMemory → IsOk (user_type_in (children entries.entries)) }
 {
     let mut entries = entries;
     match take_user_type(alloc, &mut entries) {
@@ -186,7 +196,8 @@ fn behind_picture(
 
 /// The object of a storage.
 fn read_object(alloc: Global, area: Area, storage: Storage) -> Result<DocObject, OleFault>
-    ensures { result ≢ Err NoMemory → result ≡ object_read area (view storage) }
+    ensures value { result ≢ Err NoMemory → result ≡ object_read area (view storage) }
+    ensures wanting { result ≡ Err NoMemory → IsOk (user_type_of (view storage)) }
 {
     let Storage {
         class,
@@ -211,6 +222,7 @@ fn push_object(
     requires { number < 100 }
     ensures value { result ≢ Err NoMemory → map_ok (λ _. doc.new) result ≡ object_pushed doc.old number area (children entries.old.entries) }
     ensures rest { children entries.new.entries ≡ without (key (object_name number)) (children entries.old.entries) }
+    ensures wanting { result ≡ Err NoMemory → IsOk (object_user_type number (children entries.old.entries)) }
 {
     match take_storage(entries, &names::object(number)) {
         Ok(storage) => match read_object(alloc, area, storage) {
@@ -229,7 +241,8 @@ fn objects_of(
     entries: Entries,
 ) -> Result<Doc, OleFault>
     requires { length areas.now ≤ MOST_OBJECTS }
-    ensures { result ≢ Err NoMemory → result ≡ objects_behind (no_objects session) 1 areas.now (children entries.entries) }
+    ensures value { result ≢ Err NoMemory → result ≡ objects_behind (no_objects session) 1 areas.now (children entries.entries) }
+    ensures wanting { result ≡ Err NoMemory → IsOk (object_user_type 1 (children entries.entries)) }
 {
     let mut entries = entries;
     let mut doc = Doc::new(alloc, session);
@@ -249,6 +262,7 @@ fn objects_of(
 fn take_areas(alloc: Global, entries: &mut Entries) -> Result<Vec<Area>, OleFault>
     ensures value { result ≢ Err NoMemory → map_ok (λ areas. areas.items) result ≡ on_ok layout_read (as_stream (find (key LAYOUT) (children entries.old.entries))) }
     ensures rest { children entries.new.entries ≡ without (key LAYOUT) (children entries.old.entries) }
+    ensures wanting { result ≡ Err NoMemory → IsOk (on_ok layout_read (as_stream (find (key LAYOUT) (children entries.old.entries)))) }
     ensures few { IfOk result (λ areas. length areas.items ≤ MOST_OBJECTS) }
 {
     match take_stream(entries, &names::layout()) {
@@ -259,7 +273,8 @@ fn take_areas(alloc: Global, entries: &mut Entries) -> Result<Vec<Area>, OleFaul
 
 /// The session that a stream's bytes say, which are four.
 fn session_in(bytes: &[u8]) -> Result<u32, OleFault>
-    ensures { result ≡ session_of_bytes bytes.now }
+    ensures value { result ≡ session_of_bytes bytes.now }
+    ensures memory { IfErr result (λ fault. fault ≢ NoMemory) }
 {
     match bytes.as_array::<4>() {
         Some(number) => Ok(u32::from_le_bytes(*number)),
@@ -271,6 +286,7 @@ fn session_in(bytes: &[u8]) -> Result<u32, OleFault>
 fn take_session(entries: &mut Entries) -> Result<u32, OleFault>
     ensures value { result ≡ session_read (find (key SESSION) (children entries.old.entries)) }
     ensures rest { children entries.new.entries ≡ without (key SESSION) (children entries.old.entries) }
+    ensures memory { IfErr result (λ fault. fault ≢ NoMemory) }
 {
     match take(entries, &names::session()) {
         Some((_, Node::Stream(bytes))) => session_in(bytes.as_slice()),
@@ -282,7 +298,8 @@ fn take_session(entries: &mut Entries) -> Result<u32, OleFault>
 /// The document of these areas, whose session stands among the storages.
 fn behind_layout(alloc: Global, areas: &[Area], entries: Entries) -> Result<Doc, OleFault>
     requires { length areas.now ≤ MOST_OBJECTS }
-    ensures { result ≢ Err NoMemory → result ≡ behind_layout areas.now (children entries.entries) }
+    ensures value { result ≢ Err NoMemory → result ≡ behind_layout areas.now (children entries.entries) }
+    ensures wanting { result ≡ Err NoMemory → IsOk (first_user_type (children entries.entries)) }
 {
     let mut entries = entries;
     match take_session(&mut entries) {
@@ -299,10 +316,11 @@ fn behind_layout(alloc: Global, areas: &[Area], entries: Entries) -> Result<Doc,
 /// than 64 objects; `Truncated`, `BadVersion`, `Linked` and `BadString` where an object's `\1CompObj` or `\1Ole` is so;
 /// `NotADocument` where `Layout` is missing or bad, where `Session` is a storage or hasn't four bytes, where an object's storage or one of these streams is missing, where a storage stands
 /// in an object or a content is past its limits, and where anything else stands in the root. Each object's strings and
-/// streams take memory as they are read, so `NoMemory` may come before a fault that stands further on. A refusal drops
-/// the tree.
+/// streams take memory as they are read, so `NoMemory` may come before a fault that stands further on; `Layout` is looked
+/// at before it takes any. A refusal drops the tree.
 pub fn document_of(alloc: Global, tree: Tree) -> Result<Doc, OleFault>
-    ensures { result ≢ Err NoMemory → result ≡ doc_read (kept tree).now }
+    ensures value { result ≢ Err NoMemory → result ≡ doc_read (kept tree).now }
+    ensures wanting { result ≡ Err NoMemory → IsOk (layout_of (kept tree).now) }
 {
     let Storage {
         class: _,

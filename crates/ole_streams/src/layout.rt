@@ -1,6 +1,6 @@
 //! The stream `Layout` of a document: a version, a count, and the area of each object.
 
-ghost use Rattle.std.specs.Prelude.{◌≡◌, ◌≢◌, ◌<◌, ◌≤◌, ◌^◌, ◌++◌, Err, IfOk, OnOk, length, map};
+ghost use Rattle.std.specs.Prelude.{◌≡◌, ◌≢◌, ◌<◌, ◌≤◌, ◌*◌, ◌^◌, ◌++◌, Err, IfOk, Ok, IsOk, OnOk, length, map};
 ghost use Rattle.std.specs.Int.{to_le_bytes, w16};
 ghost use Rattle.std.specs.List.{flat_map};
 ghost use Rattle.ole_parts.specs.Fields.{map_ok};
@@ -81,9 +81,10 @@ fn area_at(bytes: &[u8; 8]) -> Area
     }
 }
 
-/// So many areas, with nothing behind them.
-fn read_areas(alloc: Global, count: u32, bytes: &[u8]) -> Result<Vec<Area>, OleFault>
-    ensures areas { result ≢ Err NoMemory → map_ok (λ areas. areas.items) result ≡ areas_read count bytes.now }
+/// So many areas, which the bytes have room for.
+fn take_areas(alloc: Global, count: u32, bytes: &[u8]) -> Result<Vec<Area>, AllocError>
+    requires { length bytes.now ≡ 8 * count }
+    ensures areas { IfOk result (λ areas. Ok areas.items ≡ areas_read count bytes.now) }
     ensures count { IfOk result (λ areas. length areas.items ≡ count) }
 {
     let mut areas = Vec::new(alloc);
@@ -94,19 +95,29 @@ fn read_areas(alloc: Global, count: u32, bytes: &[u8]) -> Result<Vec<Area>, OleF
                 areas.push(area_at(first))?;
                 rest = behind;
             }
-            None => return Err(OleFault::NotADocument),
+            None => unreachable!(),
         }
     }
-    if !rest.is_empty() {
+    Ok(areas)
+}
+
+/// So many areas, with nothing behind them. The length is looked at first, then they take memory.
+fn read_areas(alloc: Global, count: u32, bytes: &[u8]) -> Result<Vec<Area>, OleFault>
+    ensures areas { result ≢ Err NoMemory → map_ok (λ areas. areas.items) result ≡ areas_read count bytes.now }
+    ensures count { IfOk result (λ areas. length areas.items ≡ count) }
+    ensures wanting { result ≡ Err NoMemory → IsOk (areas_read count bytes.now) }
+{
+    if bytes.len() != 8 * count as usize {
         return Err(OleFault::NotADocument);
     }
-    Ok(areas)
+    Ok(take_areas(alloc, count, bytes)?)
 }
 
 /// The areas behind the first eight bytes.
 fn areas_behind(alloc: Global, head: &[u8; 8], bytes: &[u8]) -> Result<Vec<Area>, OleFault>
     ensures areas { result ≢ Err NoMemory → map_ok (λ areas. areas.items) result ≡ areas_behind head.now bytes.now }
     ensures few { IfOk result (λ areas. length areas.items ≤ MOST_OBJECTS) }
+    ensures wanting { result ≡ Err NoMemory → IsOk (areas_behind head.now bytes.now) }
 {
     if u32::from_le_bytes([head[0], head[1], head[2], head[3]]) != VERSION {
         return Err(OleFault::NotADocument);
@@ -125,6 +136,7 @@ fn areas_behind(alloc: Global, head: &[u8; 8], bytes: &[u8]) -> Result<Vec<Area>
 pub(crate) fn read_layout(alloc: Global, bytes: &[u8]) -> Result<Vec<Area>, OleFault>
     ensures areas { result ≢ Err NoMemory → map_ok (λ areas. areas.items) result ≡ layout_read bytes.now }
     ensures few { IfOk result (λ areas. length areas.items ≤ MOST_OBJECTS) }
+    ensures wanting { result ≡ Err NoMemory → IsOk (layout_read bytes.now) }
 {
     match bytes.split_first_chunk::<8>() {
         Some((head, rest)) => areas_behind(alloc, head, rest),

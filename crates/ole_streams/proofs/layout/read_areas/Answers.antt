@@ -1,21 +1,9 @@
-use Rattle.std.proofs.Common.{ap, sym, ◌∙◌, ◌+◌, ◌-◌, ◌++◌, ◌∷◌, [], take, length-append, arith}
-use Rattle.ole_parts.specs.Fields.{map_ok}
-use Rattle.document_model.specs.Layouts.{area_at, areas_read}
-use Rattle.ole_streams.proofs.Writing.{areas_read-more, areas_read-short}
+use Rattle.std.proofs.Common.{sym, arith}
+use Rattle.ole_streams.proofs.Writing.{areas_read-apart, areas_read-whole}
 use Rattle.ole_streams.proofs.layout.read_areas.Goals as goal
 
-pub returns-in-None-clause-areas : goal.returns-in-None-clause-areas
-returns-in-None-clause-areas c = λ any. sym (areas_read-short c.args.count c.loop-index.index c.loop-index.areas.items c.loop-index.rest.now c.loop-index-test.true c.in-None.ensures.cases) ∙ c.loop-index.invariant.value
+pub returns-then-bytes-count-clause-areas : goal.returns-then-bytes-count-clause-areas
+returns-then-bytes-count-clause-areas c = λ any. sym (areas_read-apart c.args.count c.args.bytes.now (λ e. omega (arith, e, c.if-bytes-count.true)))
 
-pub loop-index-preserved : goal.loop-index-preserved
-loop-index-preserved c =
-    let rest = c.loop-index.rest.now in
-    let left = c.args.count - (c.loop-index.index + 1) in
-    record {
-      value = ap (λ xs. map_ok (λ x. xs ++ x) (areas_read left c.in-Some.behind.now)) c.in_ok-push-in-Some.ensures.items
-          ∙ ap (λ a. map_ok (λ x. (c.loop-index.areas.items ++ a ∷ []) ++ x) (areas_read left c.in-Some.behind.now)) (c.area_at.ensures ∙ ap area_at c.in-Some.ensures.cases.0)
-          ∙ ap (λ b. map_ok (λ x. (c.loop-index.areas.items ++ area_at (take 8 rest) ∷ []) ++ x) (areas_read left b)) c.in-Some.ensures.cases.1
-          ∙ sym (areas_read-more c.args.count c.loop-index.index c.loop-index.areas.items rest c.loop-index-test.true (omega (arith, c.in-Some.ensures.cases.2)))
-          ∙ c.loop-index.invariant.value;
-      len = rw c.in_ok-push-in-Some.ensures.items (simp length-append (omega arith));
-    }
+pub returns-in_err-take_areas-clause-wanting : goal.returns-in_err-take_areas-clause-wanting
+returns-in_err-take_areas-clause-wanting c = λ any. areas_read-whole c.args.count c.args.bytes.now (omega (arith, c.if-bytes-count.false))
