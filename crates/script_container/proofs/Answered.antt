@@ -28,7 +28,7 @@ pub err_as : {A E : Type 0} (r x : Result A E) (P : E → Type 0) → r ≡ x �
 err_as r x P is has = subst (λ y. IfErr y P) (sym is) has
 
 -- what is told is what is refused, but for want of memory
-pub refused_with : (x : Result Took ContainerFault) (e : ContainerFault) → (e ≢ fault.NoMemory) → Refuses x e → x ≡ Err e
+pub refused_with : {A : Type 0} (x : Result A ContainerFault) (e : ContainerFault) → (e ≢ fault.NoMemory) → Refuses x e → x ≡ Err e
 refused_with x fault.NoSuch some refuses = refuses
 refused_with x fault.Busy some refuses = refuses
 refused_with x fault.NotRunning some refuses = refuses

@@ -1,6 +1,6 @@
 pub mod Answered
 pub mod Causes
-pub mod Filed
+pub mod Done
 pub mod Given
 pub mod Kept
 pub mod Opened

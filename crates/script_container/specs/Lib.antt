@@ -1,3 +1,4 @@
 pub mod Beside
+pub mod Done
 pub mod Shown
 pub mod Told

@@ -1,7 +1,7 @@
 -- What a history says of its script's container.
 use Rattle.std.specs.Prelude.{◌≡◌, ◌≤◌, ℕ, List, ◌∷◌, Result, Ok, Err}
-use Rattle.storage_tree.specs.Tree.{Tree}
 use Rattle.file_model.specs.Denotes.{Denotes}
+use Rattle.file_zeros.specs.Zeroed.{IsZeroed}
 use Rattle.document_model.specs.DocOf.{DocOf}
 use Rattle.container_model.specs.declared.answer.FrameDocument.{FrameDocument}
 use Rattle.container_model.specs.Record.{Record}
@@ -18,7 +18,7 @@ use Rattle.script_model.specs.Containers.{AreStarted, record_of}
 use Rattle.script_model.specs.Errors.{before_ends}
 use Rattle.script_model.specs.Events.{Ended, Event, Stepped, running}
 use Rattle.script_model.specs.Origins.{AreHeard}
-use Rattle.script_model.specs.Saved.{AreOpened, AreSaved, IsDurable, IsLostOn, IsRefusedOn, IsSavedOn, IsShutWith, IsShutWithout, IsSince}
+use Rattle.script_model.specs.Saved.{AreOpened, AreSaved, IsDurable, IsSince}
 use Rattle.script_model.specs.Turns.{AreTurns}
 
 -- The container's record is that of the history, all that was sent were its turns, and no more was sent, made anew and read than a
@@ -46,9 +46,9 @@ abbrev pub noted_of : {A D : Type 0} → Result A ContainerFault → List (Event
 noted_of (Err NoMemory) es = Stepped step.NoMemory ∷ es
 noted_of told es = es
 
--- bytes are the image of a frame whose commit is asked for: they denote a tree that holds its document
+-- bytes are the image of a frame whose commit is asked for: they denote a tree that holds its document, and all else in them is zero
 abbrev pub IsImage : Record → ℕ → List ℕ → Type 0
-IsImage r f bytes = (saved : FrameDocument) × (image r f ≡ Ok saved) × ∥ Denotes bytes (document_tree saved) ∥₁ × DocOf (document_tree saved) (document saved)
+IsImage r f bytes = (saved : FrameDocument) × (image r f ≡ Ok saved) × ∥ Denotes bytes (document_tree saved) ∥₁ × DocOf (document_tree saved) (document saved) × IsZeroed bytes
 
 -- what is said of a commit that was kept
 abbrev pub IfKept : Outcome → Type 0 → Type 0
@@ -69,24 +69,3 @@ IsReplacedOn disks before document bytes disk = IsSince disks before disk (IsBef
 -- crash now leaves what stands for the document.
 abbrev pub IsLeftOn : {D : Type 0} (disks : Disks D) → D → (document bytes : List ℕ) → D → Type 0
 IsLeftOn disks before document bytes disk = IsSince disks before disk (IsBeforeOrAfter document bytes) × IsDurable disks disk document
-
--- What a file denotes, the bytes denote.
-abbrev pub IsAlike : (file bytes : List ℕ) → Type 0
-IsAlike file bytes = (t : Tree) → Denotes file t → ∥ Denotes bytes t ∥₁
-
--- Bytes that denote what a file does were saved on a disk that was given.
-abbrev pub IsFiledOn : {D : Type 0} (disks : Disks D) → D → List ℕ → D → Type 0
-IsFiledOn disks given file disk = (bytes : List ℕ) × IsAlike file bytes × IsSavedOn disks given bytes disk
-
--- Bytes that denote what a file does were to be saved on a disk that was given, and weren't, for a cause.
-abbrev pub IsUnfiledOn : {D : Type 0} (disks : Disks D) → D → List ℕ → D → Type 0
-IsUnfiledOn disks given file disk = (bytes : List ℕ) × IsAlike file bytes × (disks.follows_model → IsLostOn disks given bytes disk) × IsRefusedOn disks given bytes disk
-
--- The last calls gave a disk under this name and gave it back, and in between bytes that denote what a file does were saved on it.
-abbrev pub IsFiledWith : {D : Type 0} (disks : Disks D) → List (Event D) → (name file : List ℕ) → Type 0
-IsFiledWith disks es name file = (bytes : List ℕ) × IsAlike file bytes × IsShutWith disks es name bytes
-
--- The last calls gave a disk under this name and gave it back, and in between bytes that denote what a file does were to be saved on
--- it and weren't.
-abbrev pub IsFiledWithout : {D : Type 0} (disks : Disks D) → List (Event D) → (name file : List ℕ) → Type 0
-IsFiledWithout disks es name file = (bytes : List ℕ) × IsAlike file bytes × IsShutWithout disks es name bytes

@@ -4,6 +4,7 @@ ghost use Rattle.container_model.specs.Commands.{on_command};
 ghost use Rattle.container_model.specs.Opens.{Given, IsReadAs, opened};
 ghost use Rattle.container_model.specs.Record.{Refuses, counts_none};
 ghost use Rattle.container_model.specs.Saves.{image};
+ghost use Rattle.container_model.specs.declared.answer.FrameDocument.{FrameDocument};
 ghost use Rattle.container_model.specs.declared.fault.ContainerFault.TheVariants as container;
 ghost use Rattle.container_model.specs.declared.command.Command.{Command};
 ghost use Rattle.document_model.specs.declared.object.DocObject.{DocObject};
@@ -18,10 +19,11 @@ ghost use Rattle.script_model.specs.Origins.{AreNext, giving, passed};
 ghost use Rattle.script_model.specs.Saved.{IsLost, IsReadFrom, IsSavedThere};
 ghost use Rattle.script_model.specs.declared.step.Step.TheVariants as given;
 ghost use Rattle.script_container.specs.Beside.{beside};
+ghost use Rattle.script_container.specs.Done.{IsAnswered, IsCertain, IsDone, OnlyDone, OnlyDoneBut};
 ghost use Rattle.script_container.specs.Shown.{Shows};
 ghost use Rattle.script_container.specs.Told.{IsEnded, IsTold, noted_of};
 ghost use Rattle.script_container.specs.declared.fault.ScriptFault.TheVariants.{NoMemory};
-ghost use Rattle.std.specs.Prelude.{◌≡◌, ◌≢◌, ◌≤◌, ◌∷◌, [], IfErr, IfOk, List, Ok, Some, length, ℕ};
+ghost use Rattle.std.specs.Prelude.{◌≡◌, ◌≢◌, ◌≤◌, ◌∷◌, [], IfErr, IfOk, List, Ok, OnOk, Some, length, ℕ};
 ghost use Rattle.wire_msgs.specs.declared.message.Message.{Message};
 
 use crate::fault::ScriptFault;
@@ -217,6 +219,7 @@ pub fn reap<H: Host>(
 /// What a call of the container leaves, where what it is told can be no fault but want of memory.
 fn heard(told: &Result<Answer, ContainerFault>) -> Result<(), ScriptFault>
     ensures lacking { IfErr result (λ fault. fault ≡ NoMemory) }
+    ensures known { OnOk result (IfErr told.now (λ fault. fault ≢ container.NoMemory)) }
 {
     match told {
         Err(ContainerFault::NoMemory) => Err(ScriptFault::NoMemory),
@@ -224,7 +227,8 @@ fn heard(told: &Result<Answer, ContainerFault>) -> Result<(), ScriptFault>
     }
 }
 
-/// Tells the container that the file of a frame was committed: the disk that was given back last holds it.
+/// Tells the container that the file of a frame was committed: the disk that was given back last holds it. So its commit is done, unless
+/// it was in doubt; every other frame is as it was.
 pub fn committed<H: Host>(
     alloc: Global,
     host: &mut H,
@@ -240,6 +244,8 @@ pub fn committed<H: Host>(
     ensures ordered { course (H.told host.new) ≡ course (H.told host.old) }
     ensures noticed { notices (H.told host.new) ≡ notices (H.told host.old) }
     ensures shown { IfErr result (λ fault. Shows ⟦<H::Disk as Disk>⟧ (H.told host.new) fault) }
+    ensures others { OnlyDone core.old core.new }
+    ensures done { OnOk result ((saved : FrameDocument) → image core.old frame ≡ Ok saved → IsCertain core.old frame → IsDone core.new frame) }
 {
     host.note(&Step::Committed(frame));
     let told = core.commit_done(alloc, frame);
@@ -263,6 +269,8 @@ pub fn failed<H: Host>(
     ensures ordered { course (H.told host.new) ≡ course (H.told host.old) }
     ensures noticed { notices (H.told host.new) ≡ first_noticed (notices (H.told host.old)) (Some (lost_as (image core.old frame))) }
     ensures shown { IfErr result (λ fault. Shows ⟦<H::Disk as Disk>⟧ (H.told host.new) fault) }
+    ensures others { OnlyDoneBut frame core.old core.new }
+    ensures answered { IsAnswered core.new frame }
 {
     host.note(&Step::Failed(frame));
     let told = core.commit_failed(alloc, frame);
@@ -284,6 +292,8 @@ pub fn dropped<H: Host>(
     ensures ordered { course (H.told host.new) ≡ course (H.told host.old) }
     ensures noticed { notices (H.told host.new) ≡ notices (H.told host.old) }
     ensures shown { IfErr result (λ fault. Shows ⟦<H::Disk as Disk>⟧ (H.told host.new) fault) }
+    ensures others { OnlyDone core.old core.new }
+    ensures done { OnOk result (IsAnswered core.old frame → IsDone core.new frame) }
 {
     host.note(&Step::Resolved(frame, false));
     let told = core.resolve(alloc, frame, false);

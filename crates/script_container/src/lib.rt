@@ -2,6 +2,5 @@
 #![tactic(auto)]
 
 pub mod container;
-mod disks;
 pub mod fault;
 pub mod saves;

@@ -1,11 +1,10 @@
 //! Saves: the file of a frame whose commit is asked for goes to a disk of the host, and the container is told what became of it.
-//! It goes into the sectors that the disk's document has, so that few blocks are written; what that frees is zeroed. That these
-//! are few, and zero, is tested.
+//! The container makes it of the file that it committed last, so that few blocks of the disk are written; what that frees is zero.
+//! That the blocks are few is tested.
 
 ghost use Rattle.container_model.specs.Record.{Record};
 ghost use Rattle.container_model.specs.Saves.{image};
 ghost use Rattle.doc_store.specs.Opened.{disk_of, needs_reopen_of};
-ghost use Rattle.file_model.specs.Denotes.{Denotes};
 ghost use Rattle.script_model.specs.Answers.{first_told};
 ghost use Rattle.script_model.specs.Bounds.{pace};
 ghost use Rattle.script_model.specs.Courses.{course};
@@ -13,31 +12,27 @@ ghost use Rattle.script_model.specs.Errors.{IsUnopened, IsUntoldFor};
 ghost use Rattle.script_model.specs.Events.{running};
 ghost use Rattle.script_model.specs.Notices.{Notes, Tells, first_noticed, lost_as, notices};
 ghost use Rattle.script_model.specs.Origins.{passed};
-ghost use Rattle.script_model.specs.Saved.{IsAsGiven, IsLost, IsLostOn, IsMissing, IsRefusedOn, IsSavedOn, IsSavedThere, IsShutWith, IsShutWithout, IsSince, file_name};
+ghost use Rattle.script_model.specs.Saved.{IsLost, IsLostOn, IsMissing, IsRefusedOn, IsSavedOn, IsSavedThere, IsShutWith, IsShutWithout, file_name};
+ghost use Rattle.script_container.specs.Done.{AreCarriedOut, IsCarriedOut, IsCertain, IsDone, OnlyDone};
 ghost use Rattle.script_container.specs.Shown.{Shows};
-ghost use Rattle.script_container.specs.Told.{IfKept, IfLost, IsAlike, IsFiledOn, IsFiledWith, IsFiledWithout, IsImage, IsLeftOn, IsReplacedOn, IsTold, IsUnfiledOn};
-ghost use Rattle.std.specs.Prelude.{◌≡◌, ◌≤◌, ℕ, IfErr, IfOk, IfSome, OnOk, Some, false};
-ghost use Rattle.storage_tree.specs.Kept.{kept};
+ghost use Rattle.script_container.specs.Told.{IfKept, IfLost, IsImage, IsLeftOn, IsReplacedOn, IsTold};
+ghost use Rattle.std.specs.Prelude.{◌≡◌, ◌<◌, ◌^◌, ℕ, IfErr, IfOk, OnOk, Some, false};
 
 use crate::container::{committed, dropped, failed};
-use crate::disks::{counted, document_area};
 use crate::fault::ScriptFault;
 use container_core::container::ContainerCore;
 use container_model::answer::{Action, Answer};
 use container_model::fault::ContainerFault;
 use container_model::record::Frame;
 use doc_store::outcome::Outcome;
-use doc_store::refused::Refused;
 use doc_store::resolved::commit_resolved;
 use doc_store::store::Store;
 use file_image::image::Image;
 use script_model::answer::Told;
 use script_model::host::Host;
 use std::alloc::{AllocError, Global};
-use storage_tree::tree::Tree;
 use store_model::disk::Disk;
 use store_model::fault::StoreFault;
-use stream_io::read::read_file;
 
 /// The first of what was noticed.
 pub fn first_of(before: Option<Told>, next: Option<Told>) -> Option<Told>
@@ -47,6 +42,13 @@ pub fn first_of(before: Option<Told>, next: Option<Told>) -> Option<Told>
         Some(notice) => Some(notice),
         None => next,
     }
+}
+
+/// That the count of a disk's failed calls isn't past its last value. It does nothing.
+fn counted<D: Disk>(disk: &D)
+    ensures { D.failed disk.now < 2 ^ 64 }
+{
+    disk.counts();
 }
 
 /// Makes these bytes the document of a store, and gives its disk back. After an error it is opened again, and tells by its
@@ -128,87 +130,6 @@ fn commit_on<D: Disk + Drop>(
     }
 }
 
-/// The document of a disk, if it can be read, and the disk.
-///
-/// Refused: where the disk isn't opened, though none of its calls failed.
-fn read_on<D: Disk + Drop>(alloc: Global, disk: D) -> Result<(Option<Vec<u8>>, D), Refused<D>>
-    ensures since { D.follows_model → IfOk result (λ read. IsSince ⟦<D as Disk>⟧ disk read.1 (IsAsGiven ⟦<D as Disk>⟧ disk)) }
-    ensures later { IfOk result (λ read. D.failed disk ≤ D.failed read.1) }
-    ensures untold { IfErr result (λ refused. IsUntoldFor ⟦<D as Disk>⟧ disk refused.disk refused.fault) }
-{
-    counted(&disk);
-    match Store::open(alloc, disk) {
-        Ok(store) => {
-            let mut disk = store.into_disk();
-            let document = document_area(alloc, &mut disk);
-            Ok((document, disk))
-        }
-        Err(refused) => match refused.fault {
-            StoreFault::Device => Ok((None, refused.disk)),
-            _ => Err(refused),
-        },
-    }
-}
-
-/// An image made that of a tree. None where memory is wanting, the tree is too big, or the file would have more bytes than this.
-fn updated(alloc: Global, image: Image, tree: &Tree, most: usize) -> Option<Image>
-    ensures { IfSome result (λ image. ∥ Denotes image (kept tree.now).now ∥₁) }
-{
-    let mut image = image;
-    match image.update_zeroed(alloc, tree) {
-        Ok(_) if image.bytes().len() <= most => Some(image),
-        _ => None,
-    }
-}
-
-/// A file in the sectors of an older document. None where there is no document, where it is no compound file, as a new one's,
-/// where memory is wanting, or where it would be more than twice as long so, as behind a document that had much more in it.
-fn placed_in(alloc: Global, document: Option<Vec<u8>>, file: &[u8]) -> Option<Image>
-    ensures { IfSome result (λ image. IsAlike file.now image) }
-{
-    let Ok(image) = Image::open(alloc, document?) else {
-        return None;
-    };
-    let Ok(tree) = read_file(alloc, file) else {
-        return None;
-    };
-    updated(alloc, image, &tree, file.len().saturating_mul(2))
-}
-
-/// Makes a file the document of a disk: bytes that denote the same, in the sectors that this document has, or where that can't be
-/// done the file itself. So no more memory is needed than for that.
-fn commit_beside<D: Disk + Drop>(
-    alloc: Global,
-    disk: D,
-    document: Option<Vec<u8>>,
-    file: &[u8],
-) -> (Result<Outcome, StoreFault>, D)
-    ensures kept { D.follows_model → IfOk result.0 (λ outcome. IfKept outcome (IsFiledOn ⟦<D as Disk>⟧ disk file.now result.1)) }
-    ensures lost { IfOk result.0 (λ outcome. IfLost outcome (IsUnfiledOn ⟦<D as Disk>⟧ disk file.now result.1)) }
-    ensures untold { IfErr result.0 (λ fault. IsUntoldFor ⟦<D as Disk>⟧ disk result.1 fault) }
-{
-    match placed_in(alloc, document, file) {
-        Some(image) => commit_on(alloc, disk, image.bytes()),
-        None => commit_on(alloc, disk, file),
-    }
-}
-
-/// Makes a file the document of a disk, in the sectors that the disk's document has, where this can be read.
-fn commit_to<D: Disk + Drop>(
-    alloc: Global,
-    disk: D,
-    file: &[u8],
-) -> (Result<Outcome, StoreFault>, D)
-    ensures kept { D.follows_model → IfOk result.0 (λ outcome. IfKept outcome (IsFiledOn ⟦<D as Disk>⟧ disk file.now result.1)) }
-    ensures lost { IfOk result.0 (λ outcome. IfLost outcome (IsUnfiledOn ⟦<D as Disk>⟧ disk file.now result.1)) }
-    ensures untold { IfErr result.0 (λ fault. IsUntoldFor ⟦<D as Disk>⟧ disk result.1 fault) }
-{
-    match read_on(alloc, disk) {
-        Ok((document, disk)) => commit_beside(alloc, disk, document, file),
-        Err(refused) => (Err(refused.fault), refused.disk),
-    }
-}
-
 /// What became of these bytes where the disk of their file wasn't given at first, with that fault.
 fn commit_again<H: Host>(
     alloc: Global,
@@ -237,21 +158,21 @@ fn commit_again<H: Host>(
     }
 }
 
-/// Makes bytes that denote what a file does the file of a name.
+/// Makes these bytes the file of a name.
 ///
 /// Refused: where its store can't be opened, also when that is tried again, so that it isn't known what the file is.
 fn commit<H: Host>(
     alloc: Global,
     host: &mut H,
     name: &[u8],
-    file: &[u8],
+    bytes: &[u8],
 ) -> Result<Outcome, StoreFault>
     ensures told { (r : Record) → IsTold ⟦<H::Disk as Disk>⟧ (H.told host.old) r → IsTold ⟦<H::Disk as Disk>⟧ (H.told host.new) r }
     ensures still { (s : ℕ) → running s (H.told host.new) ≡ running s (H.told host.old) }
     ensures quiet { (s : ℕ) → passed s (H.told host.new) ≡ passed s (H.told host.old) }
     ensures paced { (s : ℕ) → pace s (H.told host.new) ≡ pace s (H.told host.old) }
-    ensures shut { H.Disk.follows_model → IfOk result (λ outcome. IfKept outcome (IsFiledWith ⟦<H::Disk as Disk>⟧ (H.told host.new) name.now file.now)) }
-    ensures left { IfOk result (λ outcome. IfLost outcome (IsFiledWithout ⟦<H::Disk as Disk>⟧ (H.told host.new) name.now file.now)) }
+    ensures shut { H.Disk.follows_model → IfOk result (λ outcome. IfKept outcome (IsShutWith ⟦<H::Disk as Disk>⟧ (H.told host.new) name.now bytes.now)) }
+    ensures left { IfOk result (λ outcome. IfLost outcome (IsShutWithout ⟦<H::Disk as Disk>⟧ (H.told host.new) name.now bytes.now)) }
     ensures ordered { course (H.told host.new) ≡ course (H.told host.old) }
     ensures noticed { notices (H.told host.new) ≡ notices (H.told host.old) }
     ensures unopened { IfErr result (λ fault. IsUnopened ⟦<H::Disk as Disk>⟧ name.now fault (H.told host.new)) }
@@ -259,11 +180,11 @@ fn commit<H: Host>(
     let given = host.disk(name);
     match given {
         Ok(disk) => {
-            let (outcome, disk) = commit_to(alloc, disk, file);
+            let (outcome, disk) = commit_on(alloc, disk, bytes);
             host.shut(name, disk);
             outcome
         }
-        Err(fault) => commit_again(alloc, host, name, file, fault),
+        Err(fault) => commit_again(alloc, host, name, bytes, fault),
     }
 }
 
@@ -293,20 +214,23 @@ fn lose<H: Host>(
     ensures ordered { course (H.told host.new) ≡ course (H.told host.old) }
     ensures noticed { notices (H.told host.new) ≡ first_noticed (notices (H.told host.old)) (Some (lost_as (image core.old frame))) }
     ensures shown { IfErr result (λ fault. Shows ⟦<H::Disk as Disk>⟧ (H.told host.new) fault) }
+    ensures others { OnOk result (OnlyDone core.old core.new) }
+    ensures done { OnOk result (IsDone core.new frame) }
 {
     failed(alloc, host, core, frame)?;
     dropped(alloc, host, core, frame)
 }
 
-/// Saves the file of a frame, and tells the container what became of it.
+/// Saves the file of a frame, and tells the container what became of it. Where it is saved, the container keeps it, to make the next
+/// one of it.
 fn save_file<H: Host>(
     alloc: Global,
     host: &mut H,
     core: &mut ContainerCore,
     frame: u32,
-    file: &[u8],
+    file: Image,
 ) -> Result<Option<Told>, ScriptFault>
-    requires image { IsImage core.old frame file.now }
+    requires image { IsImage core.old frame file }
     requires told { IsTold ⟦<H::Disk as Disk>⟧ (H.told host.old) core.old }
     ensures told { IsTold ⟦<H::Disk as Disk>⟧ (H.told host.new) core.new }
     ensures still { (s : ℕ) → running s (H.told host.new) ≡ running s (H.told host.old) }
@@ -315,13 +239,16 @@ fn save_file<H: Host>(
     ensures ordered { course (H.told host.new) ≡ course (H.told host.old) }
     ensures noticed { IfOk result (Notes (notices (H.told host.old)) (notices (H.told host.new))) }
     ensures shown { IfErr result (λ fault. Shows ⟦<H::Disk as Disk>⟧ (H.told host.new) fault) }
+    ensures others { OnOk result (OnlyDone core.old core.new) }
+    ensures done { OnOk result (IsCertain core.old frame → IsDone core.new frame) }
 {
     let Some(found) = core.frame(frame) else {
         return Ok(None);
     };
     let name = name_of(alloc, found)?;
-    match commit(alloc, host, &name, file) {
+    match commit(alloc, host, &name, file.bytes()) {
         Ok(Outcome::Kept) => {
+            core.put_image(frame, file);
             committed(alloc, host, core, frame)?;
             Ok(None)
         }
@@ -350,9 +277,11 @@ fn save<H: Host>(
     ensures ordered { course (H.told host.new) ≡ course (H.told host.old) }
     ensures noticed { IfOk result (Notes (notices (H.told host.old)) (notices (H.told host.new))) }
     ensures shown { IfErr result (λ fault. Shows ⟦<H::Disk as Disk>⟧ (H.told host.new) fault) }
+    ensures others { OnOk result (OnlyDone core.old core.new) }
+    ensures done { OnOk result (IsCertain core.old frame → IsDone core.new frame) }
 {
     match core.image(alloc, frame) {
-        Ok(file) => save_file(alloc, host, core, frame, &file),
+        Ok(file) => save_file(alloc, host, core, frame, file),
         Err(ContainerFault::NoMemory) => Err(ScriptFault::NoMemory),
         Err(ContainerFault::Full) => {
             lose(alloc, host, core, frame)?;
@@ -379,6 +308,8 @@ fn save_on<H: Host>(
     ensures ordered { course (H.told host.new) ≡ course (H.told host.old) }
     ensures seen { OnOk result (Tells (notices (H.told host.new)) noticed.new) }
     ensures shown { IfErr result (λ fault. Shows ⟦<H::Disk as Disk>⟧ (H.told host.new) fault) }
+    ensures others { OnOk result (OnlyDone core.old core.new) }
+    ensures done { OnOk result (IsCarriedOut core.old core.new action.now) }
 {
     match action {
         Action::Commit(frame) => {
@@ -390,7 +321,8 @@ fn save_on<H: Host>(
     }
 }
 
-/// Carries out the commits that an answer of the container asks for.
+/// Carries out the commits that an answer of the container asks for. None is left: of each it is told whether it was kept or lost,
+/// and every other frame is as it was.
 pub fn save_all<H: Host>(
     alloc: Global,
     host: &mut H,
@@ -407,6 +339,8 @@ pub fn save_all<H: Host>(
     ensures ordered { course (H.told host.new) ≡ course (H.told host.old) }
     ensures seen { OnOk result (Tells (notices (H.told host.new)) noticed.new) }
     ensures shown { IfErr result (λ fault. Shows ⟦<H::Disk as Disk>⟧ (H.told host.new) fault) }
+    ensures others { OnOk result (OnlyDone core.old core.new) }
+    ensures done { OnOk result (AreCarriedOut core.old core.new answer.now.actions) }
 {
     for action in answer.actions.as_slice() {
         save_on(alloc, host, core, action, noticed)?;

@@ -1,6 +1,7 @@
 -- What a history says of files: which disk stands behind each commit that the container counts, and behind each file that is opened.
 use Rattle.std.specs.Prelude.{◌≡◌, ◌<◌, ◌⊎◌, ◌||◌, ℕ, Bool, true, false, List, [], ◌∷◌, length, Option, Some, None, Ok, Err}
 use Rattle.file_model.specs.Denotes.{Denotes}
+use Rattle.file_zeros.specs.Zeroed.{IsZeroed}
 use Rattle.document_model.specs.DocOf.{DocOf}
 use Rattle.document_model.specs.Documents.{Doc}
 use Rattle.store_model.specs.Crash.{Rose, StaysIn}
@@ -91,8 +92,8 @@ abbrev pub is_any_unsaved : List Frame → Bool
 is_any_unsaved [] = false
 is_any_unsaved (frame ∷ frames) = is_unsaved frame.phase || is_any_unsaved frames
 
--- Bytes are the file of a frame whose commit is asked for: this is its name, they denote a tree, and what this holds is the
--- document of its save.
+-- Bytes are the file of a frame whose commit is asked for: this is its name, they denote a tree, what this holds is the document of
+-- its save, and what this takes none of is zero, so that nothing of an older document is left there.
 pub record IsFileOf (r : Record) (f : ℕ) (name bytes : List ℕ) : Type 0 where
   pub frame : Frame
   pub found : nth r.frames f ≡ Some frame
@@ -101,6 +102,7 @@ pub record IsFileOf (r : Record) (f : ℕ) (name bytes : List ℕ) : Type 0 wher
   pub counted : image r f ≡ Ok saved
   pub denotes : ∥ Denotes bytes (document_tree saved) ∥₁
   pub holds : DocOf (document_tree saved) (document saved)
+  pub zeroed : IsZeroed bytes
 
 -- The last call gave a disk back under this name, the call before it had given this disk under the same name, and in between these
 -- bytes were saved on it.
@@ -209,7 +211,8 @@ OfEachStep P (Found name disk ∷ es) = OfEachStep P es
 OfEachStep P (Shut name disk ∷ es) = OfEachStep P es
 
 -- Where disks follow the model, each commit that the container counts stands directly behind the giving back of the disk that the
--- host gave under the frame's name directly before, and which then holds the frame's file, whatever a crash leaves of it. Each that
+-- host gave under the frame's name directly before, and which then holds the frame's file, whatever a crash leaves of it: this denotes
+-- the document that is saved, and all else in it is zero. Each that
 -- fails stands directly behind the giving back of such a disk, for a cause: the file is too large, or a call of this disk failed, or
 -- it wasn't given when it was asked for the first time; and where disks follow the model, it then holds what it held as it was given,
 -- whatever a crash leaves of it. Or no file can hold its document.

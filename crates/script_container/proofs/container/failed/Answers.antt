@@ -2,6 +2,7 @@ use Rattle.std.proofs.Common.{refl}
 use Rattle.container_model.specs.Saves.{commit_failed}
 use Rattle.container_model.specs.Record.{counts_none}
 use Rattle.script_model.specs.declared.step.Step.TheVariants as step
+use Rattle.script_container.proofs.Done.{failure_answered, failure_leaves}
 use Rattle.script_container.proofs.Given.{step_told}
 use Rattle.script_container.proofs.Noticed.{failure_noticed}
 use Rattle.script_container.proofs.container.failed.Goals as goal
@@ -13,3 +14,10 @@ returns-clause-told g c =
 pub returns-clause-noticed : goal.returns-clause-noticed
 returns-clause-noticed g c =
     failure_noticed (g.H.Host.told c.args.host.now) (g.H.Host.told c.note.new.self) (g.H.Host.told c.noted.new.host) c.args.core.now c.args.frame c.requires.told.recorded c.note.ensures c.noted.ensures.noticed
+
+pub returns-clause-others : goal.returns-clause-others
+returns-clause-others g c = failure_leaves c.args.core.now c.args.frame c.commit_failed-told.new.self c.commit_failed-told.result c.commit_failed-told.ensures.taken c.commit_failed-told.ensures.kept
+
+pub returns-clause-answered : goal.returns-clause-answered
+returns-clause-answered g c =
+    failure_answered c.args.core.now c.args.frame c.commit_failed-told.new.self c.commit_failed-told.result c.commit_failed-told.ensures.memory c.commit_failed-told.ensures.taken c.commit_failed-told.ensures.refused c.commit_failed-told.ensures.kept

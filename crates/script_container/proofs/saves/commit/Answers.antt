@@ -1,28 +1,24 @@
-use Rattle.script_container.proofs.Filed.{filed_itself, filed_with, filed_without, unfiled_itself}
+use Rattle.script_container.proofs.Saved.{shut_with, shut_without}
 use Rattle.script_container.proofs.Shown.{given_back}
 use Rattle.script_container.proofs.saves.commit.Goals as goal
 
 pub returns-in-Ok-clause-unopened : goal.returns-in-Ok-clause-unopened
 returns-in-Ok-clause-unopened g c =
-    given_back g.H.Disk.Disk c.commit_to-outcome.result.0 c.args.name.now (g.H.Host.told c.args.host.now) (g.H.Host.told c.disk-given.new.self) (g.H.Host.told c.shut.new.self) c.in-Ok.disk c.commit_to-outcome.result.1 c.in-Ok.ensures c.shut.ensures
-    c.commit_to-outcome.ensures.untold
+    given_back g.H.Disk.Disk c.commit_on-outcome.result.0 c.args.name.now (g.H.Host.told c.args.host.now) (g.H.Host.told c.disk-given.new.self) (g.H.Host.told c.shut.new.self) c.in-Ok.disk c.commit_on-outcome.result.1 c.in-Ok.ensures c.shut.ensures
+    c.commit_on-outcome.ensures.untold
 
 pub returns-in-Err-clause-unopened : goal.returns-in-Err-clause-unopened
 returns-in-Err-clause-unopened g c = c.commit_again.ensures.unopened (g.H.Host.told c.args.host.now, c.in-Err.ensures)
 
 pub returns-in-Ok-clause-shut : goal.returns-in-Ok-clause-shut
 returns-in-Ok-clause-shut g c = λ m.
-    filed_with _ c.commit_to-outcome.result.0 (g.H.Host.told c.args.host.now) (g.H.Host.told c.disk-given.new.self) (g.H.Host.told c.shut.new.self) c.args.name.now c.args.file.now c.in-Ok.disk c.commit_to-outcome.result.1
-    c.in-Ok.ensures c.shut.ensures (c.commit_to-outcome.ensures.kept m)
+    shut_with _ c.commit_on-outcome.result.0 (g.H.Host.told c.args.host.now) (g.H.Host.told c.disk-given.new.self) (g.H.Host.told c.shut.new.self) c.args.name.now c.args.bytes.now c.in-Ok.disk c.commit_on-outcome.result.1
+    c.in-Ok.ensures c.shut.ensures (c.commit_on-outcome.ensures.kept m)
 
 pub returns-in-Ok-clause-left : goal.returns-in-Ok-clause-left
 returns-in-Ok-clause-left g c =
-    filed_without g.H.Disk.Disk c.commit_to-outcome.result.0 (g.H.Host.told c.args.host.now) (g.H.Host.told c.disk-given.new.self) (g.H.Host.told c.shut.new.self) c.args.name.now c.args.file.now c.in-Ok.disk c.commit_to-outcome.result.1
-    c.in-Ok.ensures c.shut.ensures c.commit_to-outcome.ensures.lost
-
-pub returns-in-Err-clause-shut : goal.returns-in-Err-clause-shut
-returns-in-Err-clause-shut g c = λ m. filed_itself _ c.commit_again.result (g.H.Host.told c.commit_again.new.host) c.args.name.now c.args.file.now (c.commit_again.ensures.shut m)
+    shut_without g.H.Disk.Disk c.commit_on-outcome.result.0 (g.H.Host.told c.args.host.now) (g.H.Host.told c.disk-given.new.self) (g.H.Host.told c.shut.new.self) c.args.name.now c.args.bytes.now c.in-Ok.disk c.commit_on-outcome.result.1
+    c.in-Ok.ensures c.shut.ensures c.commit_on-outcome.ensures.lost c.commit_on-outcome.ensures.cause
 
 pub returns-in-Err-clause-left : goal.returns-in-Err-clause-left
-returns-in-Err-clause-left g c =
-    unfiled_itself g.H.Disk.Disk c.commit_again.result (g.H.Host.told c.commit_again.new.host) c.args.name.now c.args.file.now (c.commit_again.ensures.left (g.H.Host.told c.args.host.now, c.in-Err.ensures))
+returns-in-Err-clause-left g c = c.commit_again.ensures.left (g.H.Host.told c.args.host.now, c.in-Err.ensures)

@@ -1,4 +1,4 @@
-use Rattle.script_container.proofs.Filed.{shut_missing}
+use Rattle.script_container.proofs.Saved.{shut_missing}
 use Rattle.script_container.proofs.Shown.{missing_twice, given_back}
 use Rattle.script_container.proofs.saves.commit_again.Goals as goal
 

@@ -1,9 +1,10 @@
-use Rattle.std.proofs.Common.{◌≡◌, ℕ}
+use Rattle.std.proofs.Common.{◌≡◌, ℕ, take}
 use Rattle.script_model.specs.Bounds.{pace}
 use Rattle.script_model.specs.Courses.{course}
 use Rattle.script_model.specs.Notices.{Tells, notices}
 use Rattle.script_model.specs.Events.{running}
 use Rattle.script_model.specs.Origins.{passed}
+use Rattle.script_container.specs.Done.{AreCarriedOut, OnlyDone}
 use Rattle.script_container.specs.Told.{IsTold}
 use Rattle.script_container.proofs.saves.save_all.Given as goal
 
@@ -15,4 +16,6 @@ invariant-loop-action g l = record {
   paced : (s : ℕ) → pace s (g.H.Host.told l.host) ≡ pace s (g.H.Host.told l.fn.host);
   ordered : course (g.H.Host.told l.host) ≡ course (g.H.Host.told l.fn.host);
   seen : Tells (notices (g.H.Host.told l.host)) l.noticed;
+  others : OnlyDone l.fn.core l.core;
+  done : AreCarriedOut l.fn.core l.core (take l.action-index l.action-items);
 }
