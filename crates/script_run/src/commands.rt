@@ -21,7 +21,7 @@ ghost use Rattle.script_links.specs.Ready.{AreReady, MayLink, pace_beside};
 ghost use Rattle.script_links.specs.Shown.{AreQuiet, Shows};
 ghost use Rattle.script_links.specs.Told.{IsTold};
 ghost use Rattle.script_run.specs.Holding.{Holds};
-ghost use Rattle.script_lines.specs.Printed.{HasLine, IsBeginning, IsBegunWith, IsCut, IsShown, told_of_server};
+ghost use Rattle.script_run.specs.Printed.{HasLine, IsBeginning, IsBegunWith, IsCut, IsShown, told_of_server};
 ghost use Rattle.script_run.specs.Starts.{AreIn};
 ghost use Rattle.script_container.specs.declared.fault.ScriptFault.TheVariants.{NoMemory, Unwritable};
 ghost use Rattle.script_links.specs.declared.links.Link.{Link};

@@ -13,7 +13,7 @@ ghost use Rattle.script_model.specs.Saved.{IsReadFrom, IsReadOf};
 ghost use Rattle.script_model.specs.declared.answer.Told.TheVariants as told;
 ghost use Rattle.script_links.specs.Told.{IsTold};
 ghost use Rattle.script_container.specs.declared.fault.ScriptFault.TheVariants.{NoMemory};
-ghost use Rattle.script_lines.specs.Printed.{HoldsMore, IsJustFound, IsOpenTold, IsOpenedBy, looked};
+ghost use Rattle.script_run.specs.Printed.{HoldsMore, IsJustFound, IsOpenTold, IsOpenedBy, looked};
 ghost use Rattle.std.specs.Prelude.{◌≡◌, ◌⊎◌, ℕ, Err, IfErr, IfOk, Some};
 
 use crate::refusals::refusal;

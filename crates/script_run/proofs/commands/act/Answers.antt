@@ -5,7 +5,7 @@ use Rattle.script_model.specs.Notices.{notices}
 use Rattle.script_container.proofs.Noticed.{seen_still}
 use Rattle.script_container.proofs.Shown.{passed_on}
 use Rattle.script_links.proofs.Served.{on_ok}
-use Rattle.script_lines.proofs.Coursed.{starts_same, unstarted_same}
+use Rattle.script_run.proofs.Coursed.{starts_same, unstarted_same}
 use Rattle.script_run.proofs.commands.act.Goals as goal
 
 pub returns-in_err-start_asked-clause-shown : goal.returns-in_err-start_asked-clause-shown

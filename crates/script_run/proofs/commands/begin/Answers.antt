@@ -14,11 +14,11 @@ use Rattle.script_model.specs.Orders.{asked, behind_command, orders}
 use Rattle.script_model.specs.Origins.{passed}
 use Rattle.script_model.specs.declared.command.ScriptCommand.{ScriptCommand}
 use Rattle.script_model.specs.declared.command.ScriptCommand.TheVariants as script
-use Rattle.script_lines.proofs.Coursed.{asked_but_opening, asked_same, begun_but_opening, begun_same}
+use Rattle.script_run.proofs.Coursed.{asked_but_opening, asked_same, begun_but_opening, begun_same}
 use Rattle.script_run.proofs.Held.{as_command, held_command, no_holding, one_link}
-use Rattle.script_lines.proofs.Lines.{begins_idle, begins_unasked, begun_by, begun_screen, begun_with, ran_begun, record_begun}
+use Rattle.script_run.proofs.Lines.{begins_idle, begins_unasked, begun_by, begun_screen, begun_with, ran_begun, record_begun}
 use Rattle.script_run.proofs.Ordered.{as_begun, as_ordered, none_begun, none_ordered}
-use Rattle.script_lines.specs.Printed.{IsCut, IsOpenTold, told_of_server}
+use Rattle.script_run.specs.Printed.{IsCut, IsOpenTold, told_of_server}
 use Rattle.script_run.proofs.commands.begin.Goals as goal
 
 pub returns-in-Container-clause-ready : goal.returns-in-Container-clause-ready

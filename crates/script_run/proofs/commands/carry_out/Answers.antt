@@ -8,8 +8,8 @@ use Rattle.script_model.specs.Errors.{behind_hold}
 use Rattle.script_model.specs.Orders.{asked, ordered_by, orders}
 use Rattle.script_model.specs.Saved.{is_any_unsaved}
 use Rattle.script_container.proofs.Shown.{memory_on, passed_on}
-use Rattle.script_lines.proofs.Coursed.{asked_same, begun_same}
-use Rattle.script_lines.proofs.Lines.{begins_quiet, line_of}
+use Rattle.script_run.proofs.Coursed.{asked_same, begun_same}
+use Rattle.script_run.proofs.Lines.{begins_quiet, line_of}
 use Rattle.script_run.proofs.Ordered.{begun_on}
 use Rattle.script_run.proofs.commands.carry_out.Goals as goal
 

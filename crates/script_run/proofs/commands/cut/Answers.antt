@@ -6,7 +6,7 @@ use Rattle.script_links.proofs.Paces.{any_at, cut_ended, cut_may, cut_ready, non
 use Rattle.script_links.proofs.Served.{on_ok}
 use Rattle.std.specs.Result.{IsErrAnd}
 use Rattle.script_container.proofs.Shown.{passed_on}
-use Rattle.script_lines.proofs.Lines.{one_link}
+use Rattle.script_run.proofs.Lines.{one_link}
 use Rattle.script_run.proofs.commands.cut.Goals as goal
 
 pub send_turn-requires-clause-within : goal.send_turn-requires-clause-within

@@ -6,7 +6,7 @@ use Rattle.script_model.specs.Events.{running}
 use Rattle.std.specs.Result.{IsErrAnd}
 use Rattle.script_container.proofs.Shown.{passed_on}
 use Rattle.script_run.proofs.Held.{cut_anew, linked_there}
-use Rattle.script_lines.proofs.Lines.{cut_none, cut_some, told_none, told_some}
+use Rattle.script_run.proofs.Lines.{cut_none, cut_some, told_none, told_some}
 use Rattle.script_run.proofs.Starting.{linked_runs}
 use Rattle.script_run.proofs.commands.cut_link.Goals as goal
 

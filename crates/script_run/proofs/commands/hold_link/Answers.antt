@@ -2,7 +2,7 @@ use Rattle.std.proofs.Common.{◌≤◌, ◌<◌, ◌∙◌, ap, length, subst, 
 use Rattle.script_links.specs.Links.{IsLinkAt, links_of}
 use Rattle.script_links.specs.declared.links.Link.{Link}
 use Rattle.script_run.proofs.Held.{held_none, linked_there}
-use Rattle.script_lines.proofs.Lines.{told_none, told_some}
+use Rattle.script_run.proofs.Lines.{told_none, told_some}
 use Rattle.script_run.proofs.commands.hold_link.Goals as goal
 
 pub returns-clause-holding : goal.returns-clause-holding

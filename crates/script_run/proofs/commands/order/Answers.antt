@@ -2,8 +2,8 @@ use Rattle.std.proofs.Common.{◌≡◌, ◌∙◌, sym}
 use Rattle.script_model.specs.Containers.{record_of}
 use Rattle.script_model.specs.Orders.{asked, behind_given, orders}
 use Rattle.script_links.proofs.Served.{on_ok}
-use Rattle.script_lines.proofs.Coursed.{asked_given}
-use Rattle.script_lines.proofs.Lines.{begun_so, first_given}
+use Rattle.script_run.proofs.Coursed.{asked_given}
+use Rattle.script_run.proofs.Lines.{begun_so, first_given}
 use Rattle.script_run.proofs.Ordered.{alone_begun, given_alone, is_begun, is_given, readied_at}
 use Rattle.script_run.proofs.commands.order.Goals as goal
 

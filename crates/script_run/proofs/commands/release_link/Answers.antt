@@ -5,7 +5,7 @@ use Rattle.std.specs.Result.{IsErrAnd}
 use Rattle.script_container.proofs.Shown.{passed_on}
 use Rattle.script_model.specs.Events.{running}
 use Rattle.script_run.proofs.Held.{held_none, linked_there, release_none}
-use Rattle.script_lines.proofs.Lines.{told_none, told_some}
+use Rattle.script_run.proofs.Lines.{told_none, told_some}
 use Rattle.script_run.proofs.Starting.{linked_runs}
 use Rattle.script_run.proofs.commands.release_link.Goals as goal
 

@@ -1,8 +1,8 @@
 use Rattle.std.proofs.Common.{◌≡◌, ◌∙◌, inr, refl, sym}
 use Rattle.container_model.specs.declared.command.Command.TheVariants as asks
 use Rattle.script_model.specs.Orders.{asked}
-use Rattle.script_lines.proofs.Coursed.{asked_given}
-use Rattle.script_lines.proofs.Lines.{begun_so, commanded_before, commanded_so, raised_so, unraised_so}
+use Rattle.script_run.proofs.Coursed.{asked_given}
+use Rattle.script_run.proofs.Lines.{begun_so, commanded_before, commanded_so, raised_so, unraised_so}
 use Rattle.script_run.proofs.Ordered.{raising_begun, start_begun, started_behind}
 use Rattle.script_run.proofs.commands.start_first.Goals as goal
 

@@ -1,7 +1,7 @@
 use Rattle.std.proofs.Common.{refl}
 use Rattle.doc_store.specs.Opened.{disk_of, needs_reopen_of}
 use Rattle.script_container.proofs.Kept.{read_on_opened}
-use Rattle.script_lines.proofs.Reading.{fault_of, more_of, never_more}
+use Rattle.script_run.proofs.Reading.{fault_of, more_of, never_more}
 use Rattle.script_run.proofs.opens.document_on.Goals as goal
 
 pub returns-in-Ok-clause-read : goal.returns-in-Ok-clause-read

@@ -1,7 +1,7 @@
 use Rattle.std.proofs.Common.{◌≡◌, ◌∙◌, ap, sym}
 use Rattle.script_model.specs.Courses.{Made, course}
-use Rattle.script_lines.proofs.Lines.{refused_then}
-use Rattle.script_lines.proofs.Reading.{made_so, opening_alone}
+use Rattle.script_run.proofs.Lines.{refused_then}
+use Rattle.script_run.proofs.Reading.{made_so, opening_alone}
 use Rattle.script_run.proofs.opens.make_frame.Goals as goal
 
 pub returns-in-Ok-clause-made : goal.returns-in-Ok-clause-made

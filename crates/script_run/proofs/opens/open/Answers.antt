@@ -1,7 +1,7 @@
 use Rattle.std.proofs.Common.{◌∙◌, List, ℕ, ap, sym}
 use Rattle.container_core.specs.Opening.{looked_at}
 use Rattle.script_model.specs.Courses.{course}
-use Rattle.script_lines.proofs.Reading.{may_not, may_tell}
+use Rattle.script_run.proofs.Reading.{may_not, may_tell}
 use Rattle.script_run.proofs.opens.open.Goals as goal
 
 pub returns-in-Ok-clause-first : goal.returns-in-Ok-clause-first

@@ -2,7 +2,7 @@ use Rattle.std.proofs.Common.{◌≡◌, ◌∷◌, ◌∙◌, [], List, ℕ, ap
 use Rattle.std.proofs.lemmas.Result.{IfOk-at_ok}
 use Rattle.script_model.specs.Events.{Shut}
 use Rattle.script_model.specs.Saved.{IsReadOf}
-use Rattle.script_lines.proofs.Reading.{err_same, fault_told, read_told}
+use Rattle.script_run.proofs.Reading.{err_same, fault_told, read_told}
 use Rattle.script_run.proofs.opens.open_disk.Goals as goal
 
 pub returns-in-Ok-clause-first : goal.returns-in-Ok-clause-first

@@ -2,8 +2,8 @@ use Rattle.std.proofs.Common.{◌∙◌, length, refl, sym}
 use Rattle.std.proofs.lemmas.Bool.{eqb-true}
 use Rattle.std.proofs.lemmas.List.{nil_from_length}
 use Rattle.script_model.specs.Courses.{course}
-use Rattle.script_lines.proofs.Reading.{found_made, given_none}
-use Rattle.script_lines.specs.Printed.{bad, void}
+use Rattle.script_run.proofs.Reading.{found_made, given_none}
+use Rattle.script_run.specs.Printed.{bad, void}
 use Rattle.script_run.proofs.opens.open_found.Goals as goal
 
 pub returns-in-Ok-Some-clause-opened : goal.returns-in-Ok-Some-clause-opened

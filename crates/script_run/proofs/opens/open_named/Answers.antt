@@ -1,5 +1,5 @@
 use Rattle.std.proofs.Common.{None, refl}
-use Rattle.script_lines.proofs.Reading.{found_none, none_found, not_found}
+use Rattle.script_run.proofs.Reading.{found_none, none_found, not_found}
 use Rattle.script_run.proofs.opens.open_named.Goals as goal
 
 pub returns-in-Ok-None-clause-first : goal.returns-in-Ok-None-clause-first

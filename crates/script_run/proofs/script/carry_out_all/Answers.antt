@@ -5,11 +5,10 @@ use Rattle.container_model.specs.Record.{Record}
 use Rattle.script_model.specs.Saved.{is_any_unsaved}
 use Rattle.script_links.specs.Links.{is_any_held}
 use Rattle.script_run.proofs.Carried.{last_begun, left_held, so_far_more}
-use Rattle.script_lines.proofs.Faulted.{handed_on}
+use Rattle.script_run.proofs.Faulted.{handed_on}
 use Rattle.script_run.proofs.Held.{some_held}
 use Rattle.script_run.proofs.Settled.{settled_by}
-use Rattle.script_lines.proofs.Written.{lines_held}
-use Rattle.script_run.proofs.Writing.{lines_all, lines_left, lines_more}
+use Rattle.script_run.proofs.Writing.{lines_all, lines_held, lines_left, lines_more}
 use Rattle.std.specs.Result.{IsErrAnd}
 use Rattle.script_run.proofs.script.carry_out_all.Goals as goal
 

@@ -5,7 +5,7 @@ use Rattle.script_links.specs.Links.{AreLinked, AreServed}
 use Rattle.script_links.specs.Shown.{AreQuiet}
 use Rattle.script_links.specs.Told.{IsTold}
 use Rattle.script_run.proofs.Carried.{SoFar}
-use Rattle.script_lines.specs.Printed.{HasLines}
+use Rattle.script_run.specs.Printed.{HasLines}
 use Rattle.script_run.proofs.script.carry_out_all.Given as goal
 
 abbrev pub invariant-loop-place : goal.invariant-loop-place

@@ -2,9 +2,9 @@ use Rattle.std.proofs.Common.{◌≡◌, ap, false}
 use Rattle.container_model.specs.Record.{Record}
 use Rattle.script_model.specs.Errors.{before_ends, is_asked}
 use Rattle.script_model.specs.Saved.{is_any_unsaved}
-use Rattle.script_lines.proofs.Faulted.{ended_so, unread_so}
+use Rattle.script_run.proofs.Faulted.{ended_so, unread_so}
 use Rattle.script_run.proofs.Settled.{settled_still}
-use Rattle.script_lines.proofs.Written.{all_ended, of_commands, some_ended, unread_none}
+use Rattle.script_run.proofs.Writing.{all_ended, of_commands, some_ended, unread_none}
 use Rattle.script_run.proofs.script.run_script.Goals as goal
 
 pub returns-in-Err-clause-faulted : goal.returns-in-Err-clause-faulted

@@ -28,7 +28,7 @@ use Rattle.script_model.specs.declared.answer.Told.TheVariants as told
 use Rattle.script_model.specs.declared.command.ScriptCommand.{ScriptCommand}
 use Rattle.script_model.specs.declared.command.ScriptCommand.TheVariants as script
 use Rattle.script_model.specs.declared.step.Step.TheVariants as step
-use Rattle.script_lines.specs.Printed.{HasLine, IfBegun, IsBeginning, IsBegunWith, IsCut, IsFirst, IsFirstOf, IsLine, IsOpenTold, IsShown, told_of_server}
+use Rattle.script_run.specs.Printed.{HasLine, IfBegun, IsBeginning, IsBegunWith, IsCut, IsFirst, IsFirstOf, IsLine, IsOpenTold, IsShown, told_of_server}
 
 -- ---- results
 

@@ -6,7 +6,7 @@ use Rattle.store_model.specs.declared.disk.Disk.{Ghosts as Disks}
 use Rattle.store_model.specs.declared.fault.StoreFault.{StoreFault}
 use Rattle.script_container.specs.declared.fault.ScriptFault.{ScriptFault}
 use Rattle.script_container.specs.declared.fault.ScriptFault.TheVariants as fault
-use Rattle.script_container.specs.Shown.{Shows}
+use Rattle.script_links.specs.Shown.{Shows}
 use Rattle.script_model.specs.declared.command.ScriptCommand.{ScriptCommand}
 use Rattle.script_model.specs.Bounds.{MOST_TURNS, Pace, pace}
 use Rattle.script_model.specs.Containers.{Given, given_by}
@@ -15,7 +15,7 @@ use Rattle.script_model.specs.Events.{Event, Started, Connected, Sent, Heard, En
 use Rattle.script_model.specs.Orders.{orders}
 use Rattle.script_model.specs.Saved.{is_any_unsaved}
 use Rattle.script_texts.specs.Commands.{commands_read}
-use Rattle.script_lines.specs.Faulted.{IsFaultOf, IsHeldToTheEnd, RefusesScript, ShowsOf}
+use Rattle.script_run.specs.Faulted.{IsFaultOf, IsHeldToTheEnd, RefusesScript, ShowsOf}
 
 -- ---- without the last ends
 

@@ -21,8 +21,8 @@ use Rattle.script_model.specs.Saved.{IsReadFrom, IsReadOf}
 use Rattle.script_model.specs.declared.answer.Told.{Told}
 use Rattle.script_model.specs.declared.answer.Told.TheVariants as told
 use Rattle.script_model.specs.declared.step.Step.TheVariants as step
-use Rattle.script_lines.proofs.Lines.{ok_then}
-use Rattle.script_lines.specs.Printed.{HoldsMore, IsJustFound, IsOpenTold, IsOpenedBy, IsUnread, bad, broken, empty, large, looked, made, refused, void}
+use Rattle.script_run.proofs.Lines.{ok_then}
+use Rattle.script_run.specs.Printed.{HoldsMore, IsJustFound, IsOpenTold, IsOpenedBy, IsUnread, bad, broken, empty, large, looked, made, refused, void}
 
 -- ---- frames
 

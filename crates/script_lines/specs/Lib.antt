@@ -1,2 +1,0 @@
-pub mod Faulted
-pub mod Printed
