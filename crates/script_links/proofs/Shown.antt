@@ -10,7 +10,7 @@ use Rattle.script_model.specs.Bounds.{pace}
 use Rattle.script_model.specs.Errors.{IsUnanswered, asks, is_asked}
 use Rattle.script_model.specs.Events.{Event}
 use Rattle.script_container.specs.Told.{IsTold}
-use Rattle.script_links.specs.Links.{AreHeld, AreLinked, HoldFor, links_of}
+use Rattle.script_links.specs.Links.{AreLinked, HoldFor, links_of}
 use Rattle.script_links.specs.Ready.{AreDue}
 use Rattle.script_links.specs.Shown.{AreAsked, AreQuiet, has_free, is_any_awaited, is_awaited, is_awaited_of, pending_of}
 use Rattle.script_links.specs.declared.links.Link.{Link}
@@ -117,19 +117,3 @@ hold_removed f (x ∷ xs) (suc place) hold = (hold.0, hold_removed f xs place ho
 
 pub hold_without : (f : ℕ → Bool) (ls new : List Link) (place : ℕ) → new ≡ remove ls place → HoldFor f ls → HoldFor f new
 hold_without f ls new place is hold = subst (λ (all : List Link). HoldFor f all) (sym is) (hold_removed f ls place hold)
-
--- ---- just what is held
-
-pub held_set : (f : ℕ → Bool) (ls : List Link) (place : ℕ) (l d : Link) → place < length ls → l.inc ≡ (slice_index_or ls place d).inc → l.held ≡ (slice_index_or ls place d).held → AreHeld f ls → AreHeld f (slice_set ls place l)
-held_set f [] place l d within inc held all = all
-held_set f (x ∷ xs) zero l d within inc held all = (held ∙ all.0 ∙ ap f (sym inc), all.1)
-held_set f (x ∷ xs) (suc place) l d within inc held all = (all.0, held_set f xs place l d (omega (arith, within)) inc held all.1)
-
-held_removed : (f : ℕ → Bool) (ls : List Link) (place : ℕ) → AreHeld f ls → AreHeld f (remove ls place)
-held_removed f [] zero all = all
-held_removed f [] (suc place) all = all
-held_removed f (x ∷ xs) zero all = all.1
-held_removed f (x ∷ xs) (suc place) all = (all.0, held_removed f xs place all.1)
-
-pub held_without : (f : ℕ → Bool) (ls new : List Link) (place : ℕ) → new ≡ remove ls place → AreHeld f ls → AreHeld f new
-held_without f ls new place is all = subst (λ (now : List Link). AreHeld f now) (sym is) (held_removed f ls place all)

@@ -43,10 +43,6 @@ AreServed es ls = EachServed (λ s. passed s es) ls
 abbrev pub HoldFor : (ℕ → Bool) → List Link → Type 0
 HoldFor f ls = AllByRecursion (λ (l : Link). l.held ≡ true → f l.inc ≡ true) ls
 
--- Just the links of those servers hold what comes of which this is true.
-abbrev pub AreHeld : (ℕ → Bool) → List Link → Type 0
-AreHeld f ls = AllByRecursion (λ (l : Link). l.held ≡ f l.inc) ls
-
 -- whether one of these links is held
 abbrev pub is_any_held : List Link → Bool
 is_any_held [] = false

@@ -12,7 +12,7 @@ ghost use Rattle.script_model.specs.Saved.{AreOpened, AreSaved};
 ghost use Rattle.script_model.specs.Turns.{AreTurns};
 ghost use Rattle.script_container.specs.Shown.{Shows};
 ghost use Rattle.script_container.specs.Told.{IsTold};
-ghost use Rattle.script_links.specs.Links.{AreHeld, AreLinked, AreServed, HoldFor};
+ghost use Rattle.script_links.specs.Links.{AreLinked, AreServed, HoldFor};
 ghost use Rattle.script_links.specs.Ready.{AreDue, AreReady, HaveHad, IsUnderway};
 ghost use Rattle.script_links.specs.Shown.{AreQuiet, has_free, is_any_awaited, is_awaited, is_free_of, pending_of};
 ghost use Rattle.std.specs.Prelude.{◌≡◌, ◌+◌, ◌<◌, ◌≤◌, Bool, IfErr, OnOk, length, remove, true, ℕ};
@@ -56,7 +56,6 @@ pub fn end_at<H: Host>(
     ensures seen { OnOk result (Tells (notices (H.told host.new)) noticed.new) }
     ensures shown { IfErr result (λ fault. Shows ⟦<H::Disk as Disk>⟧ (H.told host.new) fault) }
     ensures holding { (f : ℕ → Bool) → HoldFor f links.old.items → HoldFor f links.new.items }
-    ensures held { (f : ℕ → Bool) → AreHeld f links.old.items → AreHeld f links.new.items }
 {
     let link = links.remove(place);
     host.end(link.inc);
@@ -173,7 +172,6 @@ fn serve_at<H: Host>(
     ensures anew { OnOk result ((s : ℕ) → (pace s (H.told host.old)).links ≤ (pace s (H.told host.new)).links) }
     ensures shown { IfErr result (λ fault. Shows ⟦<H::Disk as Disk>⟧ (H.told host.new) fault) }
     ensures holding { (f : ℕ → Bool) → HoldFor f links.old.items → HoldFor f links.new.items }
-    ensures held { (f : ℕ → Bool) → AreHeld f links.old.items → AreHeld f links.new.items }
     ensures due { (n : ℕ) → HaveHad n (H.told host.old) links.old.items place → OnOk result (HaveHad n (H.told host.new) links.new.items (place + 1)) }
 {
     serve(alloc, host, core, &mut links[place], noticed)
@@ -201,7 +199,6 @@ fn turn<H: Host>(
     ensures anew { OnOk result ((s : ℕ) → (pace s (H.told host.old)).links ≤ (pace s (H.told host.new)).links) }
     ensures shown { IfErr result (λ fault. Shows ⟦<H::Disk as Disk>⟧ (H.told host.new) fault) }
     ensures holding { (f : ℕ → Bool) → HoldFor f links.old.items → HoldFor f links.new.items }
-    ensures held { (f : ℕ → Bool) → AreHeld f links.old.items → AreHeld f links.new.items }
     ensures due { (n : ℕ) → AreDue n (H.told host.old) links.old.items → OnOk result (AreDue (n + 1) (H.told host.new) links.new.items) }
 {
     let mut place = 0;
@@ -239,7 +236,6 @@ pub fn turns<H: Host>(
     ensures anew { OnOk result ((s : ℕ) → (pace s (H.told host.old)).links ≤ (pace s (H.told host.new)).links) }
     ensures shown { IfErr result (λ fault. Shows ⟦<H::Disk as Disk>⟧ (H.told host.new) fault) }
     ensures holding { (f : ℕ → Bool) → HoldFor f links.old.items → HoldFor f links.new.items }
-    ensures held { (f : ℕ → Bool) → AreHeld f links.old.items → AreHeld f links.new.items }
 {
     for done in 0..MOST_TURNS {
         if !is_pending(core, links) {

@@ -6,10 +6,9 @@ use Rattle.script_model.specs.Bounds.{pace}
 use Rattle.script_model.specs.Errors.{behind_hold, is_held}
 use Rattle.script_model.specs.Events.{Event, running}
 use Rattle.std.specs.Prelude.{◌&&◌, ◌||◌, not}
-use Rattle.script_links.specs.Links.{AreHeld, AreLinked, HoldFor, IsLinkAt, is_any_held, links_of}
+use Rattle.script_links.specs.Links.{AreLinked, HoldFor, IsLinkAt, is_any_held, links_of}
 use Rattle.script_links.specs.Shown.{has_free}
 use Rattle.script_links.specs.declared.links.Link.{Link}
-use Rattle.script_run.specs.Holding.{Holds}
 use Rattle.script_links.proofs.Paces.{any_at}
 use Rattle.script_links.proofs.Shown.{linked_at}
 
@@ -159,49 +158,6 @@ let_go_holds f es ls new place inc l within at single linked set hold =
     subst (λ (now : List Link). HoldFor (λ s. if inc == s then false else f s) now) (sym set)
     (release_this f inc ls place (record (slice_index_or ls place l) { held = false; waiting = [] }) l within same refl (omega (arith, few, all)) hold)
 
--- ---- just what is held
-
-is_there : (t b c : Bool) → t ≡ true → (if t then b else c) ≡ b
-is_there true b c this = refl
-is_there false b c this = absurd (cc)
-
-not_there : (t b c : Bool) → (t ≡ true → ⊥) → (if t then b else c) ≡ c
-not_there true b c never = absurd (never refl)
-not_there false b c never = refl
-
--- a server without a link is held, or is not
-pub held_none : (f : ℕ → Bool) (held : Bool) (inc : ℕ) (ls : List Link) → links_of inc ls ≡ 0 → AreHeld f ls → AreHeld (λ s. if inc == s then held else f s) ls
-held_none f held inc [] none all = tt
-held_none f held inc (x ∷ xs) none all = (
-  all.0 ∙ sym (not_there (inc == x.inc) held (f x.inc) (λ same. some_here (x.inc == inc) (links_of inc xs) (turned inc x.inc same) none)),
-  held_none f held inc xs (none_less (x.inc == inc) (links_of inc xs) none) all.1,
-)
-
--- the one link of a server is held, or is not
-pub held_this : (f : ℕ → Bool) (held : Bool) (inc : ℕ) (ls : List Link) (place : ℕ) (l d : Link) → place < length ls → (slice_index_or ls place d).inc ≡ inc → l.inc ≡ inc → l.held ≡ held → links_of inc ls ≤ 1 → AreHeld f ls
-    → AreHeld (λ s. if inc == s then held else f s) (slice_set ls place l)
-held_this f held inc [] place l d within at same is few all = absurd (omega (arith, within))
-held_this f held inc (x ∷ xs) zero l d within at same is few all = (
-  is ∙ sym (is_there (inc == l.inc) held (f l.inc) (eq-eqb inc l.inc (sym same))),
-  held_none f held inc xs (none_besides (x.inc == inc) (links_of inc xs) (eq-eqb x.inc inc at) few) all.1,
-)
-held_this f held inc (x ∷ xs) (suc place) l d within at same is few all =
-    let inside : place < length xs = omega (arith, within) in (
-      all.0 ∙ sym (not_there (inc == x.inc) held (f x.inc) (λ this. one_alone (x.inc == inc) (links_of inc xs) (turned inc x.inc this) few (linked_at inc xs place d inside at))),
-      held_this f held inc xs place l d inside at same is (fewer (x.inc == inc) (links_of inc xs) few) all.1,
-    )
-
--- a server has one link at most
-pub one_link : {D : Type 0} (es : List (Event D)) (ls : List Link) (inc : ℕ) → ((s : ℕ) → running s es ≤ 1) → AreLinked es ls → links_of inc ls ≤ 1
-one_link es ls inc single linked = let few = single inc in let all = linked inc in omega (arith, few, all)
-
-pub let_go_held : {D : Type 0} (f : ℕ → Bool) (es : List (Event D)) (ls new : List Link) (place inc : ℕ) (l : Link) → place < length ls → IsLinkAt ls place inc → ((s : ℕ) → running s es ≤ 1) → AreLinked es ls
-    → new ≡ slice_set ls place (record (slice_index_or ls place l) { held = false; waiting = [] }) → AreHeld f ls → AreHeld (λ s. if inc == s then false else f s) new
-let_go_held f es ls new place inc l within at single linked set all =
-    let same : (slice_index_or ls place l).inc ≡ inc = ap (λ (x : Link). x.inc) (any_at ls place l at.link within ∙ sym at.stands) ∙ at.server in
-    subst (λ (now : List Link). AreHeld (λ s. if inc == s then false else f s) now) (sym set)
-    (held_this f false inc ls place (record (slice_index_or ls place l) { held = false; waiting = [] }) l within same same refl (one_link es ls inc single linked) all)
-
 -- ---- commands
 
 -- what is held behind one command more
@@ -215,10 +171,3 @@ hold_more front c ls hold = hold_weaker (λ s. behind_hold c s (is_held s front 
 -- the command that it is
 pub as_command : (f : ℕ → Bool) (c is_it : ScriptCommand) (ls : List Link) → is_it ≡ c → HoldFor (λ s. behind_hold c s (f s)) ls → HoldFor (λ s. behind_hold is_it s (f s)) ls
 as_command f c is_it ls is hold = subst (λ (x : ScriptCommand). HoldFor (λ s. behind_hold x s (f s)) ls) (sym is) hold
-
-pub held_command : (f : ℕ → Bool) (c is_it : ScriptCommand) (ls : List Link) → is_it ≡ c → AreHeld (λ s. behind_hold c s (f s)) ls → AreHeld (λ s. behind_hold is_it s (f s)) ls
-held_command f c is_it ls is all = subst (λ (x : ScriptCommand). AreHeld (λ s. behind_hold x s (f s)) ls) (sym is) all
-
--- a command that neither holds nor releases
-pub no_holding : (c is_it : ScriptCommand) (P : Type 0) → is_it ≡ c → (Holds c → ⊥) → Holds is_it → P
-no_holding c is_it P is never holds = absurd (never (subst Holds is holds))

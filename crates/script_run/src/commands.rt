@@ -16,11 +16,10 @@ ghost use Rattle.script_model.specs.Origins.{AreNext, Passed, giving, passed};
 ghost use Rattle.script_model.specs.Saved.{is_any_unsaved};
 ghost use Rattle.script_model.specs.declared.command.ScriptCommand.TheVariants as script;
 ghost use Rattle.script_model.specs.declared.step.Step.{Step};
-ghost use Rattle.script_links.specs.Links.{AreHeld, AreLinked, AreServed, EachServed, HoldFor, IsLinkAt, beside, links_of};
+ghost use Rattle.script_links.specs.Links.{AreLinked, AreServed, EachServed, HoldFor, IsLinkAt, beside, links_of};
 ghost use Rattle.script_links.specs.Ready.{AreReady, MayLink, pace_beside};
 ghost use Rattle.script_links.specs.Shown.{AreQuiet, Shows};
 ghost use Rattle.script_links.specs.Told.{IsTold};
-ghost use Rattle.script_run.specs.Holding.{Holds};
 ghost use Rattle.script_run.specs.Printed.{HasLine, IsBeginning, IsBegunWith, IsCut, IsShown, told_of_server};
 ghost use Rattle.script_run.specs.Starts.{AreIn};
 ghost use Rattle.script_container.specs.declared.fault.ScriptFault.TheVariants.{NoMemory, Unwritable};
@@ -519,7 +518,6 @@ fn release<H: Host>(
     ensures seen { OnOk result (Tells (notices (H.told host.new)) noticed.new) }
     ensures shown { IfErr result (λ fault. Shows ⟦<H::Disk as Disk>⟧ (H.told host.new) fault) }
     ensures holding { (f : ℕ → Bool) (inc : ℕ) → IsLinkAt links.old.items place inc → HoldFor f links.old.items → HoldFor (λ s. behind_hold (script.Release inc) s (f s)) links.new.items }
-    ensures held { (f : ℕ → Bool) (inc : ℕ) → IsLinkAt links.old.items place inc → AreHeld f links.old.items → AreHeld (λ s. behind_hold (script.Release inc) s (f s)) links.new.items }
 {
     let inc = links[place].inc;
     let waiting = let_go(alloc, links, place);
@@ -535,7 +533,6 @@ fn hold(links: &mut Vec<Link>, place: usize)
     ensures same { (s : ℕ) → links_of s links.new.items ≡ links_of s links.old.items }
     ensures served { (f : ℕ → Passed) → EachServed f links.old.items → EachServed f links.new.items }
     ensures holding { (f : ℕ → Bool) (inc : ℕ) → IsLinkAt links.old.items place inc → HoldFor f links.old.items → HoldFor (λ s. behind_hold (script.Hold inc) s (f s)) links.new.items }
-    ensures held { (f : ℕ → Bool) (inc : ℕ) → links_of inc links.old.items ≤ 1 → IsLinkAt links.old.items place inc → AreHeld f links.old.items → AreHeld (λ s. behind_hold (script.Hold inc) s (f s)) links.new.items }
 {
     links[place].held = true;
 }
@@ -594,7 +591,6 @@ fn release_link<H: Host>(
     ensures seen { OnOk result (Tells (notices (H.told host.new)) noticed.new) }
     ensures shown { IfErr result (λ fault. Shows ⟦<H::Disk as Disk>⟧ (H.told host.new) fault) }
     ensures holding { (f : ℕ → Bool) → HoldFor f links.old.items → HoldFor (λ s. behind_hold (script.Release inc) s (f s)) links.new.items }
-    ensures held { (f : ℕ → Bool) → AreHeld f links.old.items → AreHeld (λ s. behind_hold (script.Release inc) s (f s)) links.new.items }
 {
     let Some(place) = place_of(links, inc) else {
         return Ok(Told::Fault(ContainerFault::NoSuch));
@@ -609,7 +605,6 @@ fn hold_link(links: &mut Vec<Link>, inc: u32) -> Told
     ensures same { (s : ℕ) → links_of s links.new.items ≡ links_of s links.old.items }
     ensures served { (f : ℕ → Passed) → EachServed f links.old.items → EachServed f links.new.items }
     ensures holding { (f : ℕ → Bool) → HoldFor f links.old.items → HoldFor (λ s. behind_hold (script.Hold inc) s (f s)) links.new.items }
-    ensures held { (f : ℕ → Bool) → links_of inc links.old.items ≤ 1 → AreHeld f links.old.items → AreHeld (λ s. behind_hold (script.Hold inc) s (f s)) links.new.items }
 {
     let Some(place) = place_of(links, inc) else {
         return Told::Fault(ContainerFault::NoSuch);
@@ -664,7 +659,6 @@ fn begin<H: Host>(
     ensures seen { OnOk result (Tells (notices (H.told host.new)) noticed.new) }
     ensures shown { IfErr result (λ fault. Shows ⟦<H::Disk as Disk>⟧ (H.told host.new) fault) }
     ensures holding { (f : ℕ → Bool) → HoldFor f links.old.items → HoldFor (λ s. behind_hold command s (f s)) links.new.items }
-    ensures held { (f : ℕ → Bool) → Holds command → AreHeld f links.old.items → AreHeld (λ s. behind_hold command s (f s)) links.new.items }
 {
     match command {
         ScriptCommand::Container(ordered) => order(alloc, host, core, links, ordered, noticed),
@@ -704,7 +698,6 @@ pub(crate) fn carry_out<H: Host, W: Write>(
     ensures unwritten { IfErr result (λ fault. fault ≢ Unwritable → W.contents writer.new ≡ W.contents writer.old) }
     ensures shown { IfErr result (λ fault. Shows ⟦<H::Disk as Disk>⟧ (H.told host.new) fault) }
     ensures holding { (f : ℕ → Bool) → HoldFor f links.old.items → HoldFor (λ s. behind_hold command s (f s)) links.new.items }
-    ensures held { (f : ℕ → Bool) → Holds command → AreHeld f links.old.items → AreHeld (λ s. behind_hold command s (f s)) links.new.items }
 {
     let mut noticed = None;
     let mut text = Vec::new(alloc);

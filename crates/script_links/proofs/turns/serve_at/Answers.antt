@@ -4,7 +4,7 @@ use Rattle.std.proofs.lemmas.Result.{on_ok_weaker}
 use Rattle.script_links.proofs.Linked.{same_links}
 use Rattle.script_links.proofs.Paces.{had_on, is_next, links_on, single_linked, turn_goes_on}
 use Rattle.script_links.proofs.Served.{placed_served}
-use Rattle.script_links.proofs.Shown.{held_set, hold_set}
+use Rattle.script_links.proofs.Shown.{hold_set}
 use Rattle.script_links.proofs.turns.serve_at.Goals as goal
 
 pub returns-clause-linked : goal.returns-clause-linked
@@ -43,11 +43,6 @@ pub returns-clause-holding : goal.returns-clause-holding
 returns-clause-holding g c = λ f hold.
     hold_set f c.args.links.now.items c.args.place c.serve.new.link c.index_mut.result.now c.requires.within (c.serve.ensures.same ∙ ap (λ (l : Link). l.inc) c.index_mut.ensures.value)
     (c.serve.ensures.holding ∙ ap (λ (l : Link). l.held) c.index_mut.ensures.value) hold
-
-pub returns-clause-held : goal.returns-clause-held
-returns-clause-held g c = λ f all.
-    held_set f c.args.links.now.items c.args.place c.serve.new.link c.index_mut.result.now c.requires.within (c.serve.ensures.same ∙ ap (λ (l : Link). l.inc) c.index_mut.ensures.value)
-    (c.serve.ensures.holding ∙ ap (λ (l : Link). l.held) c.index_mut.ensures.value) all
 
 pub returns-clause-anew : goal.returns-clause-anew
 returns-clause-anew g c =

@@ -11,7 +11,6 @@ loop-place-preserved-then-branch g c = record {
   served = c.in_ok-serve_at.ensures.served;
   each = λ n ready. c.in_ok-serve_at.ensures.ready n (c.loop-place.invariant.each n ready);
   holding = λ f hold. c.serve_at.ensures.holding f (c.loop-place.invariant.holding f hold);
-  held = λ f hold. c.serve_at.ensures.held f (c.loop-place.invariant.held f hold);
   due = λ n due. c.in_ok-serve_at.ensures.due n (c.loop-place.invariant.due n due);
   ordered = c.serve_at.ensures.ordered ∙ c.loop-place.invariant.ordered;
   seen = c.in_ok-serve_at.ensures.seen;
@@ -32,7 +31,6 @@ loop-place-preserved g c =
           turn_without n (g.H.Host.told c.serve_at.new.host) (g.H.Host.told c.end_at.new.host) c.serve_at.new.links.items c.loop-place.place within c.end_at.new.links.items c.end_at.ensures.rest c.end_at.ensures.paced
           (c.in_ok-serve_at.ensures.ready n (c.loop-place.invariant.each n ready));
       holding = λ f hold. c.end_at.ensures.holding f (c.serve_at.ensures.holding f (c.loop-place.invariant.holding f hold));
-      held = λ f hold. c.end_at.ensures.held f (c.serve_at.ensures.held f (c.loop-place.invariant.held f hold));
       due = λ n due.
           had_without n (g.H.Host.told c.serve_at.new.host) (g.H.Host.told c.end_at.new.host) c.serve_at.new.links.items c.loop-place.place within c.end_at.new.links.items c.end_at.ensures.rest c.end_at.ensures.paced
           (c.in_ok-serve_at.ensures.due n (c.loop-place.invariant.due n due));
@@ -65,11 +63,5 @@ returns-in_err-end_at-clause-shown g c =
 pub returns-in_err-serve_at-clause-holding : goal.returns-in_err-serve_at-clause-holding
 returns-in_err-serve_at-clause-holding g c = λ f hold. c.serve_at.ensures.holding f (c.loop-place.invariant.holding f hold)
 
-pub returns-in_err-serve_at-clause-held : goal.returns-in_err-serve_at-clause-held
-returns-in_err-serve_at-clause-held g c = λ f hold. c.serve_at.ensures.held f (c.loop-place.invariant.held f hold)
-
 pub returns-in_err-end_at-clause-holding : goal.returns-in_err-end_at-clause-holding
 returns-in_err-end_at-clause-holding g c = λ f hold. c.end_at.ensures.holding f (c.serve_at.ensures.holding f (c.loop-place.invariant.holding f hold))
-
-pub returns-in_err-end_at-clause-held : goal.returns-in_err-end_at-clause-held
-returns-in_err-end_at-clause-held g c = λ f hold. c.end_at.ensures.held f (c.serve_at.ensures.held f (c.loop-place.invariant.held f hold))

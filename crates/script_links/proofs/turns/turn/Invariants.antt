@@ -2,7 +2,7 @@ use Rattle.std.proofs.Common.{length, ◌≡◌, ◌≤◌, ◌-◌, Bool, ℕ}
 use Rattle.script_model.specs.Bounds.{pace}
 use Rattle.script_model.specs.Courses.{course}
 use Rattle.script_model.specs.Notices.{Tells, notices}
-use Rattle.script_links.specs.Links.{AreHeld, AreLinked, AreServed, HoldFor}
+use Rattle.script_links.specs.Links.{AreLinked, AreServed, HoldFor}
 use Rattle.script_links.specs.Ready.{AreDue, AreReady, HaveHad, IsUnderway}
 use Rattle.script_container.specs.Told.{IsTold}
 use Rattle.script_links.proofs.turns.turn.Given as goal
@@ -14,7 +14,6 @@ invariant-loop-place g l = record {
   served : AreServed (g.H.Host.told l.host) l.links.items;
   each : (n : ℕ) → AreReady n (g.H.Host.told l.fn.host) l.fn.links.items → IsUnderway n (g.H.Host.told l.host) l.links.items l.place;
   holding : (f : ℕ → Bool) → HoldFor f l.fn.links.items → HoldFor f l.links.items;
-  held : (f : ℕ → Bool) → AreHeld f l.fn.links.items → AreHeld f l.links.items;
   due : (n : ℕ) → AreDue n (g.H.Host.told l.fn.host) l.fn.links.items → HaveHad n (g.H.Host.told l.host) l.links.items l.place;
   ordered : course (g.H.Host.told l.host) ≡ course (g.H.Host.told l.fn.host);
   seen : Tells (notices (g.H.Host.told l.host)) l.noticed;

@@ -13,7 +13,6 @@ loop-done-preserved g c = record {
   served = c.in_ok-turn.ensures.served;
   ready = c.in_ok-turn.ensures.ready (c.loop-done.done + 1) c.loop-done.invariant.ready;
   holding = λ f hold. c.turn.ensures.holding f (c.loop-done.invariant.holding f hold);
-  held = λ f hold. c.turn.ensures.held f (c.loop-done.invariant.held f hold);
   due = c.in_ok-turn.ensures.due (c.loop-done.done + 1) c.loop-done.invariant.due;
   ordered = c.turn.ensures.ordered ∙ c.loop-done.invariant.ordered;
   seen = c.in_ok-turn.ensures.seen;
@@ -36,9 +35,6 @@ returns-then-is_pending-clause-shown g c =
 
 pub returns-in_err-turn-clause-holding : goal.returns-in_err-turn-clause-holding
 returns-in_err-turn-clause-holding g c = λ f hold. c.turn.ensures.holding f (c.loop-done.invariant.holding f hold)
-
-pub returns-in_err-turn-clause-held : goal.returns-in_err-turn-clause-held
-returns-in_err-turn-clause-held g c = λ f hold. c.turn.ensures.held f (c.loop-done.invariant.held f hold)
 
 pub returns-then-not-is_pending-clause-quiet : goal.returns-then-not-is_pending-clause-quiet
 returns-then-not-is_pending-clause-quiet g c =

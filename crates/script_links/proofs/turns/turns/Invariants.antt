@@ -2,7 +2,7 @@ use Rattle.std.proofs.Common.{◌≡◌, ◌≤◌, ◌+◌, Bool, ℕ}
 use Rattle.script_model.specs.Bounds.{pace}
 use Rattle.script_model.specs.Courses.{course}
 use Rattle.script_model.specs.Notices.{Tells, notices}
-use Rattle.script_links.specs.Links.{AreHeld, AreLinked, AreServed, HoldFor}
+use Rattle.script_links.specs.Links.{AreLinked, AreServed, HoldFor}
 use Rattle.script_links.specs.Ready.{AreDue, AreReady}
 use Rattle.script_container.specs.Told.{IsTold}
 use Rattle.script_links.proofs.turns.turns.Given as goal
@@ -14,7 +14,6 @@ invariant-loop-done g l = record {
   served : AreServed (g.H.Host.told l.host) l.links.items;
   ready : AreReady (l.done + 1) (g.H.Host.told l.host) l.links.items;
   holding : (f : ℕ → Bool) → HoldFor f l.fn.links.items → HoldFor f l.links.items;
-  held : (f : ℕ → Bool) → AreHeld f l.fn.links.items → AreHeld f l.links.items;
   due : AreDue (l.done + 1) (g.H.Host.told l.host) l.links.items;
   ordered : course (g.H.Host.told l.host) ≡ course (g.H.Host.told l.fn.host);
   seen : Tells (notices (g.H.Host.told l.host)) l.noticed;

@@ -15,7 +15,7 @@ use Rattle.script_model.specs.Origins.{passed}
 use Rattle.script_model.specs.declared.command.ScriptCommand.{ScriptCommand}
 use Rattle.script_model.specs.declared.command.ScriptCommand.TheVariants as script
 use Rattle.script_run.proofs.Coursed.{asked_but_opening, asked_same, begun_but_opening, begun_same}
-use Rattle.script_run.proofs.Held.{as_command, held_command, no_holding, one_link}
+use Rattle.script_run.proofs.Held.{as_command}
 use Rattle.script_run.proofs.Lines.{begins_idle, begins_unasked, begun_by, begun_screen, begun_with, ran_begun, record_begun}
 use Rattle.script_run.proofs.Ordered.{as_begun, as_ordered, none_begun, none_ordered}
 use Rattle.script_run.specs.Printed.{IsCut, IsOpenTold, told_of_server}
@@ -50,38 +50,20 @@ returns-in-Screen-clause-shown g c = memory_shown g.H.Disk.Disk c.show.result (g
 pub returns-in-Container-clause-holding : goal.returns-in-Container-clause-holding
 returns-in-Container-clause-holding g c = λ f hold. as_command f _ c.args.command c.order.new.links.items c.in-Container.is (c.order.ensures.holding f hold)
 
-pub returns-in-Container-clause-held : goal.returns-in-Container-clause-held
-returns-in-Container-clause-held g c = λ f holds all. no_holding _ c.args.command _ c.in-Container.is (λ never. never) holds
-
 pub returns-in-Cut-clause-holding : goal.returns-in-Cut-clause-holding
 returns-in-Cut-clause-holding g c = λ f hold. as_command f _ c.args.command c.cut_link.new.links.items c.in-Cut.is (c.cut_link.ensures.holding f hold)
-
-pub returns-in-Cut-clause-held : goal.returns-in-Cut-clause-held
-returns-in-Cut-clause-held g c = λ f holds all. no_holding _ c.args.command _ c.in-Cut.is (λ never. never) holds
 
 pub returns-in-Hold-clause-holding : goal.returns-in-Hold-clause-holding
 returns-in-Hold-clause-holding g c = λ f hold. as_command f _ c.args.command c.hold_link.new.links.items c.in-Hold.is (c.hold_link.ensures.holding f hold)
 
-pub returns-in-Hold-clause-held : goal.returns-in-Hold-clause-held
-returns-in-Hold-clause-held g c = λ f holds all. held_command f _ c.args.command c.hold_link.new.links.items c.in-Hold.is (c.hold_link.ensures.held f (one_link (g.H.Host.told c.args.host.now) c.args.links.now.items c.in-Hold.inc c.requires.told.single c.requires.linked) all)
-
 pub returns-in-Release-clause-holding : goal.returns-in-Release-clause-holding
 returns-in-Release-clause-holding g c = λ f hold. as_command f _ c.args.command c.release_link.new.links.items c.in-Release.is (c.release_link.ensures.holding f hold)
-
-pub returns-in-Release-clause-held : goal.returns-in-Release-clause-held
-returns-in-Release-clause-held g c = λ f holds all. held_command f _ c.args.command c.release_link.new.links.items c.in-Release.is (c.release_link.ensures.held f all)
 
 pub returns-in-Open-clause-holding : goal.returns-in-Open-clause-holding
 returns-in-Open-clause-holding g c = λ f hold. as_command f _ c.args.command c.args.links.now.items c.in-Open.is hold
 
-pub returns-in-Open-clause-held : goal.returns-in-Open-clause-held
-returns-in-Open-clause-held g c = λ f holds all. no_holding _ c.args.command _ c.in-Open.is (λ never. never) holds
-
 pub returns-in-Screen-clause-holding : goal.returns-in-Screen-clause-holding
 returns-in-Screen-clause-holding g c = λ f hold. as_command f _ c.args.command c.args.links.now.items c.in-Screen.is hold
-
-pub returns-in-Screen-clause-held : goal.returns-in-Screen-clause-held
-returns-in-Screen-clause-held g c = λ f holds all. no_holding _ c.args.command _ c.in-Screen.is (λ never. never) holds
 
 pub returns-in-Container-clause-ordered : goal.returns-in-Container-clause-ordered
 returns-in-Container-clause-ordered g c =

@@ -29,35 +29,20 @@ returns-in_err-push_told-clause-shown g c = memory_on g.H.Disk.Disk c.from_resid
 pub returns-in_err-turns-clause-holding : goal.returns-in_err-turns-clause-holding
 returns-in_err-turns-clause-holding g c = λ f hold. c.turns.ensures.holding (λ s. behind_hold c.args.command s (f s)) (c.begin.ensures.holding f hold)
 
-pub returns-in_err-turns-clause-held : goal.returns-in_err-turns-clause-held
-returns-in_err-turns-clause-held g c = λ f holds all. c.turns.ensures.held (λ s. behind_hold c.args.command s (f s)) (c.begin.ensures.held f holds all)
-
 pub returns-in_err-push_told-clause-holding : goal.returns-in_err-push_told-clause-holding
 returns-in_err-push_told-clause-holding g c = λ f hold. c.turns.ensures.holding (λ s. behind_hold c.args.command s (f s)) (c.begin.ensures.holding f hold)
-
-pub returns-in_err-push_told-clause-held : goal.returns-in_err-push_told-clause-held
-returns-in_err-push_told-clause-held g c = λ f holds all. c.turns.ensures.held (λ s. behind_hold c.args.command s (f s)) (c.begin.ensures.held f holds all)
 
 pub returns-in-Ok-clause-holding : goal.returns-in-Ok-clause-holding
 returns-in-Ok-clause-holding g c = λ f hold. c.turns.ensures.holding (λ s. behind_hold c.args.command s (f s)) (c.begin.ensures.holding f hold)
 
-pub returns-in-Ok-clause-held : goal.returns-in-Ok-clause-held
-returns-in-Ok-clause-held g c = λ f holds all. c.turns.ensures.held (λ s. behind_hold c.args.command s (f s)) (c.begin.ensures.held f holds all)
-
 pub returns-clause-holding : goal.returns-clause-holding
 returns-clause-holding g c = λ f hold. c.turns.ensures.holding (λ s. behind_hold c.args.command s (f s)) (c.begin.ensures.holding f hold)
-
-pub returns-clause-held : goal.returns-clause-held
-returns-clause-held g c = λ f holds all. c.turns.ensures.held (λ s. behind_hold c.args.command s (f s)) (c.begin.ensures.held f holds all)
 
 pub returns-then-is_any_unsaved-clause-shown : goal.returns-then-is_any_unsaved-clause-shown
 returns-then-is_any_unsaved-clause-shown g c = inr (ap (λ (r : Record). is_any_unsaved r.frames) c.turns.ensures.told.recorded ∙ sym c.is_any_unsaved.ensures ∙ c.if-is_any_unsaved.true)
 
 pub returns-then-is_any_unsaved-clause-holding : goal.returns-then-is_any_unsaved-clause-holding
 returns-then-is_any_unsaved-clause-holding g c = λ f hold. c.turns.ensures.holding (λ s. behind_hold c.args.command s (f s)) (c.begin.ensures.holding f hold)
-
-pub returns-then-is_any_unsaved-clause-held : goal.returns-then-is_any_unsaved-clause-held
-returns-then-is_any_unsaved-clause-held g c = λ f holds all. c.turns.ensures.held (λ s. behind_hold c.args.command s (f s)) (c.begin.ensures.held f holds all)
 
 pub returns-in_err-turns-clause-begun : goal.returns-in_err-turns-clause-begun
 returns-in_err-turns-clause-begun g c =

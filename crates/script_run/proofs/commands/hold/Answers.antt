@@ -1,8 +1,8 @@
-use Rattle.std.proofs.Common.{◌∙◌, ap, refl, sym, true}
+use Rattle.std.proofs.Common.{ap, true}
 use Rattle.script_links.specs.declared.links.Link.{Link}
 use Rattle.script_links.proofs.Linked.{same_links}
 use Rattle.script_links.proofs.Served.{hold_served}
-use Rattle.script_run.proofs.Held.{held_this, hold_this, server_at}
+use Rattle.script_run.proofs.Held.{hold_this, server_at}
 use Rattle.script_run.proofs.commands.hold.Goals as goal
 
 pub returns-clause-same : goal.returns-clause-same
@@ -15,9 +15,3 @@ pub returns-clause-holding : goal.returns-clause-holding
 returns-clause-holding c = λ f inc at hold.
     hold_this f inc c.args.links.now.items c.args.place (record (c.index_mut.result.now) { held = true }) c.requires
     (server_at c.args.links.now.items c.args.place inc c.index_mut.result.now c.requires c.index_mut.ensures.value at) hold
-
-pub returns-clause-held : goal.returns-clause-held
-returns-clause-held c = λ f inc few at all.
-    let server = server_at c.args.links.now.items c.args.place inc c.index_mut.result.now c.requires c.index_mut.ensures.value at in
-    held_this f true inc c.args.links.now.items c.args.place (record (c.index_mut.result.now) { held = true }) c.index_mut.result.now c.requires
-    (ap (λ (l : Link). l.inc) (sym c.index_mut.ensures.value) ∙ server) server refl few all

@@ -1,18 +1,12 @@
-use Rattle.std.proofs.Common.{◌≤◌, ◌<◌, ◌∙◌, ap, length, subst, sym, true, List, ℕ}
+use Rattle.std.proofs.Common.{◌≤◌, ◌<◌, ◌∙◌, ap, length, subst, sym, List, ℕ}
 use Rattle.script_links.specs.Links.{IsLinkAt, links_of}
 use Rattle.script_links.specs.declared.links.Link.{Link}
-use Rattle.script_run.proofs.Held.{held_none, linked_there}
+use Rattle.script_run.proofs.Held.{linked_there}
 use Rattle.script_run.proofs.Lines.{told_none, told_some}
 use Rattle.script_run.proofs.commands.hold_link.Goals as goal
 
 pub returns-clause-holding : goal.returns-clause-holding
 returns-clause-holding c = λ f hold. c.hold.ensures.holding f c.args.inc (subst (λ (ls : List Link). IsLinkAt ls c.in-Some.place c.args.inc) c.deref.ensures.value c.in-Some.ensures.there) hold
-
-pub returns-clause-held : goal.returns-clause-held
-returns-clause-held c = λ f few all. c.hold.ensures.held f c.args.inc few (subst (λ (ls : List Link). IsLinkAt ls c.in-Some.place c.args.inc) c.deref.ensures.value c.in-Some.ensures.there) all
-
-pub returns-in_default-clause-held : goal.returns-in_default-clause-held
-returns-in_default-clause-held c = λ f few all. held_none f true c.args.inc c.args.links.now.items (ap (links_of c.args.inc) (sym c.deref.ensures.value) ∙ c.in_default.ensures.none) all
 
 pub returns-in_default-clause-first : goal.returns-in_default-clause-first
 returns-in_default-clause-first c = λ n many. told_none n (many ∙ ap (links_of c.args.inc) (sym c.deref.ensures.value) ∙ c.in_default.ensures.none)

@@ -4,7 +4,7 @@ use Rattle.script_links.specs.Links.{AreServed}
 use Rattle.script_links.proofs.Served.{on_ok, others_placed, release_next, release_served}
 use Rattle.std.specs.Result.{IsErrAnd}
 use Rattle.script_container.proofs.Shown.{passed_on}
-use Rattle.script_run.proofs.Held.{let_go_held, let_go_holds}
+use Rattle.script_run.proofs.Held.{let_go_holds}
 use Rattle.script_run.proofs.commands.release.Goals as goal
 
 pub hand_all-requires-clause-next : goal.hand_all-requires-clause-next
@@ -34,22 +34,10 @@ pub returns-in_err-hand_all-clause-holding : goal.returns-in_err-hand_all-clause
 returns-in_err-hand_all-clause-holding g c = λ f inc at hold.
     let_go_holds f (g.H.Host.told c.args.host.now) c.args.links.now.items c.let_go-waiting.new.links.items c.args.place inc c.index.result.now c.requires.within at c.requires.told.single c.requires.linked (c.let_go-waiting.ensures.changed c.index.result.now) hold
 
-pub returns-in_err-hand_all-clause-held : goal.returns-in_err-hand_all-clause-held
-returns-in_err-hand_all-clause-held g c = λ f inc at hold.
-    let_go_held f (g.H.Host.told c.args.host.now) c.args.links.now.items c.let_go-waiting.new.links.items c.args.place inc c.index.result.now c.requires.within at c.requires.told.single c.requires.linked (c.let_go-waiting.ensures.changed c.index.result.now) hold
-
 pub returns-then-branch-clause-holding : goal.returns-then-branch-clause-holding
 returns-then-branch-clause-holding g c = λ f inc at hold.
     let_go_holds f (g.H.Host.told c.args.host.now) c.args.links.now.items c.let_go-waiting.new.links.items c.args.place inc c.index.result.now c.requires.within at c.requires.told.single c.requires.linked (c.let_go-waiting.ensures.changed c.index.result.now) hold
 
-pub returns-then-branch-clause-held : goal.returns-then-branch-clause-held
-returns-then-branch-clause-held g c = λ f inc at hold.
-    let_go_held f (g.H.Host.told c.args.host.now) c.args.links.now.items c.let_go-waiting.new.links.items c.args.place inc c.index.result.now c.requires.within at c.requires.told.single c.requires.linked (c.let_go-waiting.ensures.changed c.index.result.now) hold
-
 pub returns-clause-holding : goal.returns-clause-holding
 returns-clause-holding g c = λ f inc at hold. c.end_at.ensures.holding (λ s. if inc == s then false else f s)
     (let_go_holds f (g.H.Host.told c.args.host.now) c.args.links.now.items c.let_go-waiting.new.links.items c.args.place inc c.index.result.now c.requires.within at c.requires.told.single c.requires.linked (c.let_go-waiting.ensures.changed c.index.result.now) hold)
-
-pub returns-clause-held : goal.returns-clause-held
-returns-clause-held g c = λ f inc at hold. c.end_at.ensures.held (λ s. if inc == s then false else f s)
-    (let_go_held f (g.H.Host.told c.args.host.now) c.args.links.now.items c.let_go-waiting.new.links.items c.args.place inc c.index.result.now c.requires.within at c.requires.told.single c.requires.linked (c.let_go-waiting.ensures.changed c.index.result.now) hold)

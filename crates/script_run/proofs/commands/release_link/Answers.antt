@@ -1,10 +1,10 @@
-use Rattle.std.proofs.Common.{◌≡◌, ◌∙◌, ◌<◌, ℕ, List, ap, false, length, sym, subst, rules}
+use Rattle.std.proofs.Common.{◌≡◌, ◌∙◌, ◌<◌, ℕ, List, ap, length, sym, subst, rules}
 use Rattle.script_links.specs.Links.{IsLinkAt, links_of}
 use Rattle.script_links.specs.declared.links.Link.{Link}
 use Rattle.std.specs.Result.{IsErrAnd}
 use Rattle.script_container.proofs.Shown.{passed_on}
 use Rattle.script_model.specs.Events.{running}
-use Rattle.script_run.proofs.Held.{held_none, linked_there, release_none}
+use Rattle.script_run.proofs.Held.{linked_there, release_none}
 use Rattle.script_run.proofs.Lines.{told_none, told_some}
 use Rattle.script_run.proofs.Starting.{linked_runs}
 use Rattle.script_run.proofs.commands.release_link.Goals as goal
@@ -19,22 +19,11 @@ returns-in_default-clause-holding g c =
     let none : links_of c.args.inc c.deref.result.now ≡ 0 = c.in_default.ensures.none in
     λ f hold. release_none f c.args.inc c.args.links.now.items (ap (links_of c.args.inc) (sym c.deref.ensures.value) ∙ none) hold
 
-pub returns-in_default-clause-held : goal.returns-in_default-clause-held
-returns-in_default-clause-held g c =
-    let none : links_of c.args.inc c.deref.result.now ≡ 0 = c.in_default.ensures.none in
-    λ f hold. held_none f false c.args.inc c.args.links.now.items (ap (links_of c.args.inc) (sym c.deref.ensures.value) ∙ none) hold
-
 pub returns-in_err-release-clause-holding : goal.returns-in_err-release-clause-holding
 returns-in_err-release-clause-holding g c = λ f hold. c.release.ensures.holding f c.args.inc (subst (λ (ls : List Link). IsLinkAt ls c.in-Some.place c.args.inc) c.deref.ensures.value c.in-Some.ensures.there) hold
 
-pub returns-in_err-release-clause-held : goal.returns-in_err-release-clause-held
-returns-in_err-release-clause-held g c = λ f hold. c.release.ensures.held f c.args.inc (subst (λ (ls : List Link). IsLinkAt ls c.in-Some.place c.args.inc) c.deref.ensures.value c.in-Some.ensures.there) hold
-
 pub returns-clause-holding : goal.returns-clause-holding
 returns-clause-holding g c = λ f hold. c.release.ensures.holding f c.args.inc (subst (λ (ls : List Link). IsLinkAt ls c.in-Some.place c.args.inc) c.deref.ensures.value c.in-Some.ensures.there) hold
-
-pub returns-clause-held : goal.returns-clause-held
-returns-clause-held g c = λ f hold. c.release.ensures.held f c.args.inc (subst (λ (ls : List Link). IsLinkAt ls c.in-Some.place c.args.inc) c.deref.ensures.value c.in-Some.ensures.there) hold
 
 pub returns-in_default-clause-first : goal.returns-in_default-clause-first
 returns-in_default-clause-first g c =
