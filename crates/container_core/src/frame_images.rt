@@ -9,9 +9,6 @@ use container_model::fault::ContainerFault;
 use file_image::image::Image;
 use std::mem::replace;
 
-// How many frames there may be.
-const MOST_FRAMES: usize = 8;
-
 /// The images of 8 frames, by their numbers from 1. What is kept of a frame is two images at most, and nothing grows with their
 /// count.
 #[derive(Drop)]
@@ -37,7 +34,7 @@ fn image_at(images: &[Option<Image>; 8], f: u32) -> Option<&Image>
         return None;
     }
     let place = (f - 1) as usize;
-    if place >= MOST_FRAMES {
+    if place >= images.len() {
         return None;
     }
     match &images[place] {
@@ -55,7 +52,7 @@ fn put_at(images: &mut [Option<Image>; 8], f: u32, image: Option<Image>) -> Opti
         return None;
     }
     let place = (f - 1) as usize;
-    if place >= MOST_FRAMES {
+    if place >= images.len() {
         return None;
     }
     replace(&mut images[place], image)
@@ -105,9 +102,9 @@ impl Images {
     pub(crate) fn settle(&mut self, f: u32, is_kept: bool, told: &Result<Answer, ContainerFault>)
         ensures { self.new ≡ settled f is_kept told.now self.old }
     {
-        if told.is_err() {
+        let Ok(_) = told else {
             return;
-        }
+        };
         if is_kept {
             self.count(f);
         } else {

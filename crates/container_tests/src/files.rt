@@ -127,7 +127,8 @@ pub(crate) fn is_file(
     words: &mut SplitWhitespace<'_>,
 ) -> bool {
     match commit_image(alloc, core) {
-        Ok((document, image)) => counts(words, document.parts.len()) && is_image(alloc, core, image.bytes()),
+        Ok((document, image)) => counts(words, document.parts.len())
+            && is_image(alloc, core, image.bytes()),
         Err(fault) => is_fault(fault, words),
     }
 }

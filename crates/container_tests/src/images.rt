@@ -69,7 +69,13 @@ fn opened(rt: &impl Abort, alloc: Global, objects: &[u8]) -> ContainerCore {
     let mut core = ContainerCore::new(alloc, Limits { numbers: 100 });
     let file = write_file(alloc, &tree(rt, alloc, objects)).expect(rt, "a file");
     let _ = core
-        .open_file(alloc, bytes(rt, alloc, 1, b'a'), 12, 4, Some(file.as_slice()))
+        .open_file(
+            alloc,
+            bytes(rt, alloc, 1, b'a'),
+            12,
+            4,
+            Some(file.as_slice()),
+        )
         .expect(rt, "a frame");
     core
 }
@@ -79,7 +85,10 @@ fn told(rt: &impl Abort, alloc: Global, core: &mut ContainerCore, rows: &str) {
     for row in rows.split('\n') {
         let (row, want) = halves(row, " =>");
         let mut words = want.split_whitespace();
-        assert!(rt; tells(rt, alloc, core, row, &mut words) && word(&mut words).is_empty(), "{row}");
+        assert!(rt;
+            tells(rt, alloc, core, row, &mut words) && word(&mut words).is_empty(),
+            "{row}"
+        );
     }
 }
 
@@ -164,7 +173,12 @@ fn a_commit_in_doubt_that_was_kept_is_the_committed_image(rt: HostRuntime) {
     told(&rt, alloc, &mut core, "session => commit 1");
     let first = image(&rt, alloc, &core);
     core.put_image(1, image(&rt, alloc, &core));
-    told(&rt, alloc, &mut core, "fail 1 =>\nresolve 1 kept =>\nsave 1 => commit 1");
+    told(
+        &rt,
+        alloc,
+        &mut core,
+        "fail 1 =>\nresolve 1 kept =>\nsave 1 => commit 1",
+    );
     assert_eq!(rt; count(&rt, alloc, &first, &image(&rt, alloc, &core)), 0);
 }
 
@@ -184,7 +198,12 @@ fn a_file_that_would_be_twice_as_long_is_laid_out_anew(rt: HostRuntime) {
     let mut core = opened(&rt, alloc, &[1, 2, 3, 4, 5, 6]);
     told(&rt, alloc, &mut core, "session => commit 1");
     let _ = counted(&rt, alloc, &mut core);
-    told(&rt, alloc, &mut core, "delete 1 =>\ndelete 2 =>\ndelete 3 =>\ndelete 4 =>\ndelete 5 =>");
+    told(
+        &rt,
+        alloc,
+        &mut core,
+        "delete 1 =>\ndelete 2 =>\ndelete 3 =>\ndelete 4 =>\ndelete 5 =>",
+    );
     told(&rt, alloc, &mut core, "save 1 => commit 1");
     assert!(rt; is_anew(&rt, alloc, &image(&rt, alloc, &core)));
 }
