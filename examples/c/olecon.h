@@ -1,4 +1,4 @@
-/* OLE 2 compound files in memory: listing, reading, making and cleaning them.
+/* OLE 2 compound files in memory: listing, reading, making, editing and cleaning them.
  *
  * Each call reads bytes of the caller's, puts its answer at the front of a place of the caller's (OUT, of OUT_LEN bytes),
  * and tells in NEEDED how many bytes the answer has. It keeps none of the caller's memory, holds nothing between calls,
@@ -39,6 +39,13 @@ uint32_t olecon_get(const uint8_t *file, size_t file_len, const uint8_t *path, s
 
 /* The file of a flat list: a line "storage PATH", "stream PATH HEX" ("-" for no bytes) or "fill PATH COUNT HH" for each. */
 uint32_t olecon_make(const uint8_t *description, size_t description_len, uint8_t *out, size_t out_len, size_t *needed);
+
+/* The file that lines make of another one: "stream PATH HEX" ("-" for no bytes) and "fill PATH COUNT HH" for a new stream or other
+ * bytes of one, "storage PATH [CLASS]", "remove PATH", "rename PATH NAME", "class PATH ID" and "state PATH BITS". All are carried
+ * out, or the first that can't be is told as the fault. A line "file PATH NAME", which reads a file of the system in the program, is
+ * refused here. What is freed keeps its bytes until it is written over; olecon_clean leaves them behind. */
+uint32_t olecon_edit(const uint8_t *file, size_t file_len, const uint8_t *lines, size_t lines_len, uint8_t *out, size_t out_len,
+                     size_t *needed);
 
 /* A file of the same storages and streams, and nothing else. */
 uint32_t olecon_clean(const uint8_t *file, size_t file_len, uint8_t *out, size_t out_len, size_t *needed);

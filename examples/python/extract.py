@@ -25,6 +25,14 @@ def answered(call, *inputs):
     return fault, out.raw[: needed.value]
 
 
+def named(library, fault):
+    """The name of a fault."""
+    name = ctypes.create_string_buffer(32)
+    size = ctypes.c_size_t(0)
+    library.olecon_fault_name(ctypes.c_uint32(fault), name, ctypes.c_size_t(32), ctypes.byref(size))
+    return name.raw[: size.value].decode()
+
+
 def main():
     if len(sys.argv) not in (3, 4):
         print("extract.py LIBRARY FILE [PATH]", file=sys.stderr)
@@ -37,10 +45,7 @@ def main():
     else:
         fault, out = answered(library.olecon_get, content, sys.argv[3].encode())
     if fault:
-        name = ctypes.create_string_buffer(32)
-        size = ctypes.c_size_t(0)
-        library.olecon_fault_name(ctypes.c_uint32(fault), name, ctypes.c_size_t(32), ctypes.byref(size))
-        print(name.raw[: size.value].decode(), file=sys.stderr)
+        print(named(library, fault), file=sys.stderr)
         return 3
     sys.stdout.buffer.write(out)
     return 0

@@ -4,10 +4,12 @@
 use cfb_names::name::Name;
 use container_cli::fault::SimulateFault;
 use container_cli::simulation::{read_moments, write_told};
-use file_commands::cleaning::clean_file;
+use file_cleaning::cleaning::clean_file;
+use file_cleaning::fault::CleanFault;
 use file_commands::commands::list_file;
-use file_commands::fault::{CleanFault, GetFault, ListFault};
-use file_commands::getting::get_file;
+use file_commands::fault::ListFault;
+use file_listings::fault::GetFault;
+use file_listings::getting::get_file;
 use file_making::fault::MakeFault;
 use file_making::making::make_file;
 use std::alloc::{AllocError, Global};

@@ -9,7 +9,7 @@ use Rattle.file_model.specs.Refusals.{Refuses, writable}
 use Rattle.file_outline.specs.View.{outline_view}
 use Rattle.file_writer.specs.Laid.{file_of}
 use Rattle.file_writer.specs.Sending.{WritesFile}
-use Rattle.file_commands.specs.Cleaning.{Cleans, MayRefuseClean}
+use Rattle.file_cleaning.specs.Cleaning.{Cleans, MayRefuseClean}
 use Rattle.file_moving.specs.Moves.{MayRefuseMove}
 use Rattle.file_moving.specs.Opened.{IsOpenedOf}
 use Rattle.file_moving.specs.Sizes.{blank_of}

@@ -1,6 +1,6 @@
 -- What is told of a file that isn't cleaned.
-use Rattle.file_commands.specs.declared.fault.CleanFault.{CleanFault}
-use Rattle.file_commands.specs.declared.fault.CleanFault.TheVariants as clean
+use Rattle.file_cleaning.specs.declared.fault.CleanFault.{CleanFault}
+use Rattle.file_cleaning.specs.declared.fault.CleanFault.TheVariants as clean
 use Rattle.file_moving.specs.declared.fault.SourceFault.{SourceFault}
 use Rattle.file_moving.specs.declared.fault.SourceFault.TheVariants as source
 use Rattle.file_moving.specs.declared.moving.MoveFault.{MoveFault}

@@ -1,1 +1,3 @@
+pub mod Cleaning
 pub mod Faults
+pub mod Reports

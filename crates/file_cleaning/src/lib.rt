@@ -1,4 +1,6 @@
-//! Writing a compound file anew of one that can be sought in.
+//! Writing a compound file anew, with nothing else than its tree.
 #![tactic(auto)]
 
 pub mod cleaning;
+pub mod fault;
+pub mod report;

@@ -9,7 +9,8 @@ use Rattle.stream_io.specs.Reads.{chain_fault, MayRefuseFile, MayRefuseRead}
 use Rattle.stream_io.specs.declared.fault.ReadFault.{ReadFault}
 use Rattle.stream_io.specs.declared.fault.ReadFault.TheVariants.{NoMemory}
 
-of_input : (P : List ℕ → Type 0) (input : Option (List ℕ)) (bytes seen : List ℕ) → IfSome input (λ file. bytes ≡ file) → seen ≡ bytes → P seen → IfSome input P
+-- what was read are the bytes of the input, where these are known
+pub of_input : (P : List ℕ → Type 0) (input : Option (List ℕ)) (bytes seen : List ℕ) → IfSome input (λ file. bytes ≡ file) → seen ≡ bytes → P seen → IfSome input P
 of_input P None bytes seen w s h = tt
 of_input P (Some file) bytes seen w s h = subst P (s ∙ w) h
 

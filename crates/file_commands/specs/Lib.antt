@@ -1,6 +1,6 @@
 pub mod Faults
 pub mod Listing
 pub mod Run
-pub mod Getting
-pub mod Cleaning
+pub mod Lists
+pub mod Asked
 pub mod Reports

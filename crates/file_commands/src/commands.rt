@@ -1,4 +1,4 @@
-//! The commands of the program over readers and writers.
+//! Listing files that are read whole.
 
 ghost use Rattle.file_commands.specs.Listing.{listed};
 ghost use Rattle.file_commands.specs.Run.{IsOfWriting, Lists, MayRefuseList};

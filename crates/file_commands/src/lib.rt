@@ -1,11 +1,10 @@
-//! The commands of the program over compound files: listing one, writing one of its streams, and writing one anew with
-//! nothing else than its tree.
+//! Listings of compound files: in lines, and in other forms.
 #![tactic(auto)]
 
-pub mod cleaning;
+pub mod asking;
 pub mod commands;
 pub mod fault;
-pub mod getting;
+pub mod forms;
 pub mod laws;
 mod listing;
 pub mod report;

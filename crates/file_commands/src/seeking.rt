@@ -1,4 +1,4 @@
-//! Commands over files that can be sought in.
+//! Listing files that can be sought in.
 
 ghost use Rattle.file_commands.specs.Run.{Lists, MayRefuseList};
 ghost use Rattle.std.specs.Prelude.{◌≡◌, ◌≢◌, IfErr, IfSome, OnOk};

@@ -24,7 +24,7 @@ use stream_io::read::read_file;
 
 /// The file that changes make of another, and how many blocks of 512 bytes differ.
 #[derive(Drop)]
-pub(crate) struct Renewed {
+pub struct Renewed {
     pub image: Image,
     pub blocks: usize,
 }
@@ -115,7 +115,7 @@ fn file_of(
 ///
 /// Refused: as `read_file` and `edit`; `Write` where no file can hold the tree; `Store` where the file has more bytes than a store
 /// takes.
-pub(crate) fn updated(
+pub fn updated(
     alloc: Global,
     document: &[u8],
     changes: Vec<(usize, Change)>,

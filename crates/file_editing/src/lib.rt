@@ -3,5 +3,5 @@
 
 pub mod editing;
 pub mod fault;
-mod files;
+pub mod files;
 pub mod report;

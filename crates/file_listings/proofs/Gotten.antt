@@ -9,9 +9,9 @@ use Rattle.file_model.specs.Denotes.{Denotes}
 use Rattle.file_outline.specs.Streams.{stream_at}
 use Rattle.file_outline.specs.declared.outline.Place.{Place}
 use Rattle.outline_entries.specs.Places.{IsPlaced, Leads}
-use Rattle.file_commands.specs.Getting.{Gets, MayRefuseGet}
+use Rattle.file_listings.specs.Getting.{Gets, MayRefuseGet}
 use Rattle.file_commands.proofs.Listed.{places_refused}
-use Rattle.file_commands.specs.declared.fault.GetFault.TheVariants as get
+use Rattle.file_listings.specs.declared.fault.GetFault.TheVariants as get
 use Rattle.file_places.specs.Filled.{MayRefusePlaces}
 use Rattle.file_places.specs.declared.fault.PlacesFault.{PlacesFault}
 use Rattle.file_places.specs.declared.fault.PlacesFault.TheVariants as places
@@ -21,7 +21,7 @@ use Rattle.stream_seeking.specs.declared.fault.CopyFault.{CopyFault}
 use Rattle.stream_seeking.specs.declared.fault.CopyFault.TheVariants as copy
 use Rattle.stream_seeking.proofs.Shown.{shown_is}
 use Rattle.file_listings.specs.Gets.{Begun, LiesAt, Stands, of_copy_fault, of_places_fault}
-use Rattle.stream_seeking.proofs.Alike.{placed_alike}
+use Rattle.file_commands.proofs.Placed.{placed_alike}
 
 pub catalog_refused : (a : List ℕ) (path : List (List ℕ)) (fault : PlacesFault) → MayRefusePlaces a fault → MayRefuseGet a path (of_places_fault fault)
 catalog_refused a path places.Unreadable r = tt

@@ -1,3 +1,2 @@
-pub mod Listed
 pub mod Mapped
 pub mod Gotten

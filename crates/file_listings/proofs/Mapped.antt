@@ -11,11 +11,6 @@ use Rattle.sector_maps.specs.Maps.{mapped}
 use Rattle.sector_maps.specs.declared.fault.MapFault.{MapFault}
 use Rattle.sector_maps.specs.declared.fault.MapFault.TheVariants.{NoMemory, NoTree}
 
--- what was read are the bytes of the input, where these are known
-pub of_input : (P : List ℕ → Type 0) (input : Option (List ℕ)) (bytes seen : List ℕ) → IfSome input (λ file. bytes ≡ file) → seen ≡ bytes → P seen → IfSome input P
-of_input P None bytes seen w s h = tt
-of_input P (Some file) bytes seen w s h = subst P (s ∙ w) h
-
 pub maps : (file : List ℕ) (o : Outline) (old new : Option (List ℕ)) → IsOutlined file o
     → ((t : Tree) → (d : Denotes file t) → Appends old new (mapped file d.layout d.used.sectors o)) → Maps file old new
 maps file o old new p w = record {

@@ -3,8 +3,8 @@ use Rattle.std.specs.Prelude.{◌≡◌, ℕ, List, Option, Ok}
 use Rattle.storage_tree.specs.Tree.{Tree}
 use Rattle.file_model.specs.Denotes.{Denotes}
 use Rattle.file_outline.specs.Streams.{stream_at}
-use Rattle.file_commands.specs.declared.fault.GetFault.{GetFault}
-use Rattle.file_commands.specs.declared.fault.GetFault.TheVariants as get
+use Rattle.file_listings.specs.declared.fault.GetFault.{GetFault}
+use Rattle.file_listings.specs.declared.fault.GetFault.TheVariants as get
 use Rattle.file_places.specs.declared.fault.PlacesFault.{PlacesFault}
 use Rattle.file_places.specs.declared.fault.PlacesFault.TheVariants as places
 use Rattle.stream_io.specs.Reads.{chain_fault}

@@ -1,3 +1,4 @@
+pub mod Getting
 pub mod Gets
-pub mod Lists
 pub mod Maps
+pub mod Reports

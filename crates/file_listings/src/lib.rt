@@ -1,6 +1,7 @@
-//! Listings of compound files in other forms than lines, maps of their sectors, and a stream of one.
+//! A stream of a compound file, and maps of its sectors.
 #![tactic(auto)]
 
+pub mod fault;
 pub mod getting;
-pub mod listing;
 pub mod mapping;
+pub mod report;

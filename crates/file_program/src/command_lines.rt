@@ -3,7 +3,7 @@
 use clap::Command;
 use edit_program::command_lines::{EDIT_ROW, MV_ROW, PUT_ROW, RM_ROW};
 pub use program_ends::command_lines::FILE;
-use program_ends::command_lines::{self, AS_JSON, Argument, FILE_MADE, FILE_READ, Kind, Row};
+use program_ends::command_lines::{self, AS_JSON, Argument, FILE_MADE, FILE_READ, Kind, PATH, Row};
 use std::alloc::{AllocError, Global};
 
 /// The names of the commands and of their other arguments.
@@ -61,7 +61,11 @@ Example: olecon check --json letter.doc | jq -r .fault
 Example: olecon check *.doc | grep -v ': ok$'";
 
 const FOLDERS: &str =
-    "Names are spelled as list prints them, and a dot at a name's end as \\2e, so that none leads
+    "With a PATH just what stands there is made, a stream or a storage with all below it, and the folders
+of the storages on the way; of several, what is on or below one of them. Each stands in FOLDER where it
+stands without a PATH. Where nothing stands at one, nothing is made.
+
+Names are spelled as list prints them, and a dot at a name's end as \\2e, so that none leads
 out of FOLDER. A storage whose class id or state bits aren't zero has them in a file !storage
 of its folder; no stream has such a name. FOLDER is made if it isn't there.
 
@@ -72,7 +76,8 @@ written stops the command. How many folders and files were made is printed, FOLD
 where it was stopped: then these are the first in the order in which list prints them. On a terminal
 each thousandth is told as it is made.
 
-Example: olecon extract mail.msg mail";
+Example: olecon extract mail.msg mail
+Example: olecon extract report.doc parts ObjectPool '\\05SummaryInformation'";
 
 const PACKED: &str =
     "Each folder in FOLDER becomes a storage and each file a stream, under the names that extract
@@ -118,6 +123,11 @@ const ROWS: &[Row<'static>] = &[
                 name: FOLDER,
                 help: "The folder to make",
                 kind: Kind::Needed("FOLDER"),
+            },
+            Argument {
+                name: PATH,
+                help: "What is made of it; without one, all",
+                kind: Kind::Any("PATH"),
             },
             Argument {
                 name: FORCE,

@@ -4,42 +4,25 @@ use cfb_names::name::Name;
 use fault_texts::telling::Form as CheckForm;
 use file_checks::checking::{check_file, check_source};
 use file_checks::many::{Checker, check_all};
-use file_cleaning::cleaning::clean_opened;
-use file_commands::cleaning::clean_file;
-use file_commands::commands::list_file;
-use file_commands::fault::{CleanFault, GetFault, ListFault};
-use file_commands::getting::get_file;
-use file_commands::seeking::list_source;
-use file_listings::getting::get_source;
-use file_listings::listing::{list_file_as, list_source_as};
+use file_cleaning::cleaning::{clean_file, clean_opened};
+use file_cleaning::fault::CleanFault;
+use file_commands::asking::{Listing, list_file_in, list_source_in};
+use file_commands::fault::ListFault;
+use file_listings::fault::GetFault;
+use file_listings::getting::{get_file, get_source};
 use file_listings::mapping::map_file;
 use file_places::source::Sought;
-use listing_forms::form::Form;
-use listing_forms::json_form::Json;
-use listing_forms::long_form::Long;
 use program_ends::ends::{REFUSED, give_up, keep, refuse, refuse_path};
-use program_ends::journals::{refuse_unfinished, tell_unfinished};
+use program_ends::journals::refuse_unfinished;
 use program_ends::making::count_made;
 use program_ends::new_file::NewFile;
-use program_ends::sources::is_sought;
+use program_ends::sources::{is_sought, open};
 use std::fs::File;
+use std::io;
 use std::process::ExitCode;
 use std::rt::Runtime;
-use std::{fs, io};
 use texts::path::Path;
 use texts::report::Report;
-
-/// Opens a file, and tells it where a save of the file was cut off; or tells that it can't be read and gives the status to end
-/// with.
-fn open<R: Runtime + AllocGlobal>(rt: &R, path: &str) -> Result<R::File, ExitCode> {
-    match fs::open(rt, path) {
-        Ok(source) => {
-            tell_unfinished(rt, path)?;
-            Ok(source)
-        }
-        Err(_) => Err(refuse(rt, &Report::File(path, "Unreadable"))),
-    }
-}
 
 /// Tells why nothing more is told of a file, if so, and gives the status to end with.
 fn end<R: Runtime>(rt: &R, path: &str, told: Result<(), ListFault>) -> ExitCode {
@@ -47,17 +30,6 @@ fn end<R: Runtime>(rt: &R, path: &str, told: Result<(), ListFault>) -> ExitCode 
         Ok(()) => ExitCode::SUCCESS,
         Err(fault) => refuse(rt, &fault.report(path)),
     }
-}
-
-/// How a file is listed.
-#[derive(Clone, Copy)]
-pub enum Listing {
-    /// A line for each entry.
-    Lines,
-    /// One JSON value.
-    Json,
-    /// Columns for eyes.
-    Long,
 }
 
 /// Lists a file on standard output.
@@ -68,37 +40,21 @@ pub fn list<R: Runtime + AllocGlobal>(rt: &R, path: &str, listing: Listing) -> E
     }
 }
 
-/// Lists an open file.
+/// Lists an open file. Of one that tells how long it is, only what the listing needs is read.
 fn list_open<R: Runtime + AllocGlobal>(
     rt: &R,
-    source: R::File,
+    mut source: R::File,
     listing: Listing,
 ) -> Result<(), ListFault> {
-    match listing {
-        Listing::Lines => list_lines(rt, source),
-        Listing::Json => list_as::<Json, R>(rt, source),
-        Listing::Long => list_as::<Long, R>(rt, source),
-    }
-}
-
-/// Lists an open file in a form. Of one that tells how long it is, only what the listing needs is read.
-fn list_as<F: Form, R: Runtime + AllocGlobal>(
-    rt: &R,
-    mut source: R::File,
-) -> Result<(), ListFault> {
     if is_sought(&source) {
-        list_source_as::<F, _, _>(rt.alloc(), &mut Sought::new(source), &mut io::writer(rt))
+        list_source_in(
+            rt.alloc(),
+            listing,
+            &mut Sought::new(source),
+            &mut io::writer(rt),
+        )
     } else {
-        list_file_as::<F, _, _>(rt.alloc(), &mut source, &mut io::writer(rt))
-    }
-}
-
-/// Lists an open file in lines, likewise.
-fn list_lines<R: Runtime + AllocGlobal>(rt: &R, mut source: R::File) -> Result<(), ListFault> {
-    if is_sought(&source) {
-        list_source(rt.alloc(), &mut Sought::new(source), &mut io::writer(rt))
-    } else {
-        list_file(rt.alloc(), &mut source, &mut io::writer(rt))
+        list_file_in(rt.alloc(), listing, &mut source, &mut io::writer(rt))
     }
 }
 

@@ -1,10 +1,11 @@
 //! What a command line over files asks for.
 
 use crate::command_lines::{CHECK, EXTRACT, FOLDER, FORCE, MAP, PACK};
-use crate::running::{Listing, check, clean, get, list, map};
+use crate::running::{check, clean, get, list, map};
 use clap::ArgMatches;
 use edit_program::command_lines::{EDIT, MV, NAME, PUT, RM, ZERO};
 use edit_program::editing::{edit, put, remove, rename};
+use file_commands::asking::Listing;
 use file_making::making::make_with_tree;
 use folder_program::extracting::extract;
 use folder_program::packing::pack;
@@ -31,8 +32,9 @@ pub enum Task<'m, 'a> {
     Check(&'m [&'a str], bool),
     /// The map of a file of this path.
     Map(&'a str),
-    /// A folder of one path, made of the file of another; whether files that stand there are replaced.
-    Extract(&'a str, &'a str, bool),
+    /// A folder, made of a file: the file's path, the folder's, those of what is made of it, and whether files that stand there are
+    /// replaced.
+    Extract(&'a str, &'a str, &'m [&'a str], bool),
     /// A file of one path, made of the folder of another: that of the folder, and that of the file.
     Pack(&'a str, &'a str),
     /// The file of a path, changed by standard input's lines; whether what is freed is zeroed.
@@ -81,8 +83,8 @@ impl<'m, 'a> Task<'m, 'a> {
             Task::Clean(path, out) => clean(rt, path, out),
             Task::Check(paths, is_json) => check(rt, paths, is_json),
             Task::Map(path) => map(rt, path),
-            Task::Extract(path, folder, is_forced) => {
-                extract(rt, path, folder, is_forced, is_watched)
+            Task::Extract(path, folder, words, is_forced) => {
+                extract(rt, path, folder, words, is_forced, is_watched)
             }
             Task::Pack(folder, path) => pack(rt, folder, path),
             Task::Edit(path, is_zeroed) => edit(rt, path, is_zeroed),
@@ -108,18 +110,10 @@ fn making<'m, 'a>(made: &'m ArgMatches<'a>) -> Option<Task<'m, 'a>> {
 }
 
 fn listing<'m, 'a>(listed: &'m ArgMatches<'a>) -> Option<Task<'m, 'a>> {
-    Some(Task::List(listed.get_str(FILE)?, form_of(listed)))
-}
-
-/// How a file is to be listed.
-fn form_of(listed: &ArgMatches<'_>) -> Listing {
-    if listed.get_flag(JSON) {
-        Listing::Json
-    } else if listed.get_flag(LONG) {
-        Listing::Long
-    } else {
-        Listing::Lines
-    }
+    Some(Task::List(
+        listed.get_str(FILE)?,
+        Listing::of(listed.get_flag(JSON), listed.get_flag(LONG)),
+    ))
 }
 
 fn getting<'m, 'a>(got: &'m ArgMatches<'a>) -> Option<Task<'m, 'a>> {
@@ -142,6 +136,7 @@ fn extracting<'m, 'a>(extracted: &'m ArgMatches<'a>) -> Option<Task<'m, 'a>> {
     Some(Task::Extract(
         extracted.get_str(FILE)?,
         extracted.get_str(FOLDER)?,
+        extracted.get_strs(PATH).unwrap_or(&[]),
         extracted.get_flag(FORCE),
     ))
 }

@@ -7,35 +7,47 @@ use Rattle.stream_io.specs.Reads.{MayRefuseRead}
 use Rattle.file_folders.specs.Made.{Adds}
 use Rattle.file_folders.specs.Plan.{plan}
 use Rattle.file_folders.specs.declared.plan.Entry.{Entry}
+use Rattle.folder_commands.specs.Chosen.{AllStand, IsMissing, asked}
 use Rattle.folder_commands.specs.declared.fault.ExtractFault.{ExtractFault}
-use Rattle.folder_commands.specs.declared.fault.ExtractFault.TheVariants.{Input, Read, NoMemory, Entry as InFolder}
+use Rattle.folder_commands.specs.declared.fault.ExtractFault.TheVariants.{Input, Read, NoMemory, Missing, Entry as InFolder}
 
--- all of the tree that the file denotes was made, so many folders and files
-pub record Extracts (file : List ℕ) (old new : Option (List Entry)) (count : ℕ) : Type 0 where
+-- all of what the paths ask for of the tree that the file denotes was made, so many folders and files; something stands at each path
+pub record Extracts (paths : List (List (List ℕ))) (file : List ℕ) (old new : Option (List Entry)) (count : ℕ) : Type 0 where
   pub t : Tree
   pub denotes : ∥ Denotes file t ∥₁
-  pub made : Adds old new (plan t)
-  pub counted : count ≡ length (plan t)
+  pub there : AllStand paths t
+  pub made : Adds old new (plan (asked paths t))
+  pub counted : count ≡ length (plan (asked paths t))
 
 -- so many of them were made, and not the next, which has this path
-pub record IsCutShort (file : List ℕ) (old new : Option (List Entry)) (count : ℕ) (path : List ℕ) : Type 0 where
+pub record IsCutShort (paths : List (List (List ℕ))) (file : List ℕ) (old new : Option (List Entry)) (count : ℕ) (path : List ℕ) : Type 0 where
   pub t : Tree
   pub denotes : ∥ Denotes file t ∥₁
-  pub made : Adds old new (take count (plan t))
+  pub made : Adds old new (take count (plan (asked paths t)))
   pub next : Entry
-  pub stands : slice_get (plan t) count ≡ Some next
+  pub stands : slice_get (plan (asked paths t)) count ≡ Some next
   pub at : path ≡ next.path
 
 -- when a file may be stopped at
-abbrev pub MayStop : List ℕ → Option (List Entry) → Option (List Entry) → ℕ → ExtractFault → Type 0
-MayStop file old new count (Input fault) = MayRefuseInput file fault
-MayStop file old new count (Read fault) = MayRefuseRead file fault
-MayStop file old new count NoMemory = (t : Tree) × ∥ Denotes file t ∥₁
-MayStop file old new count (InFolder path fault) = IsCutShort file old new count path
+abbrev pub MayStop : List (List (List ℕ)) → List ℕ → Option (List Entry) → Option (List Entry) → ℕ → ExtractFault → Type 0
+MayStop paths file old new count (Input fault) = MayRefuseInput file fault
+MayStop paths file old new count (Read fault) = MayRefuseRead file fault
+MayStop paths file old new count (Missing n fault) = (t : Tree) × ∥ Denotes file t ∥₁ × IsMissing paths t n fault
+MayStop paths file old new count NoMemory = (t : Tree) × ∥ Denotes file t ∥₁
+MayStop paths file old new count (InFolder path fault) = IsCutShort paths file old new count path
+
+-- when what is asked for of a tree isn't planned
+abbrev pub MayRefusePlan : List (List (List ℕ)) → Tree → ExtractFault → Type 0
+MayRefusePlan paths t (Input fault) = ⊥
+MayRefusePlan paths t (Read fault) = ⊥
+MayRefusePlan paths t (Missing n fault) = IsMissing paths t n fault
+MayRefusePlan paths t NoMemory = Unit {0}
+MayRefusePlan paths t (InFolder path fault) = ⊥
 
 -- the folder refused something
 abbrev pub IsInFolder : ExtractFault → Type 0
 IsInFolder (Input fault) = ⊥
 IsInFolder (Read fault) = ⊥
+IsInFolder (Missing n fault) = ⊥
 IsInFolder NoMemory = ⊥
 IsInFolder (InFolder path fault) = Unit {0}

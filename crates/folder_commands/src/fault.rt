@@ -2,6 +2,7 @@
 
 use file_folders::folder::FolderFault;
 use file_folders::path::FolderPath;
+use storage_tree::fault::TreeFault;
 use stream_io::fault::ReadFault;
 use texts::input::InputFault;
 
@@ -12,6 +13,8 @@ pub enum ExtractFault {
     Input(InputFault),
     /// The bytes denote no tree.
     Read(ReadFault),
+    /// Nothing stands at the path of this number.
+    Missing(usize, TreeFault),
     /// No memory was left before anything was made.
     NoMemory,
     /// What has this path in the folder isn't made.

@@ -2,5 +2,6 @@
 //! a folder.
 #![tactic(auto)]
 
+pub mod chosen;
 pub mod extracting;
 pub mod fault;

@@ -1,6 +1,7 @@
 //! The calls that other languages have, on the happy path and without room.
 
 use library_calls::calls::{clean, fault_name, get, lines, list, make};
+use library_calls::editing::edit;
 use library_calls::numbers::{BAD_PATH, DONE, NO_ROOM};
 use listing_forms::json_form::Json;
 use listing_forms::long_form::Long;
@@ -15,6 +16,7 @@ enum Call {
     Make,
     Clean,
     Get,
+    Edit,
 }
 
 fn called(alloc: Global, call: Call, input: &[u8], out: &mut [u8], needed: &mut usize) -> u32 {
@@ -25,6 +27,7 @@ fn called(alloc: Global, call: Call, input: &[u8], out: &mut [u8], needed: &mut 
         Call::Make => make(alloc, input, out, needed),
         Call::Clean => clean(alloc, input, out, needed),
         Call::Get => get(alloc, input, b"A".as_slice(), out, needed),
+        Call::Edit => edit(alloc, input, b"stream A 040506\n".as_slice(), out, needed),
     }
 }
 
@@ -39,18 +42,27 @@ fn gives(alloc: Global, call: Call, input: &[u8], want: &[u8]) -> bool {
     called(alloc, call, input, &mut out, &mut needed) == DONE && out.get(..needed) == Some(want)
 }
 
+/// Whether an edit puts other bytes into the stream of a file.
+fn is_edited(alloc: Global, file: &[u8]) -> bool {
+    let mut edited = [0; 2560];
+    let mut needed = 0;
+    called(alloc, Call::Edit, file, &mut edited, &mut needed) == DONE
+        && gives(alloc, Call::Get, &edited, b"\x04\x05\x06".as_slice())
+}
+
 fn is_named(number: u32, want: &[u8]) -> bool {
     let mut out = [0; 16];
     let mut needed = 0;
     fault_name(number, &mut out, &mut needed) == DONE && out.get(..needed) == Some(want)
 }
 
-const LINES: &[u8] = b"root 00000000-0000-0000-0000-000000000000\nstream A 3\n";
+pub(crate) const LINES: &[u8] = b"root 00000000-0000-0000-0000-000000000000\nstream A 3\n";
 
-const JSON: &[u8] =
+pub(crate) const JSON: &[u8] =
     b"[{\"type\":\"root\",\"path\":\"\",\"class\":\"00000000-0000-0000-0000-000000000000\",\"state\":0},{\"type\":\"stream\",\"path\":\"A\",\"size\":3,\"first\":0}]\n";
 
-const LONG: &[u8] = b"kind         size  path\nroot               /\nstream          3  A\n";
+pub(crate) const LONG: &[u8] =
+    b"kind         size  path\nroot               /\nstream          3  A\n";
 
 #[test]
 fn calls_answer(rt: HostRuntime) {
@@ -72,5 +84,6 @@ fn calls_answer(rt: HostRuntime) {
         gives(rt.alloc(), Call::Get, &file, b"\x01\x02\x03".as_slice()),
         "get"
     );
+    assert!(rt; is_edited(rt.alloc(), &file), "edit");
     assert!(rt; is_named(BAD_PATH, b"BadPath".as_slice()), "a name");
 }

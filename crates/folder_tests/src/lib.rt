@@ -1,8 +1,11 @@
-//! Tests of files as folders over a folder in memory, of the calls that other languages have, of maps, and of streams read by places.
+//! Tests of files as folders over a folder in memory, of the calls that other languages have, of listings and maps, and of
+//! streams read by places.
 #![tactic(auto)]
 
 #[cfg(test)]
 mod calls;
+#[cfg(test)]
+mod listings;
 #[cfg(test)]
 mod maps;
 #[cfg(test)]

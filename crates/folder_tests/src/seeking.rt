@@ -2,7 +2,8 @@
 
 use cfb_names::name::{Name, named};
 use file_cleaning::cleaning::clean_source;
-use file_commands::fault::{CleanFault, GetFault};
+use file_cleaning::fault::CleanFault;
+use file_listings::fault::GetFault;
 use file_listings::getting::get_source;
 use file_making::making::make_file;
 use file_places::source::Source;

@@ -8,13 +8,13 @@ use Rattle.file_outline.specs.Streams.{stream_at}
 use Rattle.file_writer.specs.Laid.{IsLaidOut}
 use Rattle.outline_entries.specs.Places.{IsPlaced}
 use Rattle.texts.specs.Paths.{path_read}
-use Rattle.file_commands.specs.Cleaning.{MayRefuseClean}
-use Rattle.file_commands.specs.Getting.{MayRefuseGet}
+use Rattle.file_cleaning.specs.Cleaning.{MayRefuseClean}
+use Rattle.file_listings.specs.Getting.{MayRefuseGet}
 use Rattle.file_commands.specs.Listing.{listing}
 use Rattle.file_commands.specs.Run.{MayRefuseList}
 use Rattle.file_making.specs.Run.{IsMade, MayRefuseMake}
-use Rattle.file_commands.specs.declared.fault.CleanFault.{CleanFault}
-use Rattle.file_commands.specs.declared.fault.GetFault.{GetFault}
+use Rattle.file_cleaning.specs.declared.fault.CleanFault.{CleanFault}
+use Rattle.file_listings.specs.declared.fault.GetFault.{GetFault}
 use Rattle.file_commands.specs.declared.fault.ListFault.{ListFault}
 use Rattle.file_making.specs.declared.fault.MakeFault.{MakeFault}
 use Rattle.library_calls.specs.Numbers.{clean_number, directory_number, get_number, list_number, make_number}

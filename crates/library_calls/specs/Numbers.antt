@@ -12,16 +12,20 @@ use Rattle.stream_io.specs.declared.fault.ReadFault.{ReadFault}
 use Rattle.stream_io.specs.declared.fault.ReadFault.TheVariants as read
 use Rattle.texts.specs.declared.input.InputFault.{InputFault}
 use Rattle.texts.specs.declared.input.InputFault.TheVariants as input
-use Rattle.file_commands.specs.declared.fault.CleanFault.{CleanFault}
-use Rattle.file_commands.specs.declared.fault.CleanFault.TheVariants as clean
-use Rattle.file_commands.specs.declared.fault.GetFault.{GetFault}
-use Rattle.file_commands.specs.declared.fault.GetFault.TheVariants as get
+use Rattle.file_cleaning.specs.declared.fault.CleanFault.{CleanFault}
+use Rattle.file_cleaning.specs.declared.fault.CleanFault.TheVariants as clean
+use Rattle.file_listings.specs.declared.fault.GetFault.{GetFault}
+use Rattle.file_listings.specs.declared.fault.GetFault.TheVariants as get
 use Rattle.tree_descriptions.specs.declared.fault.LineFault.{LineFault}
 use Rattle.tree_descriptions.specs.declared.fault.LineFault.TheVariants as line
 use Rattle.file_commands.specs.declared.fault.ListFault.{ListFault}
 use Rattle.file_commands.specs.declared.fault.ListFault.TheVariants as list
 use Rattle.file_making.specs.declared.fault.MakeFault.{MakeFault}
 use Rattle.file_making.specs.declared.fault.MakeFault.TheVariants as make
+use Rattle.texts.specs.declared.lines.SyntaxFault.{SyntaxFault}
+use Rattle.texts.specs.declared.lines.SyntaxFault.TheVariants as syntax_fault
+use Rattle.file_editing.specs.declared.fault.EditFault.{EditFault}
+use Rattle.file_editing.specs.declared.fault.EditFault.TheVariants as edit
 
 abbrev pub chain_number : ChainFault → ℕ
 chain_number chain.NoMemory = 2
@@ -97,6 +101,17 @@ clean_number (clean.Read fault) = read_number fault
 clean_number (clean.Write fault) = write_number fault
 clean_number (clean.Cut fault) = input_number fault
 clean_number clean.Unwritable = 5
+
+abbrev pub syntax_number : SyntaxFault → ℕ
+syntax_number syntax_fault.Bad = 40
+syntax_number syntax_fault.NoMemory = 2
+
+-- In memory a store refuses only a file that is too big.
+abbrev pub edit_number : EditFault → ℕ
+edit_number (edit.Store fault) = 3
+edit_number (edit.Read fault) = read_number fault
+edit_number (edit.Line n fault) = line_number fault
+edit_number (edit.Write fault) = write_number fault
 
 -- the names, as the program prints them; a number of no fault has none
 abbrev pub tree_name : ℕ → List ℕ

@@ -12,10 +12,10 @@ use crate::numbers::{
 };
 use crate::placing::put;
 use cfb_names::name::Name;
-use file_commands::cleaning::clean_file;
-use file_commands::getting::get_file;
+use file_cleaning::cleaning::clean_file;
+use file_commands::forms::list_source_as;
 use file_commands::seeking::list_source;
-use file_listings::listing::list_source_as;
+use file_listings::getting::get_file;
 use file_making::making::make_file;
 use listing_forms::form::Form;
 use std::alloc::Global;

@@ -3,5 +3,6 @@
 #![tactic(auto)]
 
 pub mod calls;
+pub mod editing;
 pub mod numbers;
 mod placing;

@@ -1,16 +1,20 @@
 //! The numbers of the faults, and their names.
 
-ghost use Rattle.library_calls.specs.Numbers.{chain_name, chain_number, clean_number, directory_name, directory_number, get_number, input_number, line_number, list_number, make_number, number_name, read_number, tree_name, tree_number, write_number};
+ghost use Rattle.library_calls.specs.Numbers.{chain_name, chain_number, clean_number, directory_name, directory_number, edit_number, get_number, input_number, line_number, list_number, make_number, number_name, read_number, syntax_number, tree_name, tree_number, write_number};
 ghost use Rattle.std.specs.Prelude.{◌≡◌, ◌<◌};
 
 use cfb_header::fault::ChainFault;
 use cfb_names::fault::DirFault;
-use file_commands::fault::{CleanFault, GetFault, ListFault};
+use file_cleaning::fault::CleanFault;
+use file_commands::fault::ListFault;
+use file_editing::fault::EditFault;
+use file_listings::fault::GetFault;
 use file_making::fault::{LineFault, MakeFault};
 use file_model::fault::WriteFault;
 use storage_tree::fault::TreeFault;
 use stream_io::fault::ReadFault;
 use texts::input::InputFault;
+use texts::lines::SyntaxFault;
 
 /// What is told where all was done.
 pub const DONE: u32 = 0;
@@ -20,6 +24,12 @@ pub const NO_ROOM: u32 = 1;
 
 /// What is told where no memory was left.
 pub const NO_MEMORY: u32 = 2;
+
+/// What is told where there are more bytes than are taken.
+pub const TOO_BIG: u32 = 3;
+
+/// What is told of an input that isn't read.
+pub const UNREADABLE: u32 = 4;
 
 /// What is told of a path that no word spells so.
 pub const BAD_PATH: u32 = 41;
@@ -170,6 +180,30 @@ pub fn clean_number(fault: CleanFault) -> u32
     }
 }
 
+/// The number of a fault of the lines of a text.
+pub fn syntax_number(fault: SyntaxFault) -> u32
+    ensures number { result ≡ syntax_number fault }
+    ensures fault { 1 < result }
+{
+    match fault {
+        SyntaxFault::Bad => 40,
+        SyntaxFault::NoMemory => 2,
+    }
+}
+
+/// The number of a fault of a file that is edited. In memory a store refuses only a file that is too big.
+pub fn edit_number(fault: EditFault) -> u32
+    ensures number { result ≡ edit_number fault }
+    ensures fault { 1 < result }
+{
+    match fault {
+        EditFault::Store(_) => TOO_BIG,
+        EditFault::Read(fault) => read_number(fault),
+        EditFault::Line(_, fault) => line_number(fault),
+        EditFault::Write(fault) => write_number(fault),
+    }
+}
+
 /// The name of the fault of a number, as the program prints it; empty for a number of no fault.
 pub fn number_name(number: u32) -> &'static str
     ensures { result.now ≡ number_name number }
@@ -177,8 +211,8 @@ pub fn number_name(number: u32) -> &'static str
     match number {
         NO_ROOM => "NoRoom",
         2 => "NoMemory",
-        3 => "TooBig",
-        4 => "Unreadable",
+        TOO_BIG => "TooBig",
+        UNREADABLE => "Unreadable",
         5 => "Unwritable",
         _ => chain_name(number),
     }

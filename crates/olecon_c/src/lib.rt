@@ -3,12 +3,13 @@
 
 ghost use Rattle.library_calls.specs.Answers.{Answers, IsPut};
 ghost use Rattle.library_calls.specs.Calls.{IsCleanOf, IsGotBy, IsListed, IsListedAs, IsMadeOf, IsRefusedBy, IsRefusedClean, IsRefusedList, IsRefusedMake};
+ghost use Rattle.library_calls.specs.Edits.{IsEdited, IsRefusedEdit};
 ghost use Rattle.library_calls.specs.Numbers.{number_name};
 ghost use Rattle.listing_forms.specs.Json.{json_listed};
 ghost use Rattle.listing_forms.specs.Placed.{placed_view};
 ghost use Rattle.std.specs.Prelude.{◌≡◌, length};
 
-use library_calls::calls;
+use library_calls::{calls, editing};
 use listing_forms::json_form::Json;
 use std::alloc::Global;
 
@@ -71,6 +72,20 @@ pub extern "C" fn olecon_clean(
     ensures { Answers (IsCleanOf file.now) (IsRefusedClean file.now) result out.old out.new needed.new }
 {
     calls::clean(alloc, file, out, needed)
+}
+
+/// The file of the tree that the lines of a text make of another file's.
+#[unsafe(no_mangle)]
+pub extern "C" fn olecon_edit(
+    alloc: Global,
+    file: &[u8],
+    lines: &[u8],
+    out: &mut [u8],
+    needed: &mut usize,
+) -> u32
+    ensures { Answers (IsEdited file.now lines.now) (IsRefusedEdit file.now lines.now) result out.old out.new needed.new }
+{
+    editing::edit(alloc, file, lines, out, needed)
 }
 
 /// The name of the fault of a number.

@@ -132,16 +132,14 @@ pub const AS_JSON: Argument<'static> = Argument {
     kind: Kind::Flag,
 };
 
-/// The command that makes files. What is proved of a command's making is proved once, of any row.
-const MAKING: &[Row<'static>] = &[Row {
-    name: MAKE,
-    about: ABOUT_MAKE,
-    after: LINES,
-    arguments: &[FILE_MADE],
-}];
-
-/// The commands that list and clean files.
-const ROWS: &[Row<'static>] = &[
+/// The commands that make and list files. What is proved of a command's making is proved once, of any row.
+const FIRST: &[Row<'static>] = &[
+    Row {
+        name: MAKE,
+        about: ABOUT_MAKE,
+        after: LINES,
+        arguments: &[FILE_MADE],
+    },
     Row {
         name: LIST,
         about: ABOUT_LIST,
@@ -156,6 +154,10 @@ const ROWS: &[Row<'static>] = &[
             },
         ],
     },
+];
+
+/// The commands that read and clean files.
+const ROWS: &[Row<'static>] = &[
     Row {
         name: GET,
         about: ABOUT_GET,
@@ -281,15 +283,15 @@ fn push_all<'a>(
     rows: &[Row<'a>],
     commands: &mut Vec<Command<'a>>,
 ) -> Result<(), AllocError> {
-    push_commands(alloc, MAKING, commands)?;
+    push_commands(alloc, FIRST, commands)?;
     push_commands(alloc, ROWS, commands)?;
     push_commands(alloc, rows, commands)
 }
 
-/// The command `make` alone.
-fn making_alone<'a>(alloc: Global) -> Result<Vec<Command<'a>>, AllocError> {
+/// The commands `make` and `list` alone.
+fn first_commands<'a>(alloc: Global) -> Result<Vec<Command<'a>>, AllocError> {
     let mut commands = Vec::new(alloc);
-    push_commands(alloc, MAKING, &mut commands)?;
+    push_commands(alloc, FIRST, &mut commands)?;
     Ok(commands)
 }
 
@@ -318,11 +320,11 @@ fn program_of<'a>(
     }
 }
 
-/// The command line of the program `olecon` with `make` alone.
+/// The command line of the program `olecon` with `make` and `list` alone.
 ///
 /// Refused for want of memory alone.
-pub fn making_line<'a>(alloc: Global) -> Result<Command<'a>, AllocError> {
-    program_of(alloc, making_alone(alloc))
+pub fn first_line<'a>(alloc: Global) -> Result<Command<'a>, AllocError> {
+    program_of(alloc, first_commands(alloc))
 }
 
 /// The command line of the program `olecon` with `make`, `list`, `get` and `clean`, and the commands of these rows behind

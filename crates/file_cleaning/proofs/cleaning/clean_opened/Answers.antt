@@ -1,5 +1,5 @@
 use Rattle.std.proofs.Common.{List, Option, IfSome, ℕ, subst, sym}
-use Rattle.file_commands.specs.Cleaning.{MayRefuseClean}
+use Rattle.file_cleaning.specs.Cleaning.{MayRefuseClean}
 use Rattle.storage_tree.specs.Tree.{Tree}
 use Rattle.file_moving.specs.Opened.{IsOpenedOf}
 use Rattle.file_writer.specs.Sending.{WritesFile}

@@ -1,6 +1,6 @@
 use Rattle.std.proofs.Common.{◌≡◌, ◌∙◌, length, sym}
 use Rattle.file_model.specs.Alike.{Alike}
-use Rattle.file_commands.specs.Getting.{MayRefuseGet}
+use Rattle.file_listings.specs.Getting.{MayRefuseGet}
 use Rattle.file_commands.proofs.Listed.{some_map}
 use Rattle.file_listings.specs.Gets.{Stands}
 use Rattle.file_listings.proofs.Gotten.{found_stands}

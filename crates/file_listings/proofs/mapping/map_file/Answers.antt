@@ -1,10 +1,10 @@
 use Rattle.std.proofs.Common.{◌∙◌, ℕ, List, Option, subst, sym}
 use Rattle.file_commands.proofs.Listed.{IsOutlined, ok_map}
-use Rattle.file_commands.proofs.ReadRefused.{read_refused}
+use Rattle.file_commands.proofs.ReadRefused.{of_input, read_refused}
 use Rattle.file_model.specs.Outline.{Outline}
 use Rattle.file_outline.specs.View.{outline_view}
 use Rattle.file_listings.specs.Maps.{Maps}
-use Rattle.file_listings.proofs.Mapped.{maps, of_input}
+use Rattle.file_listings.proofs.Mapped.{maps}
 use Rattle.file_listings.proofs.mapping.map_file.Goals as goal
 
 pub returns-in-Err-read_outline-clause-refused : goal.returns-in-Err-read_outline-clause-refused

@@ -1,5 +1,5 @@
 use Rattle.std.proofs.Common.{◌≡◌, ◌∙◌, inl, ℕ, List, ◌++◌, Some, ap}
-use Rattle.file_listings.specs.Lists.{ListsAs}
+use Rattle.file_commands.specs.Lists.{ListsAs}
 use Rattle.library_calls.proofs.calls.list.Goals as goal
 
 pub returns-in-Ok : goal.returns-in-Ok

@@ -1,0 +1,49 @@
+//! Listings as they are asked for.
+
+use crate::calls::{JSON, LINES, LONG};
+use file_commands::asking::{Listing, list_file_in, list_source_in};
+use file_making::making::make_file;
+use std::alloc::Global;
+use std::process::Abort;
+
+fn one_stream(rt: &impl Abort, alloc: Global) -> Vec<u8> {
+    let mut text = b"stream A 010203\n".as_slice();
+    let mut file = Vec::new(alloc);
+    make_file(alloc, &mut text, &mut file).expect(rt, "a file");
+    file
+}
+
+/// Whether this is written of a file that is read whole.
+fn is_listed_whole(alloc: Global, listing: Listing, file: &[u8], want: &[u8]) -> bool {
+    let mut reader = file;
+    let mut text = Vec::new(alloc);
+    match list_file_in(alloc, listing, &mut reader, &mut text) {
+        Ok(()) => text.as_slice() == want,
+        Err(_) => false,
+    }
+}
+
+/// Whether this is written of a file that is sought in.
+fn is_listed_sought(alloc: Global, listing: Listing, file: &[u8], want: &[u8]) -> bool {
+    let mut source = file;
+    let mut text = Vec::new(alloc);
+    match list_source_in(alloc, listing, &mut source, &mut text) {
+        Ok(()) => text.as_slice() == want,
+        Err(_) => false,
+    }
+}
+
+fn is_listed(alloc: Global, listing: Listing, file: &[u8], want: &[u8]) -> bool {
+    is_listed_whole(alloc, listing, file, want) && is_listed_sought(alloc, listing, file, want)
+}
+
+#[test]
+fn a_file_is_listed_as_asked(rt: HostRuntime) {
+    let file = one_stream(&rt, rt.alloc());
+    let lines = Listing::of(false, false);
+    assert!(rt; is_listed(rt.alloc(), lines, &file, LINES), "lines");
+    let json = Listing::of(true, false);
+    assert!(rt; is_listed(rt.alloc(), json, &file, JSON), "a value");
+    let long = Listing::of(false, true);
+    assert!(rt; is_listed(rt.alloc(), long, &file, LONG), "columns");
+}
