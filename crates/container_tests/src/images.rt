@@ -98,9 +98,9 @@ fn image(rt: &impl Abort, alloc: Global, core: &ContainerCore) -> Image {
 
 /// How many blocks of 512 bytes of an image differ from those of an older one.
 fn count(rt: &impl Abort, alloc: Global, old: &Image, new: &Image) -> usize {
-    changed(alloc, old.bytes(), new.bytes())
-        .expect(rt, "memory")
-        .len()
+    let now = new.bytes();
+    assert!(rt; now.len() <= 73_728_512);
+    changed(alloc, old.bytes(), now).expect(rt, "memory").len()
 }
 
 /// Whether an image is as its tree is laid out anew.
