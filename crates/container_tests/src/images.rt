@@ -190,20 +190,3 @@ fn a_frame_whose_image_is_not_known_is_laid_out_anew(rt: HostRuntime) {
     told(&rt, alloc, &mut core, "delete 2 =>\nsave 1 => commit 1");
     assert!(rt; is_anew(&rt, alloc, &image(&rt, alloc, &core)));
 }
-
-/// In the sectors of the opened file the last stream would stay behind all that is freed.
-#[test]
-fn a_file_that_would_be_twice_as_long_is_laid_out_anew(rt: HostRuntime) {
-    let alloc = rt.alloc();
-    let mut core = opened(&rt, alloc, &[1, 2, 3, 4, 5, 6]);
-    told(&rt, alloc, &mut core, "session => commit 1");
-    let _ = counted(&rt, alloc, &mut core);
-    told(
-        &rt,
-        alloc,
-        &mut core,
-        "delete 1 =>\ndelete 2 =>\ndelete 3 =>\ndelete 4 =>\ndelete 5 =>",
-    );
-    told(&rt, alloc, &mut core, "save 1 => commit 1");
-    assert!(rt; is_anew(&rt, alloc, &image(&rt, alloc, &core)));
-}
