@@ -32,9 +32,9 @@ pub enum Task<'m, 'a> {
     Check(&'m [&'a str], bool),
     /// The map of a file of this path.
     Map(&'a str),
-    /// A folder, made of a file: the file's path, the folder's, those of what is made of it, and whether files that stand there are
-    /// replaced.
-    Extract(&'a str, &'a str, &'m [&'a str], bool),
+    /// A folder, made of a file: the file's path, the folder's, those of what is made of it where not all is, and whether files that
+    /// stand there are replaced.
+    Extract(&'a str, &'a str, Option<&'m [&'a str]>, bool),
     /// A file of one path, made of the folder of another: that of the folder, and that of the file.
     Pack(&'a str, &'a str),
     /// The file of a path, changed by standard input's lines; whether what is freed is zeroed.
@@ -83,8 +83,11 @@ impl<'m, 'a> Task<'m, 'a> {
             Task::Clean(path, out) => clean(rt, path, out),
             Task::Check(paths, is_json) => check(rt, paths, is_json),
             Task::Map(path) => map(rt, path),
-            Task::Extract(path, folder, words, is_forced) => {
+            Task::Extract(path, folder, Some(words), is_forced) => {
                 extract(rt, path, folder, words, is_forced, is_watched)
+            }
+            Task::Extract(path, folder, None, is_forced) => {
+                extract(rt, path, folder, &[], is_forced, is_watched)
             }
             Task::Pack(folder, path) => pack(rt, folder, path),
             Task::Edit(path, is_zeroed) => edit(rt, path, is_zeroed),
@@ -136,7 +139,7 @@ fn extracting<'m, 'a>(extracted: &'m ArgMatches<'a>) -> Option<Task<'m, 'a>> {
     Some(Task::Extract(
         extracted.get_str(FILE)?,
         extracted.get_str(FOLDER)?,
-        extracted.get_strs(PATH).unwrap_or(&[]),
+        extracted.get_strs(PATH),
         extracted.get_flag(FORCE),
     ))
 }
