@@ -107,7 +107,7 @@ class File:
             raise Refused({"BadSignature"})
         for at, count, wanted in FIXED:
             if number(data, at, count) != wanted:
-                raise Refused({f"Unsupported({at})"})
+                raise Refused({"Unsupported"})
         self.fat_count, self.difat_count, self.mini_count = (number(data, it) for it in (44, 72, 64))
         if self.fat_count > MOST_FAT or self.difat_count > MOST_DIFAT:
             raise Refused({"TooBig"})
