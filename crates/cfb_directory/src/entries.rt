@@ -95,6 +95,7 @@ fn allowed(unit: u16) -> u8
 /// ASCII behind it goes first.
 fn forbidden_name(entry: &[u8; 128], count: usize, at: usize) -> DirFault
     requires short { count ≤ 31 }
+    requires whole { name_length entry.now ≤ 64 }
     requires count { count ≡ name_length entry.now / 2 - 1 }
     requires inside { at < count }
     requires forbidden { is_forbidden (u16_at entry.now (2 * at)) ≡ true }

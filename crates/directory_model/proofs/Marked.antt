@@ -147,10 +147,10 @@ pub entry_kept : (directory : List ℕ) (id : ℕ) (name : List ℕ) (fault : Di
     → (id ≢ 0 → IsNamed (entry_at directory id) name) → IsName name → MayRefuseEntry directory id fault → ⊥
 entry_kept directory id name NameEmpty lt k named valid (ne, h) = let n = named ne in omega (arith, n.even, valid.some)
 entry_kept directory id name NameTooLong lt k named valid (ne, h) = let n = named ne in omega (arith, n.even, valid.short)
-entry_kept directory id name NameNotAscii lt k named valid (ne, (c, there, past)) =
+entry_kept directory id name NameNotAscii lt k named valid (ne, (short, (c, there, past))) =
     let n = named ne in
     unit_in name (nat_le 128) c valid.ascii (subst (λ (xs : List ℕ). Contains xs c) (sym n.units) there) (le-leb 128 c past)
-entry_kept directory id name NameForbidden lt k named valid (ne, (c, there, bad)) =
+entry_kept directory id name NameForbidden lt k named valid (ne, (short, (c, there, bad))) =
     let n = named ne in
     unit_in name is_forbidden c valid.allowed (subst (λ (xs : List ℕ). Contains xs c) (sym n.units) there) bad
 entry_kept directory id name DuplicateName lt k named valid h = h

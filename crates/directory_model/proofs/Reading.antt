@@ -107,8 +107,8 @@ module _ (entry units : List ℕ) (room : length units ≡ 31) (some : 4 ≤ nam
       (λ e. absurd (omega (arith, length-chars)))
       (λ l. absurd (omega (arith, length-chars)))
       (λ a. let c : (c : ℕ) × Contains (name_of entry) c × (nat_le 128 c ≡ true) = there (nat_le 128) (at (nat_le 128) a) in
-      (c.0, c.1, leb-true 128 c.0 c.2))
-      (λ f. there is_forbidden (at is_forbidden f)))
+      (short, (c.0, c.1, leb-true 128 c.0 c.2)))
+      (λ f. (short, there is_forbidden (at is_forbidden f))))
 
 -- a unit of a name is among them
 pub unit_contained : (entry : List ℕ) (k : ℕ) → k < name_length entry / 2 - 1 → Contains (name_of entry) (u16_at entry (2 * k))

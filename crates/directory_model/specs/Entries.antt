@@ -118,14 +118,14 @@ pub record IsEntry (directory : List ℕ) (id : ℕ) (e : Entry) : Type 0 where
   pub first : e.first ≡ first_of (entry_at directory id)
   pub size : e.size ≡ size_of (entry_at directory id)
 
--- when a fault may be answered for an entry
+-- When a fault may be answered for an entry. No character is looked at of a name that is too long.
 abbrev pub MayRefuseEntry : List ℕ → ℕ → DirFault → Type 0
 MayRefuseEntry directory id BadEntry = (length directory ≤ 128 * id) ⊎ (IsKindOf id (kind (entry_at directory id)) → ⊥)
     ⊎ ((id ≢ 0) × ((k : ℕ) → name_length (entry_at directory id) ≢ 2 * k))
 MayRefuseEntry directory id NameEmpty = (id ≢ 0) × (name_length (entry_at directory id) < 4)
 MayRefuseEntry directory id NameTooLong = (id ≢ 0) × (64 < name_length (entry_at directory id))
-MayRefuseEntry directory id NameNotAscii = (id ≢ 0) × ((c : ℕ) × Contains (name_of (entry_at directory id)) c × (127 < c))
-MayRefuseEntry directory id NameForbidden = (id ≢ 0) × ((c : ℕ) × Contains (name_of (entry_at directory id)) c × (is_forbidden c ≡ true))
+MayRefuseEntry directory id NameNotAscii = (id ≢ 0) × ((name_length (entry_at directory id) ≤ 64) × ((c : ℕ) × Contains (name_of (entry_at directory id)) c × (127 < c)))
+MayRefuseEntry directory id NameForbidden = (id ≢ 0) × ((name_length (entry_at directory id) ≤ 64) × ((c : ℕ) × Contains (name_of (entry_at directory id)) c × (is_forbidden c ≡ true)))
 MayRefuseEntry directory id _ = ⊥
 
 -- links reach this entry from one, by way of others, and all of these were met so

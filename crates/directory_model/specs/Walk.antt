@@ -17,8 +17,8 @@ abbrev pub MayRefuseName : List ℕ → DirFault → Type 0
 MayRefuseName entry BadEntry = (k : ℕ) → name_length entry ≢ 2 * k
 MayRefuseName entry NameEmpty = name_length entry < 4
 MayRefuseName entry NameTooLong = 64 < name_length entry
-MayRefuseName entry NameNotAscii = (c : ℕ) × Contains (name_of entry) c × (127 < c)
-MayRefuseName entry NameForbidden = (c : ℕ) × Contains (name_of entry) c × (is_forbidden c ≡ true)
+MayRefuseName entry NameNotAscii = (name_length entry ≤ 64) × ((c : ℕ) × Contains (name_of entry) c × (127 < c))
+MayRefuseName entry NameForbidden = (name_length entry ≤ 64) × ((c : ℕ) × Contains (name_of entry) c × (is_forbidden c ≡ true))
 MayRefuseName entry _ = ⊥
 
 -- without marks, the last one taken back first

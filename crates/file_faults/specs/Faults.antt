@@ -72,9 +72,9 @@ abbrev pub MayRefuseBelow : List ℕ → DirFault → Type 0
 MayRefuseBelow dir directory.NameEmpty = (levels : ℕ) × (id : ℕ) × IsBelow dir (suc levels) id × (name_length (entry_at dir id) < 4)
 MayRefuseBelow dir directory.NameTooLong = (levels : ℕ) × (id : ℕ) × IsBelow dir (suc levels) id × (64 < name_length (entry_at dir id))
 MayRefuseBelow dir directory.NameNotAscii = (levels : ℕ) × (id : ℕ) × IsBelow dir (suc levels) id
-    × ((c : ℕ) × Contains (name_of (entry_at dir id)) c × (127 < c))
+    × ((name_length (entry_at dir id) ≤ 64) × ((c : ℕ) × Contains (name_of (entry_at dir id)) c × (127 < c)))
 MayRefuseBelow dir directory.NameForbidden = (levels : ℕ) × (id : ℕ) × IsBelow dir (suc levels) id
-    × ((c : ℕ) × Contains (name_of (entry_at dir id)) c × (is_forbidden c ≡ true))
+    × ((name_length (entry_at dir id) ≤ 64) × ((c : ℕ) × Contains (name_of (entry_at dir id)) c × (is_forbidden c ≡ true)))
 MayRefuseBelow dir directory.DuplicateName = (levels : ℕ) × (id : ℕ) × IsBelow dir levels id
     × ((m : ℕ) × (n : ℕ) × IsChild dir id m × IsChild dir id n × (m ≢ n) × (key_at dir m ≡ key_at dir n))
 MayRefuseBelow dir directory.TooNested = (id : ℕ) × IsBelow dir (suc DEEPEST) id × (kind (entry_at dir id) ≡ 1)

@@ -8,9 +8,9 @@ pub returns-then-read_u16-gt127 : goal.returns-then-read_u16-gt127
 returns-then-read_u16-gt127 c =
     let lt : c.loop-k.k < name_length c.args.entry.now / 2 - 1 = omega (arith, c.requires.count, c.loop-k-test.true) in
     let past : 127 < u16_at c.args.entry.now (2 * c.loop-k.k) = omega (arith, c.read_u16.ensures) in
-    (u16_at c.args.entry.now (2 * c.loop-k.k), unit_contained c.args.entry.now c.loop-k.k lt, past)
+    (c.requires.whole, (u16_at c.args.entry.now (2 * c.loop-k.k), unit_contained c.args.entry.now c.loop-k.k lt, past))
 
 pub returns : goal.returns
 returns c =
     let lt : c.args.at < name_length c.args.entry.now / 2 - 1 = omega (arith, c.requires.count, c.requires.inside) in
-    (u16_at c.args.entry.now (2 * c.args.at), unit_contained c.args.entry.now c.args.at lt, c.requires.forbidden)
+    (c.requires.whole, (u16_at c.args.entry.now (2 * c.args.at), unit_contained c.args.entry.now c.args.at lt, c.requires.forbidden))

@@ -21,7 +21,8 @@ pub returns-then-unit-gt127-clause-refused : goal.returns-then-unit-gt127-clause
 returns-then-unit-gt127-clause-refused c =
     let lt : c.loop-k.k < name_length c.args.entry.now / 2 - 1 = omega (arith, c.read_u16-len.ensures) in
     let past : 127 < u16_at c.args.entry.now (2 * c.loop-k.k) = omega (arith, c.read_u16-unit.ensures) in
-    (u16_at c.args.entry.now (2 * c.loop-k.k), unit_contained c.args.entry.now c.loop-k.k lt, past)
+    let short : name_length c.args.entry.now ≤ 64 = omega (arith, c.read_u16-len.ensures) in
+    (short, (u16_at c.args.entry.now (2 * c.loop-k.k), unit_contained c.args.entry.now c.loop-k.k lt, past))
 
 pub from_units-requires : goal.from_units-requires
 from_units-requires c =
