@@ -5,7 +5,7 @@ use Rattle.cfb_chain.proofs.Marks.{distinct_append}
 use Rattle.cfb_names.specs.Names.{key}
 use Rattle.cfb_names.specs.declared.fault.DirFault.{DirFault}
 use Rattle.cfb_names.specs.declared.fault.DirFault.TheVariants as directory
-use Rattle.cfb_directory.specs.Entries.{AreLinked, IsEntry, IsNamed, MayRefuseEntry, MayRefuseLoad, child, entry_at, kind}
+use Rattle.cfb_directory.specs.Entries.{AreLinked, IsEntry, IsKindOf, IsNamed, MayRefuseEntry, MayRefuseLoad, child, entry_at, kind}
 use Rattle.directory_model.specs.declared.entries.Entry.{Entry}
 use Rattle.file_model.proofs.Lists.{Contains-cons_cases}
 use Rattle.file_faults.specs.Faults.{Descends, IsBelow, IsChild, IsDirectory, IsDirectoryAtFault, IsStorage, MayRefuseBelow, key_at}
@@ -54,6 +54,21 @@ key_of dir (suc id) e ne h = let named : IsNamed (entry_at dir (suc id)) e.name 
 -- ---- what is read of the entry of a way
 pub kind_at : (e dir way : List ℕ) (id k : ℕ) → e ≡ dir → id ≡ end_of way → kind (entry_at e id) ≡ k → kind (entry_at dir (end_of way)) ≡ k
 kind_at e dir way id k same at h = sym (λ i. kind (entry_at (same i) (at i))) ∙ h
+
+-- an entry that is opened: the root alone has its kind
+storage_root : (dir : List ℕ) (id : ℕ) → IsKindOf id (kind (entry_at dir id)) → kind (entry_at dir id) ≡ 5 → IsStorage dir id
+storage_root dir zero allowed k = inl (refl, k)
+storage_root dir (suc id) allowed k = absurd (elim allowed [ inl one ↦ omega (arith, one, k) | inr two ↦ omega (arith, two, k) ])
+
+storage_below : (dir : List ℕ) (id : ℕ) → IsKindOf id (kind (entry_at dir id)) → kind (entry_at dir id) ≡ 1 → IsStorage dir id
+storage_below dir zero allowed k = absurd (omega (arith, allowed, k))
+storage_below dir (suc id) allowed k = inr ((λ z. omega (arith, z)), k)
+
+pub opens_root : (e dir way : List ℕ) (id : ℕ) → e ≡ dir → id ≡ end_of way → IsKindOf id (kind (entry_at e id)) → kind (entry_at e id) ≡ 5 → IsStorage dir (end_of way)
+opens_root e dir way id same at allowed k = subst (λ (d : List ℕ). IsStorage d (end_of way)) same (subst (IsStorage e) at (storage_root e id allowed k))
+
+pub opens_storage : (e dir way : List ℕ) (id : ℕ) → e ≡ dir → id ≡ end_of way → IsKindOf id (kind (entry_at e id)) → kind (entry_at e id) ≡ 1 → IsStorage dir (end_of way)
+opens_storage e dir way id same at allowed k = subst (λ (d : List ℕ). IsStorage d (end_of way)) same (subst (IsStorage e) at (storage_below e id allowed k))
 
 pub refused_at : (e dir way : List ℕ) (id : ℕ) (found fault : DirFault) → e ≡ dir → id ≡ end_of way → found ≡ fault → MayRefuseEntry e id found → MayRefuseEntry dir (end_of way) fault
 refused_at e dir way id found fault same at is h =

@@ -1,8 +1,9 @@
 -- Entries below the root.
 use Rattle.std.proofs.Common.{◌≡◌, ◌≢◌, ◌<◌, ◌*◌, inl, inr, ℕ, zero, suc, List, [], ◌∷◌, ◌++◌, length, refl, sym, subst, arith, length-append}
 use Rattle.std.specs.List.{Contains}
-use Rattle.std.proofs.lemmas.List.Elements.{Contains-append_cases}
-use Rattle.chain_model.proofs.Marks.{distinct_append}
+use Rattle.std.proofs.lemmas.List.Elements.{All-contains, Contains-append_cases}
+use Rattle.chain_model.specs.Chain.{AreDistinct}
+use Rattle.chain_model.proofs.Marks.{distinct_append, distinct_head}
 use Rattle.directory_model.specs.Entries.{AreLinked, MayRefuseEntry, NO_STREAM, Reaches, around, by_left, by_right, child, entry_at, here, left, nobody, right}
 use Rattle.cfb_names.specs.declared.fault.DirFault.{DirFault}
 use Rattle.cfb_names.specs.declared.fault.DirFault.TheVariants as directory
@@ -48,6 +49,18 @@ at_top dir (n ∷ way) id l d = absurd (omega (arith, l))
 pub below_some : (dir : List ℕ) (levels id : ℕ) → id ≢ 0 → IsBelow dir levels id → (k : ℕ) × IsBelow dir (suc k) id
 below_some dir zero id ne h = absurd (ne (at_top dir h.way id h.long h.leads))
 below_some dir (suc k) id ne h = (k, h)
+
+-- and an entry below the root isn't the root
+last_in : (dir : List ℕ) (n : ℕ) (way : List ℕ) (id : ℕ) → Descends dir n way id → Contains (n ∷ way) id
+last_in dir n [] id d = (0, omega arith, sym d)
+last_in dir n (m ∷ way) id d = let c : Contains (m ∷ way) id = last_in dir m way id d.1 in (suc c.0, omega (arith, c.1), c.2)
+
+not_root : (dir way : List ℕ) (levels id : ℕ) → length way ≡ suc levels → Descends dir 0 way id → AreDistinct (0 ∷ way) → 0 ≢ id
+not_root dir [] levels id l d once = absurd (omega (arith, l))
+not_root dir (n ∷ way) levels id l d once = All-contains (λ m. 0 ≢ m) (n ∷ way) id (distinct_head 0 (n ∷ way) once) (last_in dir n way id d.1)
+
+pub below_not_root : (dir : List ℕ) (levels id : ℕ) → IsBelow dir (suc levels) id → id ≢ 0
+below_not_root dir levels id h z = not_root dir h.way levels id h.long h.leads h.once (sym z)
 
 -- and inside the directory
 child_inside : (dir : List ℕ) (top n : ℕ) (way : List ℕ) (id : ℕ) → IsChild dir top n → Descends dir n way id → 128 * id < length dir

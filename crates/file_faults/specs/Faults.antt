@@ -20,9 +20,9 @@ abbrev pub key_at : List ℕ → ℕ → List ℕ
 key_at directory id = key (name_of (entry_at directory id))
 
 -- ---- entries below the root
--- the root, or a storage
+-- the root, which is entry 0 and no other, or a storage
 abbrev pub IsStorage : List ℕ → ℕ → Type 0
-IsStorage dir id = (kind (entry_at dir id) ≡ 5) ⊎ (kind (entry_at dir id) ≡ 1)
+IsStorage dir id = ((id ≡ 0) × (kind (entry_at dir id) ≡ 5)) ⊎ ((id ≢ 0) × (kind (entry_at dir id) ≡ 1))
 
 -- an entry that the links of a storage reach
 pub record IsChild (dir : List ℕ) (parent id : ℕ) : Type 0 where

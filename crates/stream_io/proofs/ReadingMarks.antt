@@ -11,7 +11,7 @@ use Rattle.storage_tree.specs.Change.{Seen, bytes, inner}
 use Rattle.storage_tree.specs.Tree.{Tree, Children, tree, none, stream, storage}
 use Rattle.file_model.proofs.Lists.{Contains-behind, Contains-front}
 use Rattle.file_faults.specs.Faults.{Base, IsBelow, IsStorage, store_in}
-use Rattle.file_faults.proofs.Below.{below_more, linked_child}
+use Rattle.file_faults.proofs.Below.{below_more, below_not_root, linked_child}
 use Rattle.stream_io.specs.Marks.{IsBegun, IsInRead, IsMet, IsMetBelow, IsMetChild, IsUnderway}
 use Rattle.stream_io.specs.Reads.{AreRead, AreSorted, IsNodeRead, IsStorageRead, IsStreamRead, IsTaken, directory_in, met}
 use Rattle.stream_io.specs.declared.read.Reader.{Reader}
@@ -196,8 +196,9 @@ module _ (b : Base) (levels id : ℕ) (pending content : List ℕ) (old new : Re
 
 -- ---- a storage that is read
 module _ (b : Base) where
-  is_storage : (id : ℕ) (pending : List ℕ) (r : Reader) → IsUnderway b pending r → kind (entry_at (directory_in r) id) ≡ 1 → IsStorage b.directory id
-  is_storage id pending r h k = inr (ap (λ (d : List ℕ). kind (entry_at d id)) (same_directory b pending r h) ∙ k)
+  is_storage : (levels id : ℕ) (pending : List ℕ) (r : Reader) → IsBelow b.directory (suc levels) id → IsUnderway b pending r → kind (entry_at (directory_in r) id) ≡ 1
+      → IsStorage b.directory id
+  is_storage levels id pending r below h k = inr (below_not_root b.directory levels id below, ap (λ (d : List ℕ). kind (entry_at d id)) (same_directory b pending r h) ∙ k)
 
   mutual
     underway_storage : (depth levels id : ℕ) (t : Tree) (old new : Reader) (pending : List ℕ) → IsMetBelow b.directory old levels id → IsStorage b.directory id
@@ -221,11 +222,11 @@ module _ (b : Base) where
         let next : Reader = r.1.0 in
         underway_each depth levels ids cs next new pending
         (λ m i. below_kept b.directory old next (suc levels) m (kept_storage (depth - 1) id t old next r.1.1.2) (stand m (Contains-behind id ids m i)))
-        (underway_storage (depth - 1) (suc levels) id t old next (ids ++ pending) (stand id (Contains-front id ids)) (is_storage id (id ∷ (ids ++ pending)) old h r.1.1.0) h r.1.1.2) r.1.2
+        (underway_storage (depth - 1) (suc levels) id t old next (ids ++ pending) (stand id (Contains-front id ids)) (is_storage levels id (id ∷ (ids ++ pending)) old (stand id (Contains-front id ids)).below h r.1.1.0) h r.1.1.2) r.1.2
 
   -- one entry
   pub underway_node : (depth levels id : ℕ) (s : Seen) (old new : Reader) (pending : List ℕ) → IsMetBelow b.directory old (suc levels) id → IsUnderway b (id ∷ pending) old
       → IsNodeRead depth id s old new → IsUnderway b pending new
   underway_node depth levels id (bytes c) old new pending stands h r = underway_stream b levels id pending c old new stands.below h r
   underway_node depth levels id (inner t) old new pending stands h r =
-      underway_storage (depth - 1) (suc levels) id t old new pending stands (is_storage id (id ∷ pending) old h r.0) h r.2
+      underway_storage (depth - 1) (suc levels) id t old new pending stands (is_storage levels id (id ∷ pending) old stands.below h r.0) h r.2

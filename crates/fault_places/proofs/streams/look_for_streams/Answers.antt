@@ -1,9 +1,9 @@
-use Rattle.std.proofs.Common.{◌∙◌, inl, inr, ap, sym}
+use Rattle.std.proofs.Common.{◌∙◌, ap, sym}
 use Rattle.std.proofs.lemmas.List.Elements.{All-push}
 use Rattle.cfb_directory.specs.Entries.{kind_number}
 use Rattle.fault_places.specs.Streams.{IsStream}
 use Rattle.fault_places.proofs.Owned.{stream_read}
-use Rattle.fault_places.proofs.Steps.{kind_at}
+use Rattle.fault_places.proofs.Steps.{opens_root, opens_storage}
 use Rattle.fault_places.proofs.streams.look_for_streams.Goals as goal
 
 pub returns-in_ok-push-in-Stream-clause-streams : goal.returns-in_ok-push-in-Stream-clause-streams
@@ -14,10 +14,10 @@ returns-in_ok-push-in-Stream-clause-streams c =
 
 pub open-requires-clause-storage : goal.open-requires-clause-storage
 open-requires-clause-storage c =
-    inl (kind_at c.args.entries.now.directory c.args.directory.now c.args.way.now c.end_of.result 5 c.requires.same c.end_of.ensures
-    (sym c.in-Ok.ensures.read.kind_held ∙ ap kind_number c.in-Root.is))
+    opens_root c.args.entries.now.directory c.args.directory.now c.args.way.now c.end_of.result c.requires.same c.end_of.ensures c.in-Ok.ensures.read.allowed
+    (sym c.in-Ok.ensures.read.kind_held ∙ ap kind_number c.in-Root.is)
 
 pub open-requires-in-Storage-clause-storage : goal.open-requires-in-Storage-clause-storage
 open-requires-in-Storage-clause-storage c =
-    inr (kind_at c.args.entries.now.directory c.args.directory.now c.args.way.now c.end_of.result 1 c.requires.same c.end_of.ensures
-    (sym c.in-Ok.ensures.read.kind_held ∙ ap kind_number c.in-Storage.is))
+    opens_storage c.args.entries.now.directory c.args.directory.now c.args.way.now c.end_of.result c.requires.same c.end_of.ensures c.in-Ok.ensures.read.allowed
+    (sym c.in-Ok.ensures.read.kind_held ∙ ap kind_number c.in-Storage.is)

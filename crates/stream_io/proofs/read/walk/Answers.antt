@@ -1,4 +1,4 @@
-use Rattle.std.proofs.Common.{◌≡◌, ◌/◌, ◌++◌, List, [], ◌∷◌, ℕ, inl, true, false, length, replicate, get_or, sym, ◌∙◌, ap, subst, rules}
+use Rattle.std.proofs.Common.{◌≡◌, ◌/◌, ◌++◌, List, [], ◌∷◌, ℕ, inl, true, false, length, replicate, get_or, refl, sym, ◌∙◌, ap, subst, rules}
 use Rattle.std.specs.Result.{IsErrAnd}
 use Rattle.cfb_chain.proofs.Results.{refused_with}
 use Rattle.cfb_chain.specs.Chain.{IsChain}
@@ -77,7 +77,7 @@ returns-in_err-mini-clause-reads c = λ t d.
     c.in_ok-root.ensures.read.first c.in_ok-root.ensures.read.size))
 
 pub storage_outline-requires-clause-storage : goal.storage_outline-requires-clause-storage
-storage_outline-requires-clause-storage c = inl c.in_ok-root.ensures.read.allowed
+storage_outline-requires-clause-storage c = inl (refl, c.in_ok-root.ensures.read.allowed)
 
 pub storage_outline-requires-clause-root_marked : goal.storage_outline-requires-clause-root_marked
 storage_outline-requires-clause-root_marked c =
