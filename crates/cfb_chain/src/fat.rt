@@ -453,6 +453,7 @@ impl<'a> Fat<'a> {
     fn find(&self, alloc: Global, start: u32, len: u64) -> Result<Vec<u32>, ChainFault>
         ensures found { IfOk result (λ v. IsFound self.now start len v.items) }
         ensures refused { IfErr result (MayRefuse self.now start len) }
+        ensures some { IfErr result (λ e. 0 < len) }
         ensures there { (ns : List ℕ) → IsFound self.now start len ns → IfErr result (λ e. e ≡ NoMemory) }
         ensures either { (self.now.width ≡ 512) ⊎ (self.now.width ≡ 64) }
     {
@@ -468,6 +469,7 @@ impl<'a> Fat<'a> {
     fn room(&self, start: u32, len: u64) -> Result<usize, ChainFault>
         ensures counted { IfOk result (λ count. 0 < len → (ns : List ℕ) × IsFreeChain self.now start ns × IsFound self.now start len ns × (length ns ≡ count)) }
         ensures refused { IfErr result (MayRefuse self.now start len) }
+        ensures some { IfErr result (λ e. 0 < len) }
         ensures there { (ns : List ℕ) → IsFound self.now start len ns → IfErr result (λ e. e ≡ NoMemory) }
         ensures told { IfErr result (λ e. e ≢ NoMemory) }
         ensures few { length self.now.table ≤ 0xFFFFFFF9 }

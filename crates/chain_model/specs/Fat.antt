@@ -138,8 +138,8 @@ MayRefuseChain f start fault = MayRefuse f start 0 fault
 abbrev pub IsSound : List ℕ → List Bool → Type 0
 IsSound table used = (length table ≡ length used) × (length table ≤ 0xFFFFFFF9)
 
--- when a fault may be answered for the mini FAT's chain and the mini stream's: for either as they stand, or for the
--- mini stream's where the mini FAT's sectors are marked
+-- When a fault may be answered for the mini FAT's chain and the mini stream's: for either as they stand, or for the
+-- mini stream's where the mini FAT's sectors are marked. A mini FAT of no sectors has no chain.
 abbrev pub MayRefuseMini : FatValue → HeaderValue → ℕ → ℕ → ChainFault → Type 0
-MayRefuseMini f h start size e = MayRefuse f h.first_mini_fat (512 * h.mini_fat_count) e
+MayRefuseMini f h start size e = ((0 < h.mini_fat_count) × MayRefuse f h.first_mini_fat (512 * h.mini_fat_count) e)
     ⊎ ((ns : List ℕ) × IsFound f h.first_mini_fat (512 * h.mini_fat_count) ns × MayRefuse (marked f ns) start size e)

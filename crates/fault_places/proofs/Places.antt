@@ -54,7 +54,7 @@ pub told_is_at_fault : ToldIsAtFault
 told_is_at_fault file fault place.Header h = faults.in_header h
 told_is_at_fault file fault place.Fat h = faults.in_fat h
 told_is_at_fault file fault (place.Directory link) h = faults.in_directory (link_at_fault _ _ _ _ fault link h)
-told_is_at_fault file fault (place.MiniFat link) h = faults.in_mini_fat h.0 h.1 (link_at_fault _ _ _ _ fault link h.2)
+told_is_at_fault file fault (place.MiniFat link) h = faults.in_mini_fat h.0 h.1 h.2 (link_at_fault _ _ _ _ fault link h.3)
 told_is_at_fault file fault (place.MiniStream link) h = faults.in_mini_stream h.0 h.1 h.2 h.3 h.4 (link_at_fault _ _ _ _ fault link h.5)
 
 -- ---- the header

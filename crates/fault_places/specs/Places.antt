@@ -56,7 +56,7 @@ IsFaultAt file fault place.Header = header_read file ≡ Err fault
 IsFaultAt file fault place.Fat = IsFatAtFault file fault
 IsFaultAt file fault (place.Directory link) =
     IsLinkAtFault (sectors_of file (listed file)) (Contains (listed file ++ difat file)) (first_directory file) 0 fault link
-IsFaultAt file fault (place.MiniFat link) = (dir : List ℕ) × (d : IsDirectory file dir)
+IsFaultAt file fault (place.MiniFat link) = (dir : List ℕ) × (d : IsDirectory file dir) × (0 < mini_fat_count file)
     × IsLinkAtFault (sectors_of file (listed file)) (Contains (listed file ++ difat file ++ d.sectors)) (first_mini_fat file) (512 * mini_fat_count file) fault link
 IsFaultAt file fault (place.MiniStream link) = (dir : List ℕ) × (d : IsDirectory file dir) × (mini_fat : List ℕ)
     × IsChainOf (sectors_of file (listed file)) (first_mini_fat file) (512 * mini_fat_count file) mini_fat × (0 < size_of (entry_at dir 0))

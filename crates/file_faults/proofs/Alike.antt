@@ -129,8 +129,8 @@ module _ (a b : List ℕ) (h : Alike a b) where
   file_fault fault (in_directory q) =
       in_directory (chain_fault_at (listed a ++ difat a) (listed b ++ difat b) (first_directory a) 0 (first_directory b) 0 fault both_same
       (ap (λ (v : HeaderValue). v.first_directory) header_same) refl q)
-  file_fault fault (in_mini_fat dir d q) =
-      in_mini_fat dir (directory_alike b a dir (alike_back a b h) d)
+  file_fault fault (in_mini_fat dir d some q) =
+      in_mini_fat dir (directory_alike b a dir (alike_back a b h) d) (subst (λ (v : HeaderValue). 0 < v.mini_fat_count) header_same some)
       (chain_fault_at (listed a ++ difat a ++ d.sectors) (listed b ++ difat b ++ d.sectors) (first_mini_fat a) (512 * mini_fat_count a) (first_mini_fat b) (512 * mini_fat_count b) fault
       (λ i. both_same i ++ d.sectors) (ap (λ (v : HeaderValue). v.first_mini_fat) header_same) (ap (λ (v : HeaderValue). 512 * v.mini_fat_count) header_same) q)
   file_fault fault (in_mini_stream dir d mini_fat lies some q) =

@@ -127,12 +127,12 @@ module _ (file : List ℕ) (v : HeaderValue) (f : FatValue) (dir : List ℕ) (is
   there : Agree (store_of f) (sectors_of file (listed file))
   there = agree_same (store_of f) (sectors_of file (listed file)) same
 
-  mini_fat_refused : (fault : ChainFault) → MayRefuse f v.first_mini_fat (512 * v.mini_fat_count) fault → (fault ≡ chain.NoMemory) ⊎ IsFileAtFault file fault
-  mini_fat_refused fault h =
+  mini_fat_refused : (fault : ChainFault) → 0 < v.mini_fat_count → MayRefuse f v.first_mini_fat (512 * v.mini_fat_count) fault → (fault ≡ chain.NoMemory) ⊎ IsFileAtFault file fault
+  mini_fat_refused fault some h =
       let P : ℕ → Type 0 = Contains (listed file ++ difat file ++ d.sectors) in
       elim (chain_refused f P (λ n l m. marks.only n (l, m)) v.first_mini_fat (512 * v.mini_fat_count) fault h) [
         | inl m ↦ inl m
-        | inr r ↦ inr (in_mini_fat dir d (subst (λ (x : HeaderValue). IsChainAtFault (sectors_of file (listed file)) P x.first_mini_fat (512 * x.mini_fat_count) fault) is
+        | inr r ↦ inr (in_mini_fat dir d (subst (λ (x : HeaderValue). 0 < x.mini_fat_count) is some) (subst (λ (x : HeaderValue). IsChainAtFault (sectors_of file (listed file)) P x.first_mini_fat (512 * x.mini_fat_count) fault) is
             (fault_carried (store_of f) (sectors_of file (listed file)) there P P (λ n q. q) v.first_mini_fat (512 * v.mini_fat_count) fault r)))
       ]
 
@@ -162,7 +162,7 @@ module _ (file : List ℕ) (v : HeaderValue) (f : FatValue) (dir : List ℕ) (is
   pub mini_refused : (start size : ℕ) (fault : ChainFault) → start ≡ first_of (entry_at dir 0) → size ≡ size_of (entry_at dir 0)
       → ((mini_fat mini_stream : List ℕ) → IsMiniFound f v.first_mini_fat v.mini_fat_count start size mini_fat mini_stream → fault ≡ chain.NoMemory)
       → MayRefuseMini f v start size fault → (fault ≡ chain.NoMemory) ⊎ IsFileAtFault file fault
-  mini_refused start size fault at long found_refused (inl h) = mini_fat_refused fault h
+  mini_refused start size fault at long found_refused (inl h) = mini_fat_refused fault h.0 h.1
   mini_refused start size fault at long found_refused (inr h) = mini_stream_refused start size h.0 fault at long found_refused h.1 h.2
 
 -- ---- streams below the root

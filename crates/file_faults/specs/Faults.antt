@@ -165,7 +165,7 @@ pub data IsFileAtFault (file : List ℕ) (fault : ChainFault) : Type 0 where
   in_header : header_read file ≡ Err fault → IsFileAtFault file fault
   in_fat : IsFatAtFault file fault → IsFileAtFault file fault
   in_directory : IsChainAtFault (sectors_of file (listed file)) (Contains (listed file ++ difat file)) (first_directory file) 0 fault → IsFileAtFault file fault
-  in_mini_fat : (dir : List ℕ) (d : IsDirectory file dir)
+  in_mini_fat : (dir : List ℕ) (d : IsDirectory file dir) → 0 < mini_fat_count file
       → IsChainAtFault (sectors_of file (listed file)) (Contains (listed file ++ difat file ++ d.sectors)) (first_mini_fat file) (512 * mini_fat_count file) fault
       → IsFileAtFault file fault
   in_mini_stream : (dir : List ℕ) (d : IsDirectory file dir) (mini_fat : List ℕ)

@@ -1,4 +1,4 @@
-use Rattle.std.proofs.Common.{◌≡◌, ◌*◌, ◌<◌, ◌++◌, ◌∙◌, ℕ, List, [], ap, arith, refl, subst, sym}
+use Rattle.std.proofs.Common.{◌≡◌, ◌≢◌, ◌*◌, ◌<◌, ◌++◌, ◌∙◌, ℕ, List, [], ap, arith, refl, subst, sym}
 use Rattle.cfb_header.specs.Bytes.{joined, sector}
 use Rattle.cfb_header.specs.Header.{HeaderValue, difat, first_mini_fat, listed, mini_fat_count}
 use Rattle.cfb_chain.specs.Chain.{IsChain, IsChainOf}
@@ -9,6 +9,9 @@ use Rattle.fault_places.specs.declared.walking.Examined.TheVariants as examined
 use Rattle.fault_places.proofs.Places.{at_link, directory_at, whole_at}
 use Rattle.fault_places.proofs.Walks.{chain_of_some}
 use Rattle.fault_places.proofs.finding.find_in_mini_fat.Goals as goal
+
+counted : (m n : ℕ) → m ≡ n → m ≢ 0 → 0 < n
+counted m n e some = omega (arith, e, some)
 
 pub returns-in-AtFault : goal.returns-in-AtFault
 returns-in-AtFault c =
@@ -27,6 +30,7 @@ returns-in-AtFault c =
     subst (λ (xs : List ℕ). IsExamined xs seen chain c.args.fault (examined.AtFault c.in-AtFault.link)) c.deref-2.ensures.value there in (
       joined (sector file) ns,
       directory_at file f lists table c.requires.tables (joined (sector file) ns) ns c.requires.directory refl,
+      counted c.mini_fat_count-count.result (mini_fat_count file) (c.mini_fat_count-count.ensures ∙ ap (λ (x : HeaderValue). x.mini_fat_count) c.requires.same) c.if-count-eq0.false,
       at_link file f lists table c.requires.tables seen (listed file ++ difat file ++ ns) chain (first_mini_fat file) (512 * mini_fat_count file) c.args.fault c.in-AtFault.link found taken
           (c.first_mini_fat.ensures ∙ ap (λ (x : HeaderValue). x.first_mini_fat) c.requires.same)
           (ap (λ (x : ℕ). 512 * x) c.mini_fat_count-count.ensures ∙ ap (λ (x : HeaderValue). 512 * x.mini_fat_count) c.requires.same) refl,

@@ -1,7 +1,9 @@
-use Rattle.std.proofs.Common.{◌≡◌, ◌<◌, ◌*◌, ◌++◌, ◌∙◌, List, ℕ, ap, inr, length, refl, sym, subst, take}
+use Rattle.std.proofs.Common.{◌≡◌, ◌<◌, ◌*◌, ◌++◌, ◌∙◌, List, ℕ, ap, arith, inl, inr, length, refl, sym, subst, take}
 use Rattle.std.proofs.lemmas.List.Elements.{All-take}
 use Rattle.std.specs.List.{All}
-use Rattle.cfb_chain.specs.Fat.{AreFree, FatValue, IsFound, IsMiniFound, IsMiniTable, MayRefuse, marked, store_of}
+use Rattle.cfb_chain.specs.Fat.{AreFree, FatValue, IsFound, IsMiniFound, IsMiniTable, MayRefuse, MayRefuseMini, marked, store_of}
+use Rattle.cfb_header.specs.Header.{HeaderValue}
+use Rattle.cfb_header.specs.declared.fault.ChainFault.{ChainFault}
 use Rattle.cfb_header.specs.declared.fault.ChainFault.TheVariants.{NoMemory}
 use Rattle.cfb_chain.proofs.Chains.{chain_below, chain_once}
 use Rattle.cfb_chain.proofs.Marks.{free_left, free_rest, free_then, set_all-append}
@@ -28,6 +30,9 @@ found_below : (f g : FatValue) (first bytes : ℕ) (ns xs : List ℕ) → g.tabl
 found_below f g first bytes ns xs same is h =
     subst (λ (t : List ℕ). All (λ n. n < length t) xs) (sym same) (subst (All (λ n. n < length f.table)) (sym is) (chain_below (store_of f) first bytes ns h.chain))
 
+counted : (m n : ℕ) → m ≡ n → 0 < 512 * m → 0 < n
+counted m n e some = omega (arith, e, some)
+
 pub mark-requires : goal.mark-requires
 mark-requires c =
     found_below c.args.self.now c.args.self.now c.first_mini_fat.result (512 * c.mini_fat_count.result) c.in_ok-mini_fat.mini_fat.items c.deref.result.now
@@ -43,6 +48,17 @@ pub clear-requires : goal.clear-requires
 clear-requires c =
     found_below c.args.self.now c.mini_table.new.self c.first_mini_fat.result (512 * c.mini_fat_count.result) c.in_ok-mini_fat.mini_fat.items c.deref-in-Err.result.now
     (ap (λ (g : FatValue). g.table) (c.in-Err.ensures.kept ∙ c.mark.ensures)) c.deref-in-Err.ensures.value c.in_ok-mini_fat.ensures.found
+
+pub returns-in_err-mini_fat-clause-refused : goal.returns-in_err-mini_fat-clause-refused
+returns-in_err-mini_fat-clause-refused c =
+    let f : FatValue = c.args.self.now in
+    let v : HeaderValue = c.args.header.now in
+    let fault : ChainFault = c.in_err-mini_fat.field-0.0 in
+    let some : 0 < v.mini_fat_count = counted c.mini_fat_count.result v.mini_fat_count c.mini_fat_count.ensures c.in_err-mini_fat.ensures.some in
+    let refused : MayRefuse f v.first_mini_fat (512 * v.mini_fat_count) fault =
+    subst (λ n. MayRefuse f v.first_mini_fat (512 * n) fault) c.mini_fat_count.ensures
+    (subst (λ n. MayRefuse f n (512 * c.mini_fat_count.result) fault) c.first_mini_fat.ensures c.in_err-mini_fat.ensures.refused) in
+    refused_with c.from_residual.result fault (MayRefuseMini f v c.args.start c.args.size) c.from_residual.ensures.1 (inl (some, refused))
 
 pub returns-in_err-mini_fat-clause-there : goal.returns-in_err-mini_fat-clause-there
 returns-in_err-mini_fat-clause-there c = λ ns ms h.
