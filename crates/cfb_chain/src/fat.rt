@@ -153,12 +153,17 @@ fn check_room(header: &Header) -> Result<(), ChainFault>
     Ok(())
 }
 
-/// Refuses a DIFAT that comes back to one of its sectors.
-fn check_apart(difat: &[u32]) -> Result<(), ChainFault>
+/// Refuses a DIFAT for the first of its sectors that isn't among the first `count`, or to which it comes back.
+fn check_difat(difat: &[u32], count: usize) -> Result<(), ChainFault>
     ensures apart { OnOk result (AreDistinct difat.now) }
-    ensures refused { IfErr result (λ e. (e ≡ Cycle) × (AreDistinct difat.now → ⊥)) }
+    ensures present { OnOk result (All (λ n. n < count) difat.now) }
+    ensures refused { IfErr result (λ e. ((e ≡ OutOfFile) × ((n : ℕ) × Contains difat.now n × (count ≤ n)))
+        ⊎ ((e ≡ Cycle) × ((k : ℕ) × All (λ n. n < count) (take k difat.now) × (AreDistinct (take k difat.now) → ⊥)))) }
 {
     for k in 0..difat.len() {
+        if difat[k] as usize >= count {
+            return Err(ChainFault::OutOfFile);
+        }
         if difat[..k].contains(&difat[k]) {
             return Err(ChainFault::Cycle);
         }
@@ -183,9 +188,9 @@ impl<'a> Fat<'a> {
     /// The table of a file. It marks the sectors in which it lies, and those of the DIFAT.
     ///
     /// Refused: `ShortChain` where the header's list and the DIFAT have room for fewer FAT sectors than the header says;
-    /// `OutOfFile` where a sector of the header's list isn't in the file; then `NoMemory`; `Cycle` where the DIFAT comes back
-    /// to one of its sectors; `OutOfFile` where a sector of the FAT or the DIFAT isn't in the file; `CrossLinked` where one
-    /// is listed twice.
+    /// `OutOfFile` where a sector of the header's list isn't in the file; then `NoMemory`; for the first of the DIFAT's sectors
+    /// at fault `OutOfFile` where it isn't in the file, and `Cycle` where the DIFAT comes back to it; `OutOfFile` where a sector
+    /// of the FAT isn't in the file; `CrossLinked` where one is listed twice.
     pub fn load(alloc: Global, header: &Header, file: Image<'a>) -> Result<Fat<'a>, ChainFault>
         ensures table { IfOk result (λ f. IsTableOf (image_bytes file.entry) header.now f) }
         ensures refused { IfErr result (MayRefuseFat (image_bytes file.entry) header.now) }
@@ -195,7 +200,7 @@ impl<'a> Fat<'a> {
         let count = count_entries(header.fat_count() as usize, &file);
         check_present(header.fat(), count)?;
         let sectors = fat_sectors(alloc, header, &file)?;
-        check_apart(&sectors.difat)?;
+        check_difat(&sectors.difat, count)?;
         let own = sectors.all(alloc)?;
         check_present(&own, count)?;
         let mut fat = Fat::unmarked(alloc, file, &sectors.fat, count)?;

@@ -1,7 +1,8 @@
 -- Chains in stores that agree, and what refuses a chain that is there.
-use Rattle.std.proofs.Common.{◌≡◌, ◌≢◌, ◌<◌, ◌≤◌, ◌+◌, ◌*◌, ◌⊎◌, inl, inr, ℕ, zero, suc, true, false, List, [], ◌∷◌, ◌++◌, length, length-append, length-drop, drop, take, eqb, get_or, refl, sym, ap, subst, ◌∙◌, arith, lit≤}
+use Rattle.std.proofs.Common.{◌≡◌, ◌≢◌, ◌<◌, ◌≤◌, ◌+◌, ◌*◌, ◌⊎◌, inl, inr, ℕ, zero, suc, true, false, List, [], ◌∷◌, ◌++◌, length, length-append, length-drop, drop, min, take, eqb, get_or, refl, sym, ap, subst, ◌∙◌, arith, lit≤}
 use Rattle.std.proofs.lemmas.List.Elements.{All-cons, All-push, All-take, All-drop, All-contains, All-head, All-tail, Contains-append_right}
 use Rattle.std.specs.List.{All, AllByRecursion, Contains, IsDistinct}
+use Rattle.std.proofs.lemmas.List.{get_or-take, length-take}
 use Rattle.std.proofs.lemmas.Map.Views.{Contains-from_any}
 use Rattle.std.proofs.lemmas.Map.Steps.{length-le_from_distinct_below}
 use Rattle.std.proofs.lemmas.Bool.{cases_Bool, eqb-true}
@@ -127,13 +128,20 @@ distinct_behind : (xs ys : List ℕ) → AreDistinct (xs ++ ys) → AreDistinct 
 distinct_behind [] ys h = h
 distinct_behind (x ∷ xs) ys h = distinct_behind xs ys (λ i j d l m. h (suc i) (suc j) d (omega arith) (omega arith))
 
+-- and so is what stands before
+distinct_front : (count : ℕ) (xs : List ℕ) → AreDistinct xs → AreDistinct (take count xs)
+distinct_front count xs h i j d lt l e =
+    let long : length (take count xs) ≡ min count (length xs) = length-take count xs in
+    let inside : j < count = omega (arith, l, long) in
+    h i j d lt (omega (arith, l, long)) (sym (get_or-take count xs i d (omega (arith, lt, inside))) ∙ e ∙ get_or-take count xs j d inside)
+
 pub refused_not_fat : (file : List ℕ) (v : HeaderValue) (e : ChainFault) → IsFat file v → MayRefuseFat file v e → e ≡ NoMemory
 refused_not_fat file v Truncated h r = absurd r
 refused_not_fat file v BadSignature h r = absurd r
 refused_not_fat file v (Unsupported n) h r = absurd r
 refused_not_fat file v OutOfFile h r = absurd (r.2 (All-contains (IsPresent (sectors_of file (fat_by file v))) (fat_by file v ++ difat_by file v) r.0 h.present r.1))
-refused_not_fat file v Cycle h r = absurd (r (distinct_behind (fat_by file v) (difat_by file v) h.once))
-refused_not_fat file v CrossLinked h r = absurd (r h.once)
+refused_not_fat file v Cycle h r = absurd (r.again (distinct_front r.count (difat_by file v) (distinct_behind (fat_by file v) (difat_by file v) h.once)))
+refused_not_fat file v CrossLinked h r = absurd (r.twice h.once)
 refused_not_fat file v ShortChain h r = absurd (omega (arith, h.whole, r))
 refused_not_fat file v TooBig h r = absurd r
 refused_not_fat file v NoMemory h r = refl

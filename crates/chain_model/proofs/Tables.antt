@@ -1,8 +1,8 @@
 -- How a table is made of the sectors that it lies in.
-use Rattle.std.proofs.Common.{◌≡◌, ◌<◌, ◌≤◌, ◌+◌, ◌-◌, ◌*◌, ◌++◌, ℕ, zero, suc, List, [], ◌∷◌, Bool, false, true, length, length-append, append-nil, append_assoc, get_or, min, take, replicate, refl, sym, ap, subst, ◌∙◌, arith}
+use Rattle.std.proofs.Common.{◌≡◌, ◌⊎◌, inl, inr, ◌<◌, ◌≤◌, ◌+◌, ◌-◌, ◌*◌, ◌++◌, ℕ, zero, suc, List, [], ◌∷◌, Bool, false, true, length, length-append, append-nil, append_assoc, get_or, min, take, replicate, refl, sym, ap, subst, ◌∙◌, arith}
 use Rattle.std.proofs.Math.Seq.{take-append-add}
 use Rattle.std.proofs.lemmas.List.{get_or-replicate, length-take, length-take-le}
-use Rattle.std.proofs.lemmas.List.Elements.{All-weaker, Contains-append_left}
+use Rattle.std.proofs.lemmas.List.Elements.{All-weaker, Contains-append_left, Contains-append_right}
 use Rattle.std.proofs.lemmas.List.FromFn.{length-map-range_with_len}
 use Rattle.std.specs.List.{All, Contains, flat_map}
 use Rattle.cfb_header.specs.Bytes.{block, joined, sector, u32_at}
@@ -11,9 +11,10 @@ use Rattle.cfb_header.specs.Header.{HeaderValue, MOST_FAT_SECTORS, NAMED, difat_
 use Rattle.std.proofs.lemmas.List.Concat.{flat_map-append}
 use Rattle.chain_model.proofs.Blocks.{length_joined}
 use Rattle.cfb_header.proofs.Headers.{take_by_index}
-use Rattle.chain_model.specs.Fat.{AreSame, IsMiniTable, mini_sectors_of, store_of, AreFree, FatValue, IsTableOf, MayRefuseFat, marked, sectors_in, sectors_of, set_all}
+use Rattle.chain_model.specs.Fat.{AreSame, ComesBack, IsMiniTable, mini_sectors_of, store_of, AreFree, FatValue, IsTableOf, MayRefuseFat, marked, sectors_in, sectors_of, set_all}
 use Rattle.chain_model.proofs.Chains.{joined_same}
-use Rattle.cfb_header.specs.declared.fault.ChainFault.TheVariants.{OutOfFile, CrossLinked}
+use Rattle.cfb_header.specs.declared.fault.ChainFault.{ChainFault}
+use Rattle.cfb_header.specs.declared.fault.ChainFault.TheVariants.{OutOfFile, CrossLinked, Cycle}
 
 -- a table over a file
 abbrev pub over : List ℕ → List ℕ → List Bool → FatValue
@@ -101,17 +102,35 @@ module _ (file : List ℕ) (h : HeaderValue) (own : List ℕ) (own_is : own ≡ 
       (b, a))
       ns below
 
-  pub crossed : (next : List ℕ) (used : List Bool) → length next ≡ count → used ≡ replicate count false → All (λ n. n < count) own
-      → (AreFree (over file next used) own → ⊥) → MayRefuseFat file h CrossLinked
-  crossed next used len fresh below clash =
-      λ apart.
-      let once : AreDistinct own = subst AreDistinct (sym own_is) apart in
-      clash (record {
-        free = λ k d l.
-            let b : get_or own k d < count = below k d l in
-            (omega (arith, len, b), ap (λ u. get_or u (get_or own k d) true) fresh ∙ get_or-replicate count (get_or own k d) false true b);
-        once = once;
-      })
+  -- what the first of the DIFAT's sectors is refused for that isn't in the file, or is met again
+  pub difat_refused : (e : ChainFault) (ns : List ℕ) → h.fat_count ≤ MOST_FAT_SECTORS → ns ≡ difat_by file h
+      → ((e ≡ OutOfFile) × ((n : ℕ) × Contains ns n × (count ≤ n))) ⊎ ((e ≡ Cycle) × ((k : ℕ) × All (λ n. n < count) (take k ns) × (AreDistinct (take k ns) → ⊥)))
+      → MayRefuseFat file h e
+  difat_refused e ns few is (inl r) =
+      subst (MayRefuseFat file h) (sym r.0)
+      (absent r.1.0 (Contains-append_right (fat_by file h) (difat_by file h) r.1.0 (subst (λ xs. Contains xs r.1.0) is r.1.1)) r.1.2)
+  difat_refused e ns few is (inr r) =
+      let back : MayRefuseFat file h Cycle = subst (ComesBack (sectors_of file (fat_by file h))) is (record {
+        count = r.1.0;
+        present = all_present (take r.1.0 ns) few r.1.1;
+        again = r.1.2;
+      }) in
+      subst (MayRefuseFat file h) (sym r.0) back
+
+  pub crossed : (next : List ℕ) (used : List Bool) → h.fat_count ≤ MOST_FAT_SECTORS → length next ≡ count → used ≡ replicate count false → All (λ n. n < count) own
+      → All (λ n. n < count) (difat_by file h) → AreDistinct (difat_by file h) → (AreFree (over file next used) own → ⊥) → MayRefuseFat file h CrossLinked
+  crossed next used few len fresh below below_difat once_difat clash = record {
+    present = all_present (difat_by file h) few below_difat;
+    once = once_difat;
+    twice = λ apart.
+        let once : AreDistinct own = subst AreDistinct (sym own_is) apart in
+        clash (record {
+          free = λ k d l.
+              let b : get_or own k d < count = below k d l in
+              (omega (arith, len, b), ap (λ u. get_or u (get_or own k d) true) fresh ∙ get_or-replicate count (get_or own k d) false true b);
+          once = once;
+        });
+  }
 
   pub loaded : (next : List ℕ) (used : List Bool) (bytes : List ℕ) (f : FatValue) → h.fat_count ≤ MOST_FAT_SECTORS → All (λ n. n < count) own
       → bytes ≡ joined (sector file) (fat_by file h) → length next ≡ count

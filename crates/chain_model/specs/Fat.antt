@@ -109,12 +109,24 @@ pub record IsMiniTable (f : FatValue) (mini_fat mini_stream : List ℕ) (size : 
   })
   pub marks : m.used ≡ replicate (length m.table) false
 
--- when a fault may be answered for the FAT of a file with this header: want of memory only where enough are listed, and
--- those that the header names are there
+-- Of the DIFAT's sectors so many from the first on are in the file, and one of them is met again.
+pub record ComesBack (s : Store) (difat : List ℕ) : Type 0 where
+  pub count : ℕ
+  pub present : All (IsPresent s) (take count difat)
+  pub again : AreDistinct (take count difat) → ⊥
+
+-- Each of the DIFAT's sectors is in the file and met once, and one of them or of the FAT's is listed twice.
+pub record AreCrossed (s : Store) (fat difat : List ℕ) : Type 0 where
+  pub present : All (IsPresent s) difat
+  pub once : AreDistinct difat
+  pub twice : AreDistinct (fat ++ difat) → ⊥
+
+-- When a fault may be answered for the FAT of a file with this header: the DIFAT's walk ends at the first of its sectors that
+-- isn't in the file, and want of memory is told only where enough are listed, and those that the header names are there.
 abbrev pub MayRefuseFat : List ℕ → HeaderValue → ChainFault → Type 0
 MayRefuseFat file h OutOfFile = (n : ℕ) × Contains (fat_by file h ++ difat_by file h) n × (IsPresent (sectors_of file (fat_by file h)) n → ⊥)
-MayRefuseFat file h Cycle = AreDistinct (difat_by file h) → ⊥
-MayRefuseFat file h CrossLinked = AreDistinct (fat_by file h ++ difat_by file h) → ⊥
+MayRefuseFat file h Cycle = ComesBack (sectors_of file (fat_by file h)) (difat_by file h)
+MayRefuseFat file h CrossLinked = AreCrossed (sectors_of file (fat_by file h)) (fat_by file h) (difat_by file h)
 MayRefuseFat file h ShortChain = length (fat_by file h) < h.fat_count
 MayRefuseFat file h NoMemory = (length (fat_by file h) ≡ h.fat_count) × All (IsPresent (sectors_of file (fat_by file h))) h.fat
 MayRefuseFat file h _ = ⊥

@@ -3,8 +3,8 @@ use Rattle.std.proofs.Common.{◌≡◌, ◌<◌, ◌*◌, ℕ, suc, List, ◌++
 use Rattle.std.proofs.lemmas.List.Elements.{All-take}
 use Rattle.std.specs.List.{Contains}
 use Rattle.cfb_header.specs.Bytes.{sector}
-use Rattle.chain_model.specs.Chain.{AreDistinct, IsChain, IsChainOf, IsPresent}
-use Rattle.chain_model.specs.Fat.{mini_sectors_of, sectors_of}
+use Rattle.chain_model.specs.Chain.{IsChain, IsChainOf, IsPresent}
+use Rattle.chain_model.specs.Fat.{AreCrossed, ComesBack, mini_sectors_of, sectors_of}
 use Rattle.cfb_header.specs.Header.{HeaderValue, difat, difat_by, fat_count, first_directory, first_mini_fat, header_of, listed, mini_fat_count}
 use Rattle.cfb_header.specs.declared.fault.ChainFault.{ChainFault}
 use Rattle.cfb_header.specs.declared.fault.ChainFault.TheVariants as chain
@@ -14,7 +14,7 @@ use Rattle.file_model.specs.Alike.{AgreeOn, Alike}
 use Rattle.file_model.specs.Denotes.{IsLaidOut, Layout, directory_of, minis, root_of, sectors}
 use Rattle.file_model.proofs.AlikeFiles.{alike_back, directory_chain_back, is_fat_alike, listed_alike}
 use Rattle.file_model.proofs.AlikeHeaders.{header_alike, header_of_alike}
-use Rattle.file_model.proofs.AlikeStores.{HaveSameLinks, chain_carried, chain_of_carried, difat_by_alike, joined_alike, minis_alike, sectors_alike}
+use Rattle.file_model.proofs.AlikeStores.{HaveSameLinks, chain_carried, chain_of_carried, difat_by_alike, joined_alike, minis_alike, present_carried, sectors_alike}
 use Rattle.cfb_names.specs.declared.fault.DirFault.{DirFault}
 use Rattle.file_faults.specs.Faults.{IsChainAtFault, IsDirectory, IsDirectoryAtFault, IsFatAtFault, IsFileAtFault, base_in, in_directory, in_fat, in_header, in_mini_fat, in_mini_stream, in_stream}
 use Rattle.file_faults.proofs.Chains.{Agree, AreAgreed, agree_links, below_carried, fault_carried, stream_carried}
@@ -58,9 +58,17 @@ module _ (a b : List ℕ) (h : Alike a b) where
         subst (λ (ns : List ℕ). Contains (listed b ++ ns) q.0) difat_same (subst (λ (ns : List ℕ). Contains (ns ++ difat a) q.0) lists_same q.1),
         λ (p : IsPresent (sectors_of b (listed b)) q.0). q.2 (p.0, subst (λ (c : ℕ). q.0 < c) count p.1),
       )
-  fat_fault chain.Cycle q = λ d. q (subst AreDistinct (sym difat_same) d)
-  fat_fault chain.CrossLinked q = λ d.
-      q (subst (λ (ns : List ℕ). AreDistinct (ns ++ difat a)) (sym lists_same) (subst (λ (ns : List ℕ). AreDistinct (listed b ++ ns)) (sym difat_same) d))
+  fat_fault chain.Cycle q = subst (ComesBack (sectors_of b (listed b))) difat_same (record {
+    count = q.count;
+    present = present_carried (sectors_of a (listed a)) (sectors_of b (listed b)) links_same (take q.count (difat a)) q.present;
+    again = q.again;
+  })
+  fat_fault chain.CrossLinked q =
+      subst (λ (ns : List ℕ). AreCrossed (sectors_of b (listed b)) ns (difat b)) lists_same (subst (AreCrossed (sectors_of b (listed b)) (listed a)) difat_same (record {
+        present = present_carried (sectors_of a (listed a)) (sectors_of b (listed b)) links_same (difat a) q.present;
+        once = q.once;
+        twice = q.twice;
+      }))
   fat_fault chain.ShortChain q =
       subst (λ (v : HeaderValue). length (listed b) < v.fat_count) header_same (subst (λ (ns : List ℕ). length ns < fat_count a) lists_same q)
   fat_fault chain.TooBig q = absurd q

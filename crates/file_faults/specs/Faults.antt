@@ -3,7 +3,7 @@ use Rattle.std.specs.Prelude.{◌≡◌, ◌≢◌, ◌⊎◌, ◌<◌, ◌≤�
 use Rattle.std.specs.List.{All, Contains}
 use Rattle.cfb_header.specs.Bytes.{joined, sector}
 use Rattle.chain_model.specs.Chain.{AreDistinct, END_OF_CHAIN, IsChain, IsChainOf, IsPresent, Leads, Store}
-use Rattle.chain_model.specs.Fat.{IsFat, sectors_of}
+use Rattle.chain_model.specs.Fat.{AreCrossed, ComesBack, IsFat, sectors_of}
 use Rattle.cfb_header.specs.Header.{difat, fat_count, first_directory, first_mini_fat, header_of, header_read, listed, mini_fat_count}
 use Rattle.cfb_header.specs.declared.fault.ChainFault.{ChainFault}
 use Rattle.cfb_header.specs.declared.fault.ChainFault.TheVariants as chain
@@ -150,12 +150,12 @@ pub record IsDirectory (file dir : List ℕ) : Type 0 where
   pub is_chain : IsChain (sectors_of file (listed file)) (first_directory file) 0 sectors
   pub bytes_are : dir ≡ joined (sector file) sectors
 
--- What is wrong with the FAT's sectors and the DIFAT's: one isn't in the file, the DIFAT comes back to one of its own, one
--- is listed twice, or fewer are listed than the header says.
+-- What is wrong with the FAT's sectors and the DIFAT's: one isn't in the file, the DIFAT comes back to one of its own before
+-- one that isn't, one is listed twice where the DIFAT doesn't come back, or fewer are listed than the header says.
 abbrev pub IsFatAtFault : List ℕ → ChainFault → Type 0
 IsFatAtFault file chain.OutOfFile = (n : ℕ) × Contains (listed file ++ difat file) n × (IsPresent (sectors_of file (listed file)) n → ⊥)
-IsFatAtFault file chain.Cycle = AreDistinct (difat file) → ⊥
-IsFatAtFault file chain.CrossLinked = AreDistinct (listed file ++ difat file) → ⊥
+IsFatAtFault file chain.Cycle = ComesBack (sectors_of file (listed file)) (difat file)
+IsFatAtFault file chain.CrossLinked = AreCrossed (sectors_of file (listed file)) (listed file) (difat file)
 IsFatAtFault file chain.ShortChain = length (listed file) < fat_count file
 IsFatAtFault file _ = ⊥
 

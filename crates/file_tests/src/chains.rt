@@ -193,6 +193,23 @@ fn chains_are_followed(rt: HostRuntime) {
     play(&rt, rt.alloc(), &mut fat, LINKED_CALLS);
 }
 
+/// Whether a file has no table, for this fault.
+fn table_is_refused(alloc: Global, header: &Header, file: &[u8], want: &str) -> bool {
+    match Fat::load(alloc, header, Image::Whole(file)) {
+        Ok(_) => false,
+        Err(fault) => fault.name() == want,
+    }
+}
+
+/// Four sectors of the DIFAT are counted, and the first isn't there.
+#[test]
+fn a_missing_difat_sector_is_told(rt: HostRuntime) {
+    let mut file = file_of(&rt, rt.alloc(), LINKED);
+    put(&mut file, 72, &[4]);
+    let header = header_of(&rt, &file);
+    assert!(rt; table_is_refused(rt.alloc(), &header, &file, "OutOfFile"));
+}
+
 /// Checks what the mini stream of a table tells.
 fn play_mini(rt: &impl Abort, alloc: Global, fat: &mut Fat, header: &Header) {
     let mut mini = fat.mini(alloc, header, 2, 640).expect(rt, "a mini stream");

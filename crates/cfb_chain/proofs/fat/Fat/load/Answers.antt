@@ -4,11 +4,11 @@ use Rattle.cfb_chain.specs.Chain.{AreDistinct}
 use Rattle.std.specs.List.{All, Contains}
 use Rattle.cfb_chain.specs.Fat.{AreFree, FatValue, MayRefuseFat, marked, sectors_in}
 use Rattle.cfb_header.specs.Header.{HeaderValue, difat_by, fat_by}
-use Rattle.cfb_header.specs.declared.fault.ChainFault.TheVariants.{Cycle, NoMemory}
+use Rattle.cfb_header.specs.declared.fault.ChainFault.TheVariants.{NoMemory}
 use Rattle.cfb_chain.specs.View.{image_bytes}
 use Rattle.cfb_chain.proofs.Chains.{refused_not_fat}
 use Rattle.cfb_chain.proofs.Results.{refused_with}
-use Rattle.cfb_chain.proofs.Tables.{absent, all_listed, all_present, crossed, few_listed, header_listed, loaded}
+use Rattle.cfb_chain.proofs.Tables.{absent, all_listed, all_present, crossed, difat_refused, few_listed, header_listed, loaded}
 use Rattle.cfb_chain.proofs.fat.Fat.load.Goals as goal
 
 pub returns-in_err-check_room-clause-refused : goal.returns-in_err-check_room-clause-refused
@@ -57,14 +57,32 @@ returns-in_err-check_present-clause-there c = λ g.
     (absent file h (fat_by file h ++ difat_by file h) refl whole c.count_entries-count.result counted r.1.0
     (header_listed file h r.1.0 (omega (arith, c.fat_count.ensures.first, c.fat_count.ensures.count)) (subst (λ xs. Contains xs r.1.0) c.fat.ensures r.1.1)) r.1.2)))
 
-pub returns-in_err-check_apart-clause-there : goal.returns-in_err-check_apart-clause-there
-returns-in_err-check_apart-clause-there c = λ g.
+pub returns-in_err-check_difat-clause-refused : goal.returns-in_err-check_difat-clause-refused
+returns-in_err-check_difat-clause-refused c =
     let file : List ℕ = image_bytes c.args.file in
     let h : HeaderValue = c.args.header.now in
-    let r = c.in_err-check_apart.ensures.refused in
-    let cycle : MayRefuseFat file h Cycle = λ once. r.1 (subst AreDistinct (sym (c.deref.ensures.value ∙ c.in_ok-sectors.ensures.difat)) once) in
-    refused_with c.from_residual-in_err-check_apart.result c.in_err-check_apart.field-0.0 (λ e. e ≡ NoMemory) c.from_residual-in_err-check_apart.ensures.1
-    (refused_not_fat file h c.in_err-check_apart.field-0.0 g (subst (MayRefuseFat file h) (sym r.0) cycle))
+    let whole : length (fat_by file h) ≡ h.fat_count = all_listed file h c.in_ok-check_room.ensures.enough in
+    let counted : c.count_entries-count.result ≡ min (128 * h.fat_count) (sectors_in file) =
+    c.count_entries-count.ensures ∙ ap (λ n. min (128 * n) (sectors_in file)) c.fat_count.ensures.count in
+    let few : h.fat_count ≤ 1125 = omega (arith, c.fat_count.ensures.few, c.fat_count.ensures.count) in
+    let refused : MayRefuseFat file h c.in_err-check_difat.field-0.0 =
+    difat_refused file h (fat_by file h ++ difat_by file h) refl whole c.count_entries-count.result counted c.in_err-check_difat.field-0.0 c.deref.result.now few
+    (c.deref.ensures.value ∙ c.in_ok-sectors.ensures.difat) c.in_err-check_difat.ensures.refused in
+    refused_with c.from_residual-in_err-check_difat.result c.in_err-check_difat.field-0.0 (MayRefuseFat file h) c.from_residual-in_err-check_difat.ensures.1 refused
+
+pub returns-in_err-check_difat-clause-there : goal.returns-in_err-check_difat-clause-there
+returns-in_err-check_difat-clause-there c = λ g.
+    let file : List ℕ = image_bytes c.args.file in
+    let h : HeaderValue = c.args.header.now in
+    let whole : length (fat_by file h) ≡ h.fat_count = all_listed file h c.in_ok-check_room.ensures.enough in
+    let counted : c.count_entries-count.result ≡ min (128 * h.fat_count) (sectors_in file) =
+    c.count_entries-count.ensures ∙ ap (λ n. min (128 * n) (sectors_in file)) c.fat_count.ensures.count in
+    let few : h.fat_count ≤ 1125 = omega (arith, c.fat_count.ensures.few, c.fat_count.ensures.count) in
+    let refused : MayRefuseFat file h c.in_err-check_difat.field-0.0 =
+    difat_refused file h (fat_by file h ++ difat_by file h) refl whole c.count_entries-count.result counted c.in_err-check_difat.field-0.0 c.deref.result.now few
+    (c.deref.ensures.value ∙ c.in_ok-sectors.ensures.difat) c.in_err-check_difat.ensures.refused in
+    refused_with c.from_residual-in_err-check_difat.result c.in_err-check_difat.field-0.0 (λ e. e ≡ NoMemory) c.from_residual-in_err-check_difat.ensures.1
+    (refused_not_fat file h c.in_err-check_difat.field-0.0 g refused)
 
 pub returns-in_err-check_present-2-clause-refused : goal.returns-in_err-check_present-2-clause-refused
 returns-in_err-check_present-2-clause-refused c =
@@ -109,12 +127,14 @@ returns-in_err-mark_apart-clause-refused c =
     let few : h.fat_count ≤ 1125 = omega (arith, c.fat_count.ensures.few, c.fat_count.ensures.count) in
     let own_is : c.in_ok-own.own.items ≡ fat_by file h ++ difat_by file h =
     c.in_ok-own.ensures ∙ (λ i. c.in_ok-sectors.ensures.fat i ++ c.in_ok-sectors.ensures.difat i) in
+    let difat_is : c.deref.result.now ≡ difat_by file h = c.deref.ensures.value ∙ c.in_ok-sectors.ensures.difat in
     let r = c.in_err-mark_apart.ensures.refused in
     refused_with c.from_residual-in_err-mark_apart.result c.in_err-mark_apart.field-0.0 (MayRefuseFat file h) c.from_residual-in_err-mark_apart.ensures.1
     (subst (MayRefuseFat file h) (sym r.0)
     (crossed file h c.deref-4.result.now (c.deref-4.ensures.value ∙ own_is) whole c.count_entries-count.result counted
-    c.in_ok-fat.fat.table (replicate c.count_entries-count.result false) c.in_ok-fat.ensures.count refl
+    c.in_ok-fat.fat.table (replicate c.count_entries-count.result false) few c.in_ok-fat.ensures.count refl
     (subst (λ xs. All (λ n. n < c.count_entries-count.result) xs) (c.deref-2.ensures.value ∙ sym c.deref-4.ensures.value) c.in_ok-check_present-2.ensures.present)
+    (subst (λ xs. All (λ n. n < c.count_entries-count.result) xs) difat_is c.in_ok-check_difat.ensures.present) (subst AreDistinct difat_is c.in_ok-check_difat.ensures.apart)
     (subst (λ (f : FatValue). AreFree f c.deref-4.result.now → ⊥) c.in_ok-fat.ensures.made r.1)))
 
 pub returns-in_err-mark_apart-clause-there : goal.returns-in_err-mark_apart-clause-there
@@ -127,13 +147,15 @@ returns-in_err-mark_apart-clause-there c = λ g.
     let few : h.fat_count ≤ 1125 = omega (arith, c.fat_count.ensures.few, c.fat_count.ensures.count) in
     let own_is : c.in_ok-own.own.items ≡ fat_by file h ++ difat_by file h =
     c.in_ok-own.ensures ∙ (λ i. c.in_ok-sectors.ensures.fat i ++ c.in_ok-sectors.ensures.difat i) in
+    let difat_is : c.deref.result.now ≡ difat_by file h = c.deref.ensures.value ∙ c.in_ok-sectors.ensures.difat in
     let r = c.in_err-mark_apart.ensures.refused in
     refused_with c.from_residual-in_err-mark_apart.result c.in_err-mark_apart.field-0.0 (λ e. e ≡ NoMemory) c.from_residual-in_err-mark_apart.ensures.1
     (refused_not_fat file h c.in_err-mark_apart.field-0.0 g
     (subst (MayRefuseFat file h) (sym r.0)
     (crossed file h c.deref-4.result.now (c.deref-4.ensures.value ∙ own_is) whole c.count_entries-count.result counted
-    c.in_ok-fat.fat.table (replicate c.count_entries-count.result false) c.in_ok-fat.ensures.count refl
+    c.in_ok-fat.fat.table (replicate c.count_entries-count.result false) few c.in_ok-fat.ensures.count refl
     (subst (λ xs. All (λ n. n < c.count_entries-count.result) xs) (c.deref-2.ensures.value ∙ sym c.deref-4.ensures.value) c.in_ok-check_present-2.ensures.present)
+    (subst (λ xs. All (λ n. n < c.count_entries-count.result) xs) difat_is c.in_ok-check_difat.ensures.present) (subst AreDistinct difat_is c.in_ok-check_difat.ensures.apart)
     (subst (λ (f : FatValue). AreFree f c.deref-4.result.now → ⊥) c.in_ok-fat.ensures.made r.1))))
 
 pub returns-in_err-sectors-clause-refused : goal.returns-in_err-sectors-clause-refused

@@ -1,5 +1,0 @@
-use Rattle.std.proofs.Common.{◌<◌, ◌≡◌, ℕ, get_or}
-use Rattle.cfb_chain.proofs.fat.check_apart.Given as goal
-
-abbrev pub invariant-loop-k : goal.invariant-loop-k
-invariant-loop-k l = (i j d : ℕ) → i < j → j < l.k → get_or l.difat i d ≡ get_or l.difat j d → ⊥
