@@ -16,3 +16,4 @@ pub mod ReadingTold
 pub mod ReadingAlike
 pub mod ReadingMemory
 pub mod ReadingLent
+pub mod ReadingLists

@@ -1,11 +1,12 @@
 -- How a file is read, and which files are refused.
 use Rattle.std.specs.Prelude.{◌≡◌, ◌↔◌, ◌<◌, ◌-◌, ℕ, suc, true, List, [], ◌∷◌, ◌++◌, length, map, slice_index_or, take, if◌then◌else◌, nat_lt, Option, Some, None, Err, codes}
-use Rattle.std.specs.List.{Contains}
+use Rattle.std.specs.List.{All, Contains}
 use Rattle.std.specs.List.Sorted.{IsStrictlySortedBy}
 use Rattle.cfb_header.specs.Bytes.{joined}
 use Rattle.cfb_header.specs.Fault.{name_of as name_of_chain}
-use Rattle.cfb_chain.specs.Fat.{FatValue, IsFound, marked as sectors_marked, store_of}
-use Rattle.cfb_header.specs.Header.{header_read}
+use Rattle.cfb_chain.specs.Chain.{IsPresent}
+use Rattle.cfb_chain.specs.Fat.{FatValue, IsFound, marked as sectors_marked, sectors_of, store_of}
+use Rattle.cfb_header.specs.Header.{IsHeader, fat_count, header_read, listed, listed_first}
 use Rattle.cfb_header.specs.declared.fault.ChainFault.{ChainFault}
 use Rattle.cfb_header.specs.declared.fault.ChainFault.TheVariants as chain
 use Rattle.cfb_names.specs.Faults.{name_of_fault}
@@ -171,6 +172,17 @@ abbrev pub MayRefuseFile : List ℕ → ReadFault → Type 0
 MayRefuseFile file (Chain fault) = IsFileAtFault file fault
 MayRefuseFile file (Directory fault) = IsDirectoryAtFault file fault
 MayRefuseFile file NoMemory = Unit {0}
+
+-- A header with its fixed fields, as many FAT sectors listed as it says, and those that it names in the file.
+pub record HasLists (file : List ℕ) : Type 0 where
+  pub header : IsHeader file
+  pub whole : length (listed file) ≡ fat_count file
+  pub present : All (IsPresent (sectors_of file (listed file))) (listed_first file)
+
+-- want of memory is told of a file only where it has these lists
+abbrev pub MayLack : List ℕ → ReadFault → Type 0
+MayLack file NoMemory = HasLists file
+MayLack file fault = Unit {0}
 
 -- When bytes may be refused as a file: a header that is at fault is told by its fault, a file that denotes a tree is
 -- refused for want of memory alone, and the file has what is told of it.

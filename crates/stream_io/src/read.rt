@@ -20,7 +20,7 @@ ghost use Rattle.file_faults.specs.Faults.{Base, IsStorage};
 ghost use Rattle.file_outline.specs.Keeping.{wanted};
 ghost use Rattle.outline_entries.specs.Places.{IsFileKept, IsPlaced, Leads};
 ghost use Rattle.stream_io.specs.Marks.{IsNext};
-ghost use Rattle.stream_io.specs.Reads.{AreSorted, IsChildPushed, IsChildRead, IsNodeRead, IsOutlined, IsPartOutlined, IsStorageRead, MayRefuseFile, MayRefuseFind, MayRefusePlace, MayRefuseStorage, MayRefuseStream, MayWant, chain_fault, directory_in, met, stream_after};
+ghost use Rattle.stream_io.specs.Reads.{AreSorted, HasLists, IsChildPushed, IsChildRead, IsNodeRead, IsOutlined, IsPartOutlined, IsStorageRead, MayLack, MayRefuseFile, MayRefuseFind, MayRefusePlace, MayRefuseStorage, MayRefuseStream, MayWant, chain_fault, directory_in, met, stream_after};
 ghost use Rattle.file_outline.specs.Streams.{stream_at};
 ghost use Rattle.file_outline.specs.View.{contents, outline_view, shown, table_for};
 ghost use Rattle.stream_io.specs.View.{directory_bytes};
@@ -292,6 +292,8 @@ fn walk<'a>(
     ensures walked { IfOk result (λ l. IsFileKept (image_bytes file.entry) (contents l.fat l.mini) (wanted keep.entry) l.root) }
     ensures reads { (t : tree.Tree) → Denotes (image_bytes file.entry) t → IfErr result (λ e. e ≡ NoMemory) }
     ensures refused { IfErr result (MayRefuseFile (image_bytes file.entry)) }
+    ensures lists { IfOk result (λ _. HasLists (image_bytes file.entry)) }
+    ensures memory { IfErr result (MayLack (image_bytes file.entry)) }
 {
     let mut fat = Fat::load(alloc, header, file)?;
     let chain = fat.chain(alloc, header.first_directory())?;
@@ -318,6 +320,8 @@ pub fn lay_out<'a>(alloc: Global, file: &'a [u8]) -> Result<Layout<'a>, ReadFaul
     ensures header { (e : ChainFault) → header_read file.now ≡ Err e → result ≡ Err (chain_fault e) }
     ensures reads { (t : tree.Tree) → Denotes file.now t → IfErr result (λ e. e ≡ NoMemory) }
     ensures refused { IfErr result (MayRefuseFile file.now) }
+    ensures lists { IfOk result (λ _. HasLists file.now) }
+    ensures memory { IfErr result (MayLack file.now) }
 {
     let header = Header::read(file)?;
     let layout = walk(alloc, &header, Image::Whole(file), Keep::All)?;
@@ -327,13 +331,14 @@ pub fn lay_out<'a>(alloc: Global, file: &'a [u8]) -> Result<Layout<'a>, ReadFaul
 /// The tree that a compound file denotes (MS-CFB 2), outside transactions.
 ///
 /// Refused: a header or chain that isn't as it must be (`Chain`), a directory that isn't (`Directory`), and `NoMemory`. A
-/// file that denotes a tree is refused for want of memory alone.
+/// file that denotes a tree is refused for want of memory alone, which is told only past the header and the lists of the FAT.
 pub fn read_file(alloc: Global, file: &[u8]) -> Result<Tree, ReadFault>
     ensures denotes { IfOk result (λ t. ∥ Denotes file.now (kept t).now ∥₁) }
     ensures closed { IfOk result (λ t. (kept t).saved ≡ []) }
     ensures header { (e : ChainFault) → header_read file.now ≡ Err e → result ≡ Err (chain_fault e) }
     ensures reads { (t : tree.Tree) → Denotes file.now t → IfErr result (λ e. e ≡ NoMemory) }
     ensures refused { IfErr result (MayRefuseFile file.now) }
+    ensures memory { IfErr result (MayLack file.now) }
 {
     let layout = lay_out(alloc, file)?;
     let root = storage_at(alloc, &layout.fat, &layout.mini, &layout.root)?;
@@ -350,6 +355,7 @@ pub fn read_outline(alloc: Global, file: &[u8]) -> Result<Outline, ReadFault>
     ensures header { (e : ChainFault) → header_read file.now ≡ Err e → result ≡ Err (chain_fault e) }
     ensures reads { (t : tree.Tree) → Denotes file.now t → IfErr result (λ e. e ≡ NoMemory) }
     ensures refused { IfErr result (MayRefuseFile file.now) }
+    ensures memory { IfErr result (MayLack file.now) }
 {
     let layout = lay_out(alloc, file)?;
     Ok(layout.root)
@@ -365,6 +371,7 @@ pub fn read_placed(alloc: Global, header: &Header, file: &Places) -> Result<Outl
     ensures placed { IfOk result (λ o. (t : tree.Tree) × IsPlaced file.now t o) }
     ensures reads { (t : tree.Tree) → Denotes file.now t → IfErr result (λ e. e ≡ NoMemory) }
     ensures refused { IfErr result (MayRefuseFile file.now) }
+    ensures memory { IfErr result (MayLack file.now) }
 {
     let walked = walk(alloc, header, Image::Placed(file), Keep::All)?;
     Ok(walked.root)

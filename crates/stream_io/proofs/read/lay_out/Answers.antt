@@ -1,7 +1,8 @@
 use Rattle.std.proofs.Common.{◌≡◌, rules, sym}
 use Rattle.std.specs.Result.{IsErrAnd}
 use Rattle.cfb_chain.proofs.Results.{refused_with}
-use Rattle.stream_io.specs.Reads.{MayRefuseFile, chain_fault}
+use Rattle.stream_io.specs.Reads.{MayLack, MayRefuseFile, chain_fault}
+use Rattle.stream_io.proofs.ReadingLists.{header_lacks}
 use Rattle.stream_io.proofs.ReadingRefused.{file_header, same_memory}
 use Rattle.outline_entries.proofs.Kept.{placed_whole}
 use Rattle.stream_io.proofs.read.lay_out.Goals as goal
@@ -29,3 +30,13 @@ returns-clause-sized c = sym (placed_whole c.args.file.now _ c.in_ok-layout.layo
 
 pub returns-clause-placed : goal.returns-clause-placed
 returns-clause-placed c = ∣ placed_whole c.args.file.now _ c.in_ok-layout.layout.root c.in_ok-layout.ensures.walked ∣₁
+
+pub returns-in_err-header-clause-memory : goal.returns-in_err-header-clause-memory
+returns-in_err-header-clause-memory c =
+    refused_with c.from_residual.result (chain_fault c.in_err-header.field-0.0) (MayLack c.args.file.now) c.from_residual.ensures.1
+    (header_lacks c.args.file.now c.in_err-header.field-0.0 c.in_err-header.ensures.read)
+
+pub returns-in_err-layout-clause-memory : goal.returns-in_err-layout-clause-memory
+returns-in_err-layout-clause-memory c =
+    let again : IsErrAnd c.from_residual-in_err-layout.result (λ x. x ≡ c.in_err-layout.field-0.0) = search rules in
+    refused_with c.from_residual-in_err-layout.result c.in_err-layout.field-0.0 (MayLack c.args.file.now) again c.in_err-layout.ensures.memory

@@ -6,7 +6,8 @@ use Rattle.storage_tree.specs.Kept.{Kept}
 use Rattle.storage_tree.specs.Tree.{Tree}
 use Rattle.storage_tree.specs.Whole.{IsTree}
 use Rattle.file_model.specs.Denotes.{Denotes}
-use Rattle.stream_io.specs.Reads.{MayRefuseFile}
+use Rattle.stream_io.specs.Reads.{MayLack, MayRefuseFile}
+use Rattle.stream_io.proofs.ReadingLists.{lacking}
 use Rattle.stream_io.proofs.ReadingRefused.{same_memory}
 use Rattle.stream_io.proofs.read.read_file.Goals as goal
 
@@ -27,3 +28,11 @@ pub returns-in_err-layout-clause-refused : goal.returns-in_err-layout-clause-ref
 returns-in_err-layout-clause-refused c =
     let again : IsErrAnd c.from_residual.result (λ x. x ≡ c.in_err-layout.field-0.0) = search rules in
     refused_with c.from_residual.result c.in_err-layout.field-0.0 (MayRefuseFile c.args.file.now) again c.in_err-layout.ensures.refused
+
+pub returns-in_err-layout-clause-memory : goal.returns-in_err-layout-clause-memory
+returns-in_err-layout-clause-memory c =
+    let again : IsErrAnd c.from_residual.result (λ x. x ≡ c.in_err-layout.field-0.0) = search rules in
+    refused_with c.from_residual.result c.in_err-layout.field-0.0 (MayLack c.args.file.now) again c.in_err-layout.ensures.memory
+
+pub returns-in_err-root-clause-memory : goal.returns-in_err-root-clause-memory
+returns-in_err-root-clause-memory c = lacking c.args.file.now c.from_residual-in_err-root.result c.in_ok-layout.ensures.lists

@@ -1,7 +1,7 @@
 use Rattle.std.proofs.Common.{◌≡◌, rules}
 use Rattle.std.specs.Result.{IsErrAnd}
 use Rattle.cfb_chain.proofs.Results.{refused_with}
-use Rattle.stream_io.specs.Reads.{MayRefuseFile}
+use Rattle.stream_io.specs.Reads.{MayLack, MayRefuseFile}
 use Rattle.file_outline.specs.View.{contents, shown}
 use Rattle.outline_entries.proofs.Kept.{placed_whole}
 use Rattle.stream_io.proofs.ReadingRefused.{same_memory}
@@ -27,3 +27,8 @@ pub returns-in_err-walked-clause-refused : goal.returns-in_err-walked-clause-ref
 returns-in_err-walked-clause-refused c =
     let again : IsErrAnd c.from_residual.result (λ x. x ≡ c.in_err-walked.field-0.0) = search rules in
     refused_with c.from_residual.result c.in_err-walked.field-0.0 (MayRefuseFile c.args.file.now) again c.in_err-walked.ensures.refused
+
+pub returns-in_err-walked-clause-memory : goal.returns-in_err-walked-clause-memory
+returns-in_err-walked-clause-memory c =
+    let again : IsErrAnd c.from_residual.result (λ x. x ≡ c.in_err-walked.field-0.0) = search rules in
+    refused_with c.from_residual.result c.in_err-walked.field-0.0 (MayLack c.args.file.now) again c.in_err-walked.ensures.memory

@@ -9,13 +9,14 @@ use Rattle.cfb_directory.specs.Held.{held}
 use Rattle.cfb_directory.specs.Entries.{EntriesValue}
 use Rattle.storage_tree.specs.Tree.{Tree}
 use Rattle.file_model.specs.Denotes.{Denotes, Layout, directory_of}
-use Rattle.stream_io.specs.Reads.{IsOutlined, IsStorageRead, MayRefuseFile, base_of, chain_fault, directory_fault}
+use Rattle.stream_io.specs.Reads.{IsOutlined, IsStorageRead, MayLack, MayRefuseFile, base_of, chain_fault, directory_fault}
 use Rattle.outline_entries.specs.Places.{IsPlaced, IsTold}
 use Rattle.file_outline.specs.Keeping.{wanted}
 use Rattle.stream_io.specs.declared.read.Reader.{Reader}
 use Rattle.file_faults.proofs.Chains.{directory_refused, mini_refused, table_refused}
 use Rattle.file_faults.proofs.Opened.{IsOpened, IsReady, opened_at, read_header, ready}
 use Rattle.stream_io.proofs.ReadingFile.{denoted}
+use Rattle.stream_io.proofs.ReadingLists.{fat_lacks, lacking, lists_there}
 use Rattle.stream_io.proofs.ReadingOpened.{directory_is, file_storage, root_next}
 use Rattle.stream_io.proofs.ReadingRefused.{chain_memory, directory_memory, file_chain, file_load, file_root, same_memory}
 use Rattle.file_faults.proofs.There.{directory_there, load_not_refused, mini_there, root_marked, root_not_refused}
@@ -144,7 +145,13 @@ returns c =
     } in
     let lies : IsPlaced file (shown (contents c.storage_outline.new.self.fat c.storage_outline.new.self.mini) told.whole) told.whole =
     subst (λ (f : Place → List ℕ). IsPlaced file (shown f told.whole) told.whole) (sym kept) placed in
-    record { walked = record { whole = told.whole; placed = lies; is_kept = told.is_kept }; reads = λ t d. tt; refused = tt }
+    record {
+      walked = record { whole = told.whole; placed = lies; is_kept = told.is_kept };
+      reads = λ t d. tt;
+      refused = tt;
+      lists = lists_there file h is is_header c.in_ok-fat.ensures.table.is_fat;
+      memory = tt;
+    }
 
 pub returns-in_err-fat-clause-refused : goal.returns-in_err-fat-clause-refused
 returns-in_err-fat-clause-refused c =
@@ -242,3 +249,54 @@ returns-in_err-outline-clause-refused c =
     refused_with c.from_residual-in_err-outline.result c.in_err-outline.field-0.0 (MayRefuseFile file) again
     (file_storage file l start r (directory_is file c.chain.new.self c.in_ok-chain.chain.items e.directory o) c.in_err-outline.field-0.0
     (c.in_err-outline.ensures.refused (base_of (l.fat ++ l.difat ++ l.directory ++ l.mini_fat ++ l.mini_stream) start) [] (root_next file l start r used)))
+
+-- want of memory is told only past the lists of the FAT
+pub returns-in_err-fat-clause-memory : goal.returns-in_err-fat-clause-memory
+returns-in_err-fat-clause-memory c =
+    let file : List ℕ = image_bytes c.args.file in
+    let h : HeaderValue = c.args.header.now in
+    let is : h ≡ header_of file = read_header file h c.requires.whole (sym c.requires.read) in
+    refused_with c.from_residual.result (chain_fault c.in_err-fat.field-0.0) (MayLack file) c.from_residual.ensures.1
+    (fat_lacks file h c.in_err-fat.field-0.0 is c.requires.whole c.in_err-fat.ensures.refused)
+
+pub returns-in_err-chain-clause-memory : goal.returns-in_err-chain-clause-memory
+returns-in_err-chain-clause-memory c =
+    let file : List ℕ = image_bytes c.args.file in
+    let h : HeaderValue = c.args.header.now in
+    let is : h ≡ header_of file = read_header file h c.requires.whole (sym c.requires.read) in
+    lacking file c.from_residual-in_err-chain.result (lists_there file h is c.requires.whole c.in_ok-fat.ensures.table.is_fat)
+
+pub returns-in_err-directory-clause-memory : goal.returns-in_err-directory-clause-memory
+returns-in_err-directory-clause-memory c =
+    let file : List ℕ = image_bytes c.args.file in
+    let h : HeaderValue = c.args.header.now in
+    let is : h ≡ header_of file = read_header file h c.requires.whole (sym c.requires.read) in
+    lacking file c.from_residual-in_err-directory.result (lists_there file h is c.requires.whole c.in_ok-fat.ensures.table.is_fat)
+
+pub returns-in_err-entries-clause-memory : goal.returns-in_err-entries-clause-memory
+returns-in_err-entries-clause-memory c =
+    let file : List ℕ = image_bytes c.args.file in
+    let h : HeaderValue = c.args.header.now in
+    let is : h ≡ header_of file = read_header file h c.requires.whole (sym c.requires.read) in
+    lacking file c.from_residual-in_err-entries.result (lists_there file h is c.requires.whole c.in_ok-fat.ensures.table.is_fat)
+
+pub returns-in_err-root-clause-memory : goal.returns-in_err-root-clause-memory
+returns-in_err-root-clause-memory c =
+    let file : List ℕ = image_bytes c.args.file in
+    let h : HeaderValue = c.args.header.now in
+    let is : h ≡ header_of file = read_header file h c.requires.whole (sym c.requires.read) in
+    lacking file c.from_residual-in_err-root.result (lists_there file h is c.requires.whole c.in_ok-fat.ensures.table.is_fat)
+
+pub returns-in_err-mini-clause-memory : goal.returns-in_err-mini-clause-memory
+returns-in_err-mini-clause-memory c =
+    let file : List ℕ = image_bytes c.args.file in
+    let h : HeaderValue = c.args.header.now in
+    let is : h ≡ header_of file = read_header file h c.requires.whole (sym c.requires.read) in
+    lacking file c.from_residual-in_err-mini.result (lists_there file h is c.requires.whole c.in_ok-fat.ensures.table.is_fat)
+
+pub returns-in_err-outline-clause-memory : goal.returns-in_err-outline-clause-memory
+returns-in_err-outline-clause-memory c =
+    let file : List ℕ = image_bytes c.args.file in
+    let h : HeaderValue = c.args.header.now in
+    let is : h ≡ header_of file = read_header file h c.requires.whole (sym c.requires.read) in
+    lacking file c.from_residual-in_err-outline.result (lists_there file h is c.requires.whole c.in_ok-fat.ensures.table.is_fat)
