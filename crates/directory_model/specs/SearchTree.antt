@@ -41,10 +41,14 @@ pub record IsBuilt (names : List (List ℕ)) (l : Links) : Type 0 where
   pub all : IsPermutation (range_with_len 0 (length names)) siblings
   pub ordered : AllPairs (λ j k. name_cmp (slice_index_or names j []) (slice_index_or names k []) ≡ Less) siblings
 
--- when a fault may be answered for names: two of them are equal in upper case
+-- two names are equal in upper case
+abbrev pub HasTwins : List (List ℕ) → Type 0
+HasTwins names = (j : ℕ) × (k : ℕ) × (j < k) × (k < length names) × (name_cmp (slice_index_or names j []) (slice_index_or names k []) ≡ Equal)
+
+-- When a fault may be answered for names: two of them are equal in upper case. Want of memory is told only where none are.
 abbrev pub MayRefuseBuild : List (List ℕ) → DirFault → Type 0
-MayRefuseBuild names DuplicateName = (j : ℕ) × (k : ℕ) × (j < k) × (k < length names) × (name_cmp (slice_index_or names j []) (slice_index_or names k []) ≡ Equal)
-MayRefuseBuild names NoMemory = Unit {0}
+MayRefuseBuild names DuplicateName = HasTwins names
+MayRefuseBuild names NoMemory = HasTwins names → ⊥
 MayRefuseBuild names _ = ⊥
 
 -- the link to the entry that stands for a place, or to nobody

@@ -1,11 +1,13 @@
 //! Trees of siblings (MS-CFB 2.6.4).
 
 ghost use Rattle.cfb_bytes.specs.Marks.{AreDistinct};
-ghost use Rattle.directory_writing.specs.Building.{AllAdjacentApart, HasEqualNeighbours, KeepsOthers, keyed_names, places};
+ghost use Rattle.directory_writing.specs.Building.{AllAdjacentApart, HasEqualNeighbours, IsFirstRefusal, KeepsOthers, keyed_names, places};
 ghost use Rattle.directory_model.specs.SearchTree.{AreKept, IsBuilt, IsSearchTree, IsTree, MayRefuseBuild};
 ghost use Rattle.cfb_names.specs.declared.fault.DirFault.TheVariants.{NoMemory};
 ghost use Rattle.std.specs.List.{All};
-ghost use Rattle.std.specs.Prelude.{◌≡◌, ◌<◌, ◌≤◌, IfErr, IfOk, false, length, true};
+ghost use Rattle.std.specs.Prelude.{◌≡◌, ◌≢◌, ◌<◌, ◌≤◌, [], IfErr, IfOk, false, length, slice_index_or, true, ℕ};
+ghost use Rattle.std.specs.declared.cmp.Ordering.TheVariants.{Equal};
+ghost use Rattle.cfb_names.specs.Names.{name_cmp};
 
 use cfb_names::fault::DirFault;
 use cfb_names::key::Key;
@@ -13,6 +15,7 @@ use cfb_names::name::{Name, key};
 use directory_model::entries::NO_STREAM;
 pub use directory_model::links::Links;
 use std::alloc::{AllocError, Global};
+use std::cmp::Ordering;
 
 /// The links of so many siblings in name order, by their places: of the siblings from `a` to `b` the one at
 /// `a + (b - a + 1) / 2`, rounded down, is on top, and so on in both halves.
@@ -30,11 +33,72 @@ pub fn balanced(alloc: Global, count: u32) -> Result<Links, AllocError>
 /// The links of siblings with these names in any order, by the places of the names. They are balanced as those of
 /// `balanced` are.
 ///
-/// Refused: `DuplicateName` where two names are equal in upper case.
+/// Refused: `DuplicateName` where two names are equal in upper case; else `NoMemory`. Where memory is short, each two names
+/// are compared.
 pub fn build(alloc: Global, names: &[Name]) -> Result<Links, DirFault>
     requires { length names.now ≤ 0xFFFFFFFF }
     ensures built { IfOk result (IsBuilt names.now) }
     ensures refused { IfErr result (MayRefuseBuild names.now) }
+{
+    match sorted(alloc, names) {
+        Ok(links) => Ok(links),
+        Err(fault) => Err(told(names, fault)),
+    }
+}
+
+/// What names are refused for: for two that are equal in upper case, also where memory was short before it was seen.
+fn told(names: &[Name], fault: DirFault) -> DirFault
+    requires { IsFirstRefusal names.now fault }
+    ensures { MayRefuseBuild names.now result }
+{
+    if fault == DirFault::NoMemory {
+        return twins_or_memory(names);
+    }
+    fault
+}
+
+/// The same, by comparing each two names, which takes no memory.
+fn twins_or_memory(names: &[Name]) -> DirFault
+    ensures { MayRefuseBuild names.now result }
+{
+    for k in 0..names.len() {
+        if stands_before(names, k) {
+            return DirFault::DuplicateName;
+        }
+    }
+    DirFault::NoMemory
+}
+
+/// Whether a name is equal in upper case to one before it.
+fn stands_before(names: &[Name], k: usize) -> bool
+    requires { k < length names.now }
+    ensures found { result ≡ true → (j : ℕ) × (j < k) × (name_cmp (slice_index_or names.now j []) (slice_index_or names.now k []) ≡ Equal) }
+    ensures none { result ≡ false → (j : ℕ) → j < k → name_cmp (slice_index_or names.now j []) (slice_index_or names.now k []) ≢ Equal }
+{
+    for j in 0..k {
+        if are_twins(&names[j], &names[k]) {
+            return true;
+        }
+    }
+    false
+}
+
+/// Whether two names are equal in upper case.
+fn are_twins(a: &Name, b: &Name) -> bool
+    ensures equal { result ≡ true → name_cmp a.now b.now ≡ Equal }
+    ensures apart { result ≡ false → name_cmp a.now b.now ≢ Equal }
+{
+    match a.cmp(b) {
+        Ordering::Equal => true,
+        _ => false,
+    }
+}
+
+/// The links of siblings with these names. Want of memory may be told where two are equal in upper case.
+fn sorted(alloc: Global, names: &[Name]) -> Result<Links, DirFault>
+    requires { length names.now ≤ 0xFFFFFFFF }
+    ensures built { IfOk result (IsBuilt names.now) }
+    ensures refused { IfErr result (IsFirstRefusal names.now) }
 {
     let mut siblings = keyed(alloc, names)?;
     siblings.sort()?;

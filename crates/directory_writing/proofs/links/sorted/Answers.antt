@@ -1,4 +1,4 @@
-use Rattle.std.proofs.Common.{◌≡◌, ◌<◌, ℕ, List, [], ◌++◌, length, take, drop, get_or, ◌∙◌, ap, sym, subst, arith}
+use Rattle.std.proofs.Common.{◌≡◌, ◌<◌, ℕ, List, [], ◌++◌, length, take, drop, get_or, inr, refl, ◌∙◌, ap, sym, subst, arith}
 use Rattle.std.specs.List.{All, AllPairs, range_with_len}
 use Rattle.std.specs.declared.cmp.Ordering.TheVariants.{Less}
 use Rattle.cfb_names.specs.Names.{name_cmp}
@@ -8,7 +8,7 @@ use Rattle.directory_model.specs.SearchTree.{IsTree}
 use Rattle.cfb_bytes.specs.Marks.{AreDistinct}
 use Rattle.directory_writing.specs.Building.{AllAdjacentApart, HasEqualNeighbours, keyed_names, places}
 use Rattle.directory_writing.proofs.Built.{equal_refused, order_inside, order_once, order_permuted, order_sorted}
-use Rattle.directory_writing.proofs.links.build.Goals as goal
+use Rattle.directory_writing.proofs.links.sorted.Goals as goal
 
 pub returns-then-not-are_apart-clause-refused : goal.returns-then-not-are_apart-clause-refused
 returns-then-not-are_apart-clause-refused c =
@@ -16,7 +16,7 @@ returns-then-not-are_apart-clause-refused c =
     let siblings : List (List ℕ × ℕ) = c.sort.new.self.items in
     let permuted : IsPermutation (keyed_names names) siblings =
     subst (λ (xs : List (List ℕ × ℕ)). IsPermutation xs siblings) c.in_ok-siblings.ensures.keyed c.sort.ensures.permutation in
-    equal_refused names siblings permuted (subst HasEqualNeighbours c.deref.ensures.value (c.are_apart.ensures.equal c.if-not-are_apart.true))
+    inr (refl, equal_refused names siblings permuted (subst HasEqualNeighbours c.deref.ensures.value (c.are_apart.ensures.equal c.if-not-are_apart.true)))
 
 pub join-top-requires-clause-once : goal.join-top-requires-clause-once
 join-top-requires-clause-once c =
