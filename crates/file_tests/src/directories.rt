@@ -4,6 +4,7 @@ use crate::texts::{are_all, are_numbers, are_spelled, number, word};
 use cfb_directory::entries::{Entries, EntryKind, NO_STREAM};
 use cfb_names::fault::DirFault;
 use cfb_names::name::{LONGEST, Name, key, keys_agree, named};
+use directory_writing::law::names_have_one_order;
 use directory_writing::links::{Links, balanced, build};
 use directory_writing::write::{EntryFields, write_entry, write_free_entry};
 use std::alloc::{AllocError, Global};
@@ -87,6 +88,7 @@ fn names_are_ordered(rt: HostRuntime) {
     }
     assert!(rt; Name::root().as_bytes() == b"Root Entry".as_slice());
     keys_agree();
+    names_have_one_order();
 }
 
 /// An entry with these links.
