@@ -14,6 +14,7 @@ ghost use Rattle.file_faults.specs.Faults.{Base, store_in};
 ghost use Rattle.std.specs.List.{All, Contains};
 ghost use Rattle.std.specs.Prelude.{◌≡◌, ◌≢◌, ◌<◌, ◌≤◌, IfOk, IfSome, List, false, length, true, ℕ};
 
+use crate::ends::Ends;
 use crate::parts::{Parts, parts_of, root_of};
 use crate::place::{Link, Owner, StreamPlace};
 use crate::streams::{Stream, lies_in_minis, streams_of};
@@ -158,7 +159,7 @@ fn owner_of(
 }
 
 /// The sectors that are taken before a stream is walked that stands behind so many others: those of the system's own parts
-/// where it lies in sectors, and those of the streams before it.
+/// where it lies in sectors, and those of the streams before it, each once.
 fn taken_before(
     alloc: Global,
     parts: &Parts,
@@ -168,15 +169,15 @@ fn taken_before(
 ) -> Result<Vec<u32>, AllocError>
     requires { AreFew parts.now }
 {
+    let table = table_for(parts, size);
     let mut taken = Vec::new(alloc);
     if !lies_in_minis(size) {
         taken.extend_from_slice(&parts.own)?;
     }
+    let mut ends = Ends::new(alloc, table.len())?;
     for stream in streams.iter().take(at) {
         if stream.size > 0 && lies_in_minis(stream.size) == lies_in_minis(size) {
-            if let Some(sectors) = sectors_of(alloc, parts, stream)? {
-                taken.extend_from_slice(&sectors)?;
-            }
+            ends.push_whole(alloc, table, chain_of(stream), &mut taken)?;
         }
     }
     Ok(taken)

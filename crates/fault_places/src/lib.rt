@@ -3,6 +3,7 @@
 
 pub mod chains;
 pub mod directory;
+mod ends;
 pub mod finding;
 pub mod law;
 mod looking;

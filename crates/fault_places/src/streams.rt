@@ -13,6 +13,9 @@ use std::alloc::{AllocError, Global};
 /// How many bytes a stream has at least that lies in sectors.
 const CUTOFF: u32 = 4096;
 
+/// How long the way to a storage is that no file is read with, so that no longer ones are kept.
+const TOO_DEEP: usize = 33;
+
 /// A stream of a directory.
 #[derive(Drop)]
 pub(crate) struct Stream {
@@ -62,7 +65,12 @@ fn look_for_streams(
             Ok(())
         }
         EntryKind::Root => open(alloc, directory, entries, ways, way),
-        EntryKind::Storage => open(alloc, directory, entries, ways, way),
+        EntryKind::Storage => {
+            if way.len() >= TOO_DEEP {
+                return Ok(());
+            }
+            open(alloc, directory, entries, ways, way)
+        }
     }
 }
 

@@ -2,7 +2,8 @@
 
 ghost use Rattle.file_cleaning.specs.Cleaning.{Cleans, MayRefuseClean, early};
 ghost use Rattle.file_cleaning.specs.Faults.{of_move_fault, of_source_fault};
-ghost use Rattle.std.specs.Prelude.{◌≡◌, ◌≢◌, IfErr, IfOk, IfSome, true};
+ghost use Rattle.std.specs.Prelude.{◌≡◌, ◌≢◌, IfErr, IfOk, IfSome, true, ◌≤◌, OnOk, length};
+ghost use Rattle.texts.specs.Input.{most};
 
 use crate::fault::CleanFault;
 use file_moving::fault::SourceFault;
@@ -28,6 +29,7 @@ pub fn clean_file<R: Read, W: Write>(
     writer: &mut W,
 ) -> Result<usize, CleanFault>
     ensures cleaned { IfOk result (λ count. IfSome (R.remaining reader.old) (λ file. Cleans file (W.contents writer.old) (W.contents writer.new) count)) }
+    ensures few { OnOk result (IfSome (R.remaining reader.old) (λ file. length file ≤ most)) }
     ensures refused { IfErr result (λ fault. IfSome (R.remaining reader.old) (λ file. MayRefuseClean file fault)) }
     ensures unwritten { IfErr result (λ fault. fault ≢ CleanFault.Unwritable → writer.new ≡ writer.old) }
 {
@@ -84,6 +86,7 @@ pub fn clean_source<S: Source, W: Write>(
     writer: &mut W,
 ) -> Result<usize, CleanFault>
     ensures cleaned { IfOk result (λ count. IfSome (S.bytes source.old) (λ file. Cleans file (W.contents writer.old) (W.contents writer.new) count)) }
+    ensures few { OnOk result (IfSome (S.bytes source.old) (λ file. length file ≤ most)) }
     ensures refused { IfErr result (λ fault. IfSome (S.bytes source.old) (λ file. MayRefuseClean file fault)) }
     ensures unwritten { IfErr result (λ fault. early fault ≡ true → writer.new ≡ writer.old) }
 {
@@ -103,6 +106,7 @@ pub fn clean_opened<S: Source, W: Write>(
     writer: &mut W,
 ) -> Result<(usize, Opened), CleanFault>
     ensures cleaned { IfOk result (λ made. IfSome (S.bytes source.old) (λ file. Cleans file (W.contents writer.old) (W.contents writer.new) made.0)) }
+    ensures few { OnOk result (IfSome (S.bytes source.old) (λ file. length file ≤ most)) }
     ensures refused { IfErr result (λ fault. IfSome (S.bytes source.old) (λ file. MayRefuseClean file fault)) }
     ensures unwritten { IfErr result (λ fault. early fault ≡ true → writer.new ≡ writer.old) }
 {

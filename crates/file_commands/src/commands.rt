@@ -4,7 +4,8 @@ ghost use Rattle.file_commands.specs.Listing.{listed};
 ghost use Rattle.file_commands.specs.Run.{IsOfWriting, Lists, MayRefuseList};
 ghost use Rattle.file_outline.specs.View.{outline_view};
 ghost use Rattle.std.specs.Io.KnownBytes.{Appends};
-ghost use Rattle.std.specs.Prelude.{◌≡◌, ◌≢◌, IfErr, IfSome, OnOk};
+ghost use Rattle.std.specs.Prelude.{◌≡◌, ◌≢◌, IfErr, IfSome, OnOk, ◌≤◌, length};
+ghost use Rattle.texts.specs.Input.{most};
 
 use crate::fault::ListFault;
 use crate::listing::list;
@@ -25,6 +26,7 @@ pub fn list_file<R: Read, W: Write>(
     writer: &mut W,
 ) -> Result<(), ListFault>
     ensures listed { OnOk result (IfSome (R.remaining reader.old) (λ file. Lists file (W.contents writer.old) (W.contents writer.new))) }
+    ensures few { OnOk result (IfSome (R.remaining reader.old) (λ file. length file ≤ most)) }
     ensures refused { IfErr result (λ fault. IfSome (R.remaining reader.old) (λ file. MayRefuseList file fault)) }
     ensures unwritten { IfErr result (λ fault. fault ≢ ListFault.Unwritable → writer.new ≡ writer.old) }
 {

@@ -3,7 +3,8 @@
 ghost use Rattle.file_commands.specs.Run.{IsOfWriting, MayRefuseList};
 ghost use Rattle.file_commands.specs.Lists.{ListsAs};
 ghost use Rattle.std.specs.Io.KnownBytes.{Appends};
-ghost use Rattle.std.specs.Prelude.{◌≡◌, ◌≢◌, IfErr, IfSome, OnOk};
+ghost use Rattle.std.specs.Prelude.{◌≡◌, ◌≢◌, IfErr, IfSome, OnOk, ◌≤◌, length};
+ghost use Rattle.texts.specs.Input.{most};
 
 use crate::fault::ListFault;
 use file_outline::outline::Outline;
@@ -26,6 +27,7 @@ pub fn list_file_as<F: Form, R: Read, W: Write>(
     writer: &mut W,
 ) -> Result<(), ListFault>
     ensures listed { OnOk result (IfSome (R.remaining reader.old) (λ file. ListsAs F.told file (W.contents writer.old) (W.contents writer.new))) }
+    ensures few { OnOk result (IfSome (R.remaining reader.old) (λ file. length file ≤ most)) }
     ensures refused { IfErr result (λ fault. IfSome (R.remaining reader.old) (λ file. MayRefuseList file fault)) }
     ensures unwritten { IfErr result (λ fault. fault ≢ ListFault.Unwritable → writer.new ≡ writer.old) }
 {
@@ -49,6 +51,7 @@ pub fn list_source_as<F: Form, S: Source, W: Write>(
     writer: &mut W,
 ) -> Result<(), ListFault>
     ensures listed { OnOk result (IfSome (S.bytes source.old) (λ file. ListsAs F.told file (W.contents writer.old) (W.contents writer.new))) }
+    ensures few { OnOk result (IfSome (S.bytes source.old) (λ file. length file ≤ most)) }
     ensures refused { IfErr result (λ fault. IfSome (S.bytes source.old) (λ file. MayRefuseList file fault)) }
     ensures unwritten { IfErr result (λ fault. fault ≢ ListFault.Unwritable → writer.new ≡ writer.old) }
 {

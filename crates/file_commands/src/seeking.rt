@@ -1,7 +1,8 @@
 //! Listing files that can be sought in.
 
 ghost use Rattle.file_commands.specs.Run.{Lists, MayRefuseList};
-ghost use Rattle.std.specs.Prelude.{◌≡◌, ◌≢◌, IfErr, IfSome, OnOk};
+ghost use Rattle.std.specs.Prelude.{◌≡◌, ◌≢◌, IfErr, IfSome, OnOk, ◌≤◌, length};
+ghost use Rattle.texts.specs.Input.{most};
 
 use crate::commands::write_listing;
 use crate::fault::ListFault;
@@ -20,6 +21,7 @@ pub fn list_source<S: Source, W: Write>(
     writer: &mut W,
 ) -> Result<(), ListFault>
     ensures listed { OnOk result (IfSome (S.bytes source.old) (λ file. Lists file (W.contents writer.old) (W.contents writer.new))) }
+    ensures few { OnOk result (IfSome (S.bytes source.old) (λ file. length file ≤ most)) }
     ensures refused { IfErr result (λ fault. IfSome (S.bytes source.old) (λ file. MayRefuseList file fault)) }
     ensures unwritten { IfErr result (λ fault. fault ≢ ListFault.Unwritable → writer.new ≡ writer.old) }
 {

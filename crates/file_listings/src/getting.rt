@@ -4,7 +4,8 @@ ghost use Rattle.file_listings.specs.Getting.{Gets, MayRefuseGet};
 ghost use Rattle.cfb_header.specs.Header.{IsHeader, header_read};
 ghost use Rattle.file_listings.specs.Gets.{Begun, LiesAt, Stands, of_copy_fault, of_places_fault};
 ghost use Rattle.file_model.specs.Alike.{Alike};
-ghost use Rattle.std.specs.Prelude.{◌≡◌, ◌≢◌, ◌⊎◌, IfErr, IfOk, IfSome, List, Ok, OnOk, length, ℕ};
+ghost use Rattle.std.specs.Prelude.{◌≡◌, ◌≢◌, ◌⊎◌, IfErr, IfOk, IfSome, List, Ok, OnOk, length, ℕ, ◌≤◌};
+ghost use Rattle.texts.specs.Input.{most};
 ghost use Rattle.texts.specs.declared.input.InputFault.TheVariants as input;
 
 use crate::fault::GetFault;
@@ -36,6 +37,7 @@ pub fn get_file<R: Read, W: Write>(
     writer: &mut W,
 ) -> Result<(), GetFault>
     ensures got { OnOk result (IfSome (R.remaining reader.old) (λ file. Gets file path.now (W.contents writer.old) (W.contents writer.new))) }
+    ensures few { OnOk result (IfSome (R.remaining reader.old) (λ file. length file ≤ most)) }
     ensures refused { IfErr result (λ fault. IfSome (R.remaining reader.old) (λ file. MayRefuseGet file path.now fault)) }
     ensures unwritten { IfErr result (λ fault. fault ≢ GetFault.Unwritable → writer.new ≡ writer.old) }
 {
@@ -105,6 +107,7 @@ fn place_of(alloc: Global, catalog: &Catalog, path: &[Name]) -> Result<Place, Ge
 /// Refused: as `get_source`, but for writing.
 fn seek<S: Source>(alloc: Global, source: &mut S, path: &[Name]) -> Result<Found, GetFault>
     ensures found { IfOk result (λ f. IfSome (S.bytes source.old) (λ file. (length file ≡ f.len) × Stands file path.now f.lies)) }
+    ensures few { OnOk result (IfSome (S.bytes source.old) (λ file. length file ≤ most)) }
     ensures refused { IfErr result (λ fault. IfSome (S.bytes source.old) (λ file. MayRefuseGet file path.now fault)) }
     ensures kept { S.bytes source.new ≡ S.bytes source.old }
 {
@@ -137,6 +140,7 @@ pub fn get_source<S: Source, W: Write>(
     writer: &mut W,
 ) -> Result<(), GetFault>
     ensures got { OnOk result (IfSome (S.bytes source.old) (λ file. Gets file path.now (W.contents writer.old) (W.contents writer.new))) }
+    ensures few { OnOk result (IfSome (S.bytes source.old) (λ file. length file ≤ most)) }
     ensures refused { IfErr result (λ fault. IfSome (S.bytes source.old) (λ file. MayRefuseGet file path.now fault)) }
     ensures unwritten { IfErr result (λ fault. fault ≢ GetFault.Unwritable → fault ≢ GetFault.Input input.Unreadable → writer.new ≡ writer.old) }
     ensures begun { IfErr result (λ fault. fault ≡ GetFault.Input input.Unreadable → (writer.new ≡ writer.old) ⊎ IfSome (S.bytes source.old) (λ file. Begun file path.now (W.contents writer.old) (W.contents writer.new))) }

@@ -6,7 +6,8 @@ ghost use Rattle.file_model.specs.Denotes.{Denotes};
 ghost use Rattle.file_outline.specs.View.{outline_view};
 ghost use Rattle.sector_maps.specs.Maps.{mapped};
 ghost use Rattle.std.specs.Io.KnownBytes.{Appends};
-ghost use Rattle.std.specs.Prelude.{◌≡◌, ◌≢◌, IfErr, IfSome, OnOk};
+ghost use Rattle.std.specs.Prelude.{◌≡◌, ◌≢◌, IfErr, IfSome, OnOk, ◌≤◌, length};
+ghost use Rattle.texts.specs.Input.{most};
 ghost use Rattle.storage_tree.specs.Tree.{Tree};
 
 use file_commands::fault::ListFault;
@@ -30,6 +31,7 @@ pub fn map_file<R: Read, W: Write>(
     writer: &mut W,
 ) -> Result<(), ListFault>
     ensures mapped { OnOk result (IfSome (R.remaining reader.old) (λ file. Maps file (W.contents writer.old) (W.contents writer.new))) }
+    ensures few { OnOk result (IfSome (R.remaining reader.old) (λ file. length file ≤ most)) }
     ensures refused { IfErr result (λ fault. IfSome (R.remaining reader.old) (λ file. MayRefuseList file fault)) }
     ensures unwritten { IfErr result (λ fault. fault ≢ ListFault.Unwritable → writer.new ≡ writer.old) }
 {

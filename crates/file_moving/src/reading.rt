@@ -5,7 +5,8 @@ ghost use Rattle.file_model.specs.Alike.{Alike};
 ghost use Rattle.file_moving.specs.Opened.{IsOpenedOf};
 ghost use Rattle.file_moving.specs.Sources.{MayRefuseSource};
 ghost use Rattle.outline_entries.specs.Places.{IsPlaced};
-ghost use Rattle.std.specs.Prelude.{◌*◌, ◌≡◌, IfErr, IfOk, IfSome, List, Ok, length, ℕ};
+ghost use Rattle.std.specs.Prelude.{◌*◌, ◌≡◌, IfErr, IfOk, IfSome, List, Ok, length, ℕ, ◌≤◌, OnOk};
+ghost use Rattle.texts.specs.Input.{most};
 ghost use Rattle.storage_tree.specs.Tree.{Tree};
 ghost use Rattle.stream_io.specs.Reads.{MayRefuseRead};
 
@@ -48,6 +49,7 @@ fn outline_of(alloc: Global, catalog: &Catalog) -> Result<Outline, ReadFault>
 pub fn open<S: Source>(alloc: Global, source: &mut S) -> Result<Opened, SourceFault>
     ensures opened { IfOk result (λ opened. IfSome (S.bytes source.old) (λ file. (t : Tree) × ∥ IsOpenedOf file t opened ∥₁)) }
     ensures whole { IfOk result (λ opened. (m : ℕ) × (length opened.tables.mini_fat.items ≡ 4 * m)) }
+    ensures few { OnOk result (IfSome (S.bytes source.old) (λ file. length file ≤ most)) }
     ensures refused { IfErr result (λ fault. IfSome (S.bytes source.old) (λ file. MayRefuseSource file fault)) }
     ensures kept { S.bytes source.new ≡ S.bytes source.old }
 {

@@ -29,6 +29,7 @@ pub struct Catalog {
 /// How many bytes a file has, of which there may be `MOST`.
 fn read_len<S: Source>(source: &mut S) -> Result<usize, PlacesFault>
     ensures counted { IfOk result (λ n. IfSome (S.bytes source.old) (λ a. length a ≡ n)) }
+    ensures few { IfOk result (λ _. IfSome (S.bytes source.old) (λ a. length a ≤ most)) }
     ensures refused { IfErr result (λ fault. IfSome (S.bytes source.old) (λ a. MayRefusePlaces a fault)) }
     ensures kept { S.bytes source.new ≡ S.bytes source.old }
 {
@@ -52,6 +53,7 @@ pub fn read_catalog<S: Source>(alloc: Global, source: &mut S) -> Result<Catalog,
     ensures header { IfOk result (λ c. header_read c.file ≡ Ok c.header) }
     ensures whole { IfOk result (λ c. IsHeader c.file) }
     ensures alike { IfOk result (λ c. IfSome (S.bytes source.old) (λ a. Alike a c.file)) }
+    ensures few { IfOk result (λ _. IfSome (S.bytes source.old) (λ a. length a ≤ most)) }
     ensures refused { IfErr result (λ fault. IfSome (S.bytes source.old) (λ a. MayRefusePlaces a fault)) }
     ensures kept { S.bytes source.new ≡ S.bytes source.old }
 {

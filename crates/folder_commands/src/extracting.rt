@@ -4,7 +4,8 @@ ghost use Rattle.file_folders.specs.declared.plan.Entry.{Entry};
 ghost use Rattle.file_folders.specs.Plan.{plan};
 ghost use Rattle.folder_commands.specs.Chosen.{AllStand, asked};
 ghost use Rattle.folder_commands.specs.Extracting.{Extracts, IsInFolder, MayRefusePlan, MayStop};
-ghost use Rattle.std.specs.Prelude.{Some, ◌<◌, ◌≡◌, ◌⊎◌, IfErr, IfOk, IfSome, OnOk, slice_get};
+ghost use Rattle.std.specs.Prelude.{Some, ◌<◌, ◌≡◌, ◌⊎◌, IfErr, IfOk, IfSome, OnOk, slice_get, ◌≤◌, length};
+ghost use Rattle.texts.specs.Input.{most};
 ghost use Rattle.storage_tree.specs.Kept.{kept};
 ghost use Rattle.std.specs.Vec.{vec_len};
 
@@ -33,6 +34,7 @@ pub fn extract_file<R: Read, F: Folder>(
     folder: &mut F,
 ) -> Result<usize, Stop>
     ensures extracted { IfOk result (λ count. IfSome (R.remaining reader.old) (λ file. Extracts paths.now file (F.made folder.old) (F.made folder.new) count)) }
+    ensures few { OnOk result (IfSome (R.remaining reader.old) (λ file. length file ≤ most)) }
     ensures stopped { IfErr result (λ stop. IfSome (R.remaining reader.old) (λ file. MayStop paths.now file (F.made folder.old) (F.made folder.new) stop.made stop.fault)) }
     ensures unmade { IfErr result (λ stop. IsInFolder stop.fault ⊎ ((stop.made ≡ 0) × (folder.new ≡ folder.old))) }
 {

@@ -44,6 +44,7 @@ const MOST: u64 = 134_217_728;
 pub fn read_all<R: Read>(alloc: Global, reader: &mut R) -> Result<Vec<u8>, InputFault>
     ensures whole { IfOk result (λ bytes. IfSome (R.remaining reader.old) (λ input. bytes.items ≡ input)) }
     ensures few { IfOk result (λ bytes. length bytes.items ≤ most) }
+    ensures within { IfOk result (λ _. IfSome (R.remaining reader.old) (λ input. length input ≤ most)) }
     ensures refused { IfErr result (λ fault. IfSome (R.remaining reader.old) (λ input. MayRefuseInput input fault)) }
 {
     let mut bytes = Vec::new(alloc);
