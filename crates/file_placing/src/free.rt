@@ -1,36 +1,23 @@
 //! The search for free sectors.
 
-ghost use Rattle.std.specs.Prelude.{◌≡◌, ◌≤◌, ◌<◌, IfOk, IfSome, false, slice_index_or, true, ℕ};
+ghost use Rattle.file_placing.specs.declared.free.TheConstants.{MOST};
+ghost use Rattle.std.specs.Prelude.{◌≡◌, ◌≤◌, ◌<◌, IfOk, false, slice_index_or, true, ℕ};
 
-use std::alloc::{AllocError, Global};
+use std::alloc::AllocError;
 
 /// The most sectors, or mini sectors, that a file within the limit has.
-pub(crate) const MOST: usize = 1_152_000;
+const MOST: usize = 1_152_000;
 
 /// Which sectors are taken. The least free one is searched from where the last one was found.
 #[derive(Drop)]
 pub(crate) struct Sectors {
-    taken: Vec<bool>,
-    at: usize,
+    pub taken: Vec<bool>,
+    pub at: usize,
 }
 
 impl Sectors {
-    /// None is taken.
-    pub(crate) fn new(alloc: Global) -> Sectors {
-        Sectors {
-            taken: Vec::new(alloc),
-            at: 0,
-        }
-    }
-
-    /// How many there are up to the last one that is taken.
-    pub(crate) fn count(&self) -> usize {
-        self.taken.len()
-    }
-
     /// Takes one that is kept. One past the limit is left out, so a file that had it isn't made.
-    fn keep(&mut self, sector: u32) -> Result<(), AllocError> {
-        let at = sector as usize;
+    pub(crate) fn keep(&mut self, at: usize) -> Result<(), AllocError> {
         if at >= MOST {
             return Ok(());
         }
@@ -38,14 +25,6 @@ impl Sectors {
             self.taken.resize(at + 1, false)?;
         }
         self.taken[at] = true;
-        Ok(())
-    }
-
-    /// Takes those that are kept.
-    pub(crate) fn keep_all(&mut self, sectors: &[u32]) -> Result<(), AllocError> {
-        for sector in sectors {
-            self.keep(*sector)?;
-        }
         Ok(())
     }
 
@@ -62,17 +41,15 @@ impl Sectors {
         self.taken.len()
     }
 
-    /// Takes the least free one, if it is within the limit.
-    pub(crate) fn take(&mut self) -> Result<Option<u32>, AllocError>
-        ensures free { IfOk result (λ taken. IfSome taken (λ n. slice_index_or self.old.taken.items n false ≡ false)) }
-        ensures least { IfOk result (λ taken. IfSome taken (λ n. (k : ℕ) → self.old.at ≤ k → k < n → slice_index_or self.old.taken.items k false ≡ true)) }
+    /// Takes the least free one, or tells the limit where it is past that: no file has such a sector.
+    pub(crate) fn take(&mut self) -> Result<u32, AllocError>
+        ensures free { IfOk result (λ n. n < MOST → slice_index_or self.old.taken.items n false ≡ false) }
+        ensures least { IfOk result (λ n. (k : ℕ) → self.old.at ≤ k → k < n → slice_index_or self.old.taken.items k false ≡ true) }
+        ensures few { IfOk result (λ n. n ≤ MOST) }
     {
-        let at = self.free_from(self.at);
-        if at >= MOST {
-            return Ok(None);
-        }
-        self.keep(at as u32)?;
+        let at = self.free_from(self.at).min(MOST);
+        self.keep(at)?;
         self.at = at + 1;
-        Ok(Some(at as u32))
+        Ok(at as u32)
     }
 }

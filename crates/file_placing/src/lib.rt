@@ -1,14 +1,13 @@
 //! Where the sectors of a file go that takes an older one's place: what stays keeps its sectors.
 #![tactic(auto)]
 
-mod entries;
-mod finding;
+mod bytes;
+mod directory;
 mod free;
 pub mod freed;
-mod minis;
+mod older;
 mod parts;
 pub mod placing;
-mod runs;
-mod sectors;
+mod streams;
 mod tables;
-mod writing;
+pub mod writing;

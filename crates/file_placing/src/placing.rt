@@ -1,269 +1,93 @@
 //! A file in the sectors of an older one.
 
-ghost use Rattle.file_placing.specs.declared.free.TheConstants.{MOST};
-ghost use Rattle.std.specs.Prelude.{◌≤◌, ◌*◌, IfOk, IfSome};
-
-use crate::entries::count_below;
-use crate::finding::{Stream, push_streams};
+use crate::bytes::{MINI, SECTOR, joined, piece, put};
+use crate::directory::{directory_anew, set_firsts};
 use crate::freed::Freed;
-use crate::minis::{Minis, minis_in};
-use crate::parts::{Parts, chain_of, parts_of};
-use crate::runs::{Run, fill_runs};
-use crate::sectors::{SECTOR, joined};
-use crate::writing::{Laid, header_of, system_bytes};
+use crate::older::older_of;
+use crate::parts::{
+    DIFAT, DIRECTORY, FAT, MINI_FAT, MINI_STREAM, Part, fill_all, sectors_of, set_count,
+};
+use crate::streams::push_streams;
+use crate::tables::{at_or_end, difat_of, fat_count, fat_of, table_of};
+use crate::writing::Laid;
 use cfb_header::header::Header;
-use file_model::limit::{MANY, MOST_FAT_SECTORS};
-use file_model::need::{difat_sectors, fat_sectors};
-use file_outline::outline::{Outline, is_short};
+use file_model::need::difat_sectors;
+use file_outline::outline::Outline;
 use std::alloc::{AllocError, Global};
 use storage_tree::storage::Storage;
 
-/// The sectors, or mini sectors, that a stream keeps: its chain in this table, if it is of the same table and as long.
-fn run_of(
-    alloc: Global,
-    stream: Stream<'_>,
-    short: bool,
-    table: &[u32],
-) -> Result<Run, AllocError> {
-    let count = stream.bytes.len().div_ceil(if short { 64 } else { SECTOR });
-    let was = match stream.was {
-        Some(place) => {
-            if is_short(place) == short {
-                chain_of(alloc, table, place.first, place.size)?
-            } else {
-                Vec::new(alloc)
-            }
-        }
-        None => Vec::new(alloc),
-    };
-    Ok(Run::whole(alloc, was, count))
-}
-
-/// Adds the runs of the streams that are short, or of those that aren't.
-fn push_runs(
-    alloc: Global,
-    runs: &mut Vec<Run>,
-    streams: &[Stream<'_>],
-    short: bool,
-    table: &[u32],
-) -> Result<(), AllocError> {
-    for stream in streams {
-        if stream.is_short() == short {
-            runs.push(run_of(alloc, *stream, short, table)?)?;
-        }
-    }
-    Ok(())
-}
-
-/// How many sectors the parts of a file have.
-#[derive(Clone, Copy)]
-struct Counts {
-    fat: u32,
-    directory: usize,
-    mini_fat: usize,
-    mini_stream: usize,
-}
-
-/// Adds the run of one of the system's parts, which keeps the front of its sectors.
-fn push_front(
-    alloc: Global,
-    runs: &mut Vec<Run>,
-    was: &[u32],
-    count: usize,
-) -> Result<(), AllocError> {
-    runs.push(Run::front(alloc, was, count)?)?;
-    Ok(())
-}
-
-/// Adds those of all of them.
-fn push_parts(
-    alloc: Global,
-    runs: &mut Vec<Run>,
-    was: &Parts,
-    counts: Counts,
-) -> Result<(), AllocError>
-    requires { counts.fat ≤ MOST_FAT_SECTORS }
-{
-    let difat = difat_sectors(counts.fat) as usize;
-    push_front(alloc, runs, &was.own.fat, counts.fat as usize)?;
-    push_front(alloc, runs, &was.own.difat, difat)?;
-    push_front(alloc, runs, &was.chains.directory, counts.directory)?;
-    push_front(alloc, runs, &was.chains.mini_fat, counts.mini_fat)?;
-    push_front(alloc, runs, &was.chains.mini_stream, counts.mini_stream)
-}
-
-/// The runs of all parts, with what each keeps: the system's parts the front of theirs, the streams all or nothing.
-fn kept_runs(
-    alloc: Global,
-    was: &Parts,
-    streams: &[Stream<'_>],
-    counts: Counts,
-) -> Result<Vec<Run>, AllocError>
-    requires { counts.fat ≤ MOST_FAT_SECTORS }
-{
-    let mut runs = Vec::new(alloc);
-    push_parts(alloc, &mut runs, was, counts)?;
-    push_runs(alloc, &mut runs, streams, false, &was.next)?;
-    Ok(runs)
-}
-
-/// Runs, and how many sectors there are up to the last one of them.
-#[derive(Drop)]
-struct Placed {
-    runs: Vec<Run>,
-    count: u32,
-}
-
-/// The parts in their sectors, of which so many are the FAT's.
-fn place_with(
-    alloc: Global,
-    was: &Parts,
-    streams: &[Stream<'_>],
-    counts: Counts,
-) -> Result<Option<Placed>, AllocError>
-    requires { counts.fat ≤ MOST_FAT_SECTORS }
-    ensures { IfOk result (λ placed. IfSome placed (λ p. p.count ≤ MOST)) }
-{
-    let mut runs = kept_runs(alloc, was, streams, counts)?;
-    match fill_runs(alloc, &mut runs)? {
-        Some(count) => Ok(Some(Placed { runs, count })),
-        None => Ok(None),
-    }
-}
-
-/// The parts in their sectors, which the FAT has entries for: it grows until it has. None where it would pass the limit.
-fn place_within(
-    alloc: Global,
-    was: &Parts,
-    streams: &[Stream<'_>],
-    least: Counts,
-) -> Result<Option<Placed>, AllocError>
-    ensures { IfOk result (λ placed. IfSome placed (λ p. p.count ≤ 128 * MOST_FAT_SECTORS)) }
-{
-    let mut counts = least;
-    for _ in 0..MOST_FAT_SECTORS {
-        if counts.fat > MOST_FAT_SECTORS {
-            return Ok(None);
-        }
-        let Some(placed) = place_with(alloc, was, streams, counts)? else {
-            return Ok(None);
-        };
-        if placed.count <= 128 * counts.fat {
-            return Ok(Some(placed));
-        }
-        counts.fat = placed.count.div_ceil(128).max(counts.fat + 1);
-    }
-    Ok(None)
-}
-
-/// How many sectors the parts of a file have, of which so many are the directory's.
-fn least_of(streams: &[Stream<'_>], minis: &Minis, directory: usize) -> Counts {
-    let mini_fat = minis.fat_sectors() as usize;
-    let mini_stream = minis.stream_sectors() as usize;
-    let mut sectors = directory
-        .saturating_add(mini_fat)
-        .saturating_add(mini_stream);
-    for stream in streams {
-        if !stream.is_short() {
-            sectors = sectors.saturating_add(stream.bytes.len().div_ceil(SECTOR));
-        }
-    }
-    Counts {
-        fat: fat_sectors(sectors.min(MANY as usize) as u32),
-        directory,
-        mini_fat,
-        mini_stream,
-    }
-}
-
-/// The streams that lie in sectors.
-fn long_streams<'a>(alloc: Global, streams: &[Stream<'a>]) -> Result<Vec<&'a [u8]>, AllocError> {
-    let mut longs = Vec::new(alloc);
-    for stream in streams {
-        if !stream.is_short() {
-            longs.push(stream.bytes)?;
-        }
-    }
-    Ok(longs)
-}
-
-/// The mini stream that the new one is laid over: the older one, or nothing of it.
-fn minis_kept(
+/// The mini stream of so many mini sectors, in whole sectors. What no stream lies in is as it was, or zero.
+fn mini_stream_of(
     alloc: Global,
     old: &[u8],
-    mini_stream: &[u32],
+    parts: &[Part<'_>],
+    minis: usize,
     freed: Freed,
 ) -> Result<Vec<u8>, AllocError> {
-    match freed {
-        Freed::Kept => joined(alloc, old, mini_stream),
-        Freed::Zeroed => Ok(Vec::new(alloc)),
+    let mut stream = match freed {
+        Freed::Kept => joined(alloc, old, sectors_of(parts, MINI_STREAM))?,
+        Freed::Zeroed => Vec::new(alloc),
+    };
+    stream.resize(SECTOR.saturating_mul(minis.div_ceil(8)), 0)?;
+    for part in parts {
+        if part.short {
+            for k in 0..part.sectors.len() {
+                let bytes = piece(part.bytes, MINI, k);
+                put(&mut stream, MINI, part.sectors[k] as usize, bytes);
+            }
+        }
+    }
+    Ok(stream)
+}
+
+/// Gives the parts their sectors, where the directory has so many and the mini stream so many mini sectors, and tells how many
+/// there are up to the last one. None where that passes the limit.
+fn place(
+    alloc: Global,
+    parts: &mut [Part<'_>],
+    directory: usize,
+    minis: usize,
+) -> Result<Option<usize>, AllocError> {
+    set_count(parts, DIRECTORY, directory);
+    set_count(parts, MINI_FAT, minis.div_ceil(128));
+    set_count(parts, MINI_STREAM, minis.div_ceil(8));
+    let Some(fat) = fat_count(parts) else {
+        return Ok(None);
+    };
+    set_count(parts, FAT, fat as usize);
+    set_count(parts, DIFAT, difat_sectors(fat) as usize);
+    Ok(Some(fill_all(alloc, parts, false)?))
+}
+
+/// The header of a file whose parts have their sectors. None for more sectors of the FAT or the DIFAT than a file has.
+fn header_of(parts: &[Part<'_>]) -> Option<[u8; 512]> {
+    let mini_fat = sectors_of(parts, MINI_FAT);
+    match Header::new(
+        sectors_of(parts, FAT),
+        sectors_of(parts, DIFAT),
+        at_or_end(sectors_of(parts, DIRECTORY), 0),
+        at_or_end(mini_fat, 0),
+        mini_fat.len().min(u32::MAX as usize) as u32,
+    ) {
+        Ok(header) => Some(header.write()),
+        Err(_) => None,
     }
 }
 
-/// The file of a tree with this root whose parts have their sectors, and whose streams are these.
-fn laid<'a>(
+/// The bytes of the system's parts of a file whose parts have their sectors, and which has this directory and mini stream.
+fn system_of(
     alloc: Global,
-    freed: Freed,
-    root: &Storage,
-    streams: &[Stream<'a>],
-    minis: Minis,
-    placed: Placed,
-) -> Result<Option<Laid<'a>>, AllocError> {
-    let Placed { runs, count } = placed;
-    let Some(header) = header_of(&runs, minis.fat_sectors()) else {
-        return Ok(None);
-    };
-    let system = system_bytes(alloc, root, &runs, &minis)?;
-    let streams = long_streams(alloc, streams)?;
-    let filler = freed.filler(alloc)?;
-    Ok(Some(Laid {
-        count,
-        runs,
-        header,
-        system,
-        mini_stream: minis.stream,
-        streams,
-        filler,
-    }))
-}
-
-/// The mini sectors that the short ones of these streams have, with what the older mini stream keeps. None where they don't
-/// stay within the limit.
-fn minis_over(
-    alloc: Global,
-    old: &[u8],
-    was: &Parts,
-    streams: &[Stream<'_>],
-    freed: Freed,
-) -> Result<Option<Minis>, AllocError> {
-    let mut runs = Vec::new(alloc);
-    push_runs(alloc, &mut runs, streams, true, &was.next_mini)?;
-    let Some(count) = fill_runs(alloc, &mut runs)? else {
-        return Ok(None);
-    };
-    let kept = minis_kept(alloc, old, &was.chains.mini_stream, freed)?;
-    let minis = minis_in(alloc, kept, streams, runs, count)?;
-    Ok(Some(minis))
-}
-
-/// The file of a tree with this root and these streams in the sectors of an older one, whose parts lay here.
-fn place_streams<'a>(
-    alloc: Global,
-    old: &[u8],
-    was: &Parts,
-    root: &Storage,
-    streams: &[Stream<'a>],
-    freed: Freed,
-) -> Result<Option<Laid<'a>>, AllocError> {
-    let Some(minis) = minis_over(alloc, old, was, streams, freed)? else {
-        return Ok(None);
-    };
-    let entries = count_below(root) as usize + 1;
-    let least = least_of(streams, &minis, entries.div_ceil(4));
-    let Some(placed) = place_within(alloc, was, streams, least)? else {
-        return Ok(None);
-    };
-    laid(alloc, freed, root, streams, minis, placed)
+    parts: &[Part<'_>],
+    directory: Vec<u8>,
+    mini_stream: Vec<u8>,
+) -> Result<Vec<Vec<u8>>, AllocError> {
+    let mut own = Vec::new(alloc);
+    own.push(fat_of(alloc, parts)?)?;
+    own.push(difat_of(alloc, parts)?)?;
+    own.push(directory)?;
+    own.push(table_of(alloc, parts, true, sectors_of(parts, MINI_FAT).len())?)?;
+    own.push(mini_stream)?;
+    Ok(own)
 }
 
 /// The file of a tree with this root in the sectors of an older one, which has this outline. A stream whose number of
@@ -282,8 +106,28 @@ pub fn place_over<'a>(
     let Ok(header) = Header::read(old) else {
         return Ok(None);
     };
-    let was = parts_of(alloc, &header, old)?;
-    let mut streams = Vec::new(alloc);
-    push_streams(&mut streams, root, Some(outline))?;
-    place_streams(alloc, old, &was, root, &streams, freed)
+    let Some(mut directory) = directory_anew(alloc, root)? else {
+        return Ok(None);
+    };
+    let mut older = older_of(alloc, &header, old)?;
+    push_streams(alloc, &mut older, root, &outline.parts)?;
+    let mut parts = older.parts;
+    let minis = fill_all(alloc, &mut parts, true)?;
+    let mini_stream = mini_stream_of(alloc, old, &parts, minis, freed)?;
+    let Some(count) = place(alloc, &mut parts, directory.len() / SECTOR, minis)? else {
+        return Ok(None);
+    };
+    let Some(header) = header_of(&parts) else {
+        return Ok(None);
+    };
+    set_firsts(&mut directory, &parts, minis);
+    let own = system_of(alloc, &parts, directory, mini_stream)?;
+    Ok(Some(Laid {
+        count,
+        parts,
+        header,
+        own,
+        freed,
+        zeros: [0; 512],
+    }))
 }
