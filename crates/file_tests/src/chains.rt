@@ -17,10 +17,10 @@ const HEADER: &str =
 const SECTORS: &str = "512*01,512*02,512*03,512*04,01000000feffffff,504*ff,512*06,512*07,12*08";
 
 /// The FATs of two files.
-const LINKED: &str =
+pub(crate) const LINKED: &str =
     "fdffffff,08000000,feffffff,04000000,03000000,feffffff,c8000000,02000000,feffffff,476*ff";
 
-const MINI: &str = "fdffffff,feffffff,03000000,3*feffffff,488*ff";
+pub(crate) const MINI: &str = "fdffffff,feffffff,03000000,3*feffffff,488*ff";
 
 /// Four words a call: the call, a sector or some, how many bytes or which bytes are wanted, and what is told.
 const LINKED_CALLS: &str = "chain 3 . Cycle
@@ -55,7 +55,7 @@ const FAULTS: &str = "7 e2 BadSignature 0
 45 05 TooBig 0
 72 09 TooBig 0";
 
-fn file_of(rt: &impl Abort, alloc: Global, fat: &str) -> Vec<u8> {
+pub(crate) fn file_of(rt: &impl Abort, alloc: Global, fat: &str) -> Vec<u8> {
     let mut file = spelled(rt, alloc, HEADER);
     push(rt, alloc, &mut file, fat);
     push(rt, alloc, &mut file, SECTORS);
@@ -67,7 +67,7 @@ fn push(rt: &impl Abort, alloc: Global, file: &mut Vec<u8>, text: &str) {
         .expect(rt, "memory");
 }
 
-fn header_of(rt: &impl Abort, file: &[u8]) -> Header {
+pub(crate) fn header_of(rt: &impl Abort, file: &[u8]) -> Header {
     Header::read(file).expect(rt, "a header")
 }
 

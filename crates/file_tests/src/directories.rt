@@ -92,7 +92,7 @@ fn names_are_ordered(rt: HostRuntime) {
 }
 
 /// An entry with these links.
-fn fields(kind: EntryKind, left: u32, right: u32, child: u32) -> EntryFields {
+pub(crate) fn fields(kind: EntryKind, left: u32, right: u32, child: u32) -> EntryFields {
     EntryFields {
         kind,
         left,
@@ -138,7 +138,7 @@ fn entries_are_written(rt: HostRuntime) {
 }
 
 /// A root with the children `A`, `B` and `C`, and a free entry.
-fn directory(rt: &impl Abort, alloc: Global) -> Vec<u8> {
+pub(crate) fn directory(rt: &impl Abort, alloc: Global) -> Vec<u8> {
     let mut out = Vec::new(alloc);
     let leaf = fields(EntryKind::Stream, NO_STREAM, NO_STREAM, NO_STREAM);
     entry(
@@ -257,7 +257,7 @@ fn is_balanced(rt: &impl Abort, alloc: Global, row: &str) -> bool {
     links_are(rt, alloc, &links, &mut words)
 }
 
-fn names(rt: &impl Abort, alloc: Global, names: &str) -> Vec<Name> {
+pub(crate) fn names(rt: &impl Abort, alloc: Global, names: &str) -> Vec<Name> {
     let mut list = Vec::new(alloc);
     for text in names.split(',') {
         list.push(name(rt, text)).expect(rt, "memory");

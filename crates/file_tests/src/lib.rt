@@ -10,6 +10,8 @@ mod places;
 #[cfg(test)]
 mod reading;
 #[cfg(test)]
+mod refusals;
+#[cfg(test)]
 mod streams;
 #[cfg(test)]
 mod texts;

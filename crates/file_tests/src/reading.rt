@@ -19,7 +19,7 @@ pub(crate) const FILE: &str =
     "d0cf11e0a1b11ae1,16*00,3e000300feff09000600,10*00,01000000,01000000,4*00,00100000,02000000,01000000,feffffff,8*00,432*ff,fdffffff,3*feffffff,496*ff,5200,62*00,04000501,8*ff,01000000,16*07,02010000,16*00,03000000,40000000,4*00,4100,62*00,04000201,12*ff,40*00,03000000,4*00,256*00,feffffff,508*ff,010203,509*00";
 
 /// Whether a tree is as the file has it.
-fn is_read(tree: &Tree, name: Name) -> bool {
+pub(crate) fn is_read(tree: &Tree, name: Name) -> bool {
     let root = tree.root();
     if root.children.len() != 1 || root.state != 258 || !are_all(root.class.as_bytes(), 7) {
         return false;

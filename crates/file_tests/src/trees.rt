@@ -87,12 +87,12 @@ begin . . ok
 revert . . ok
 get 7 7 ok";
 
-fn name(rt: &impl Abort, text: &str) -> Name {
+pub(crate) fn name(rt: &impl Abort, text: &str) -> Name {
     named(text.as_bytes()).expect(rt, "a name")
 }
 
 /// A path of names with slashes between, or the empty one.
-fn path(rt: &impl Abort, alloc: Global, text: &str) -> Vec<Name> {
+pub(crate) fn path(rt: &impl Abort, alloc: Global, text: &str) -> Vec<Name> {
     if text == "." {
         Vec::new(alloc)
     } else {
@@ -109,7 +109,7 @@ fn names(rt: &impl Abort, alloc: Global, text: &str) -> Vec<Name> {
 }
 
 /// The bytes of a text.
-fn content(rt: &impl Abort, alloc: Global, text: &str) -> Bytes {
+pub(crate) fn content(rt: &impl Abort, alloc: Global, text: &str) -> Bytes {
     Bytes::from_slice(alloc, filled(text).as_bytes()).expect(rt, "memory")
 }
 
@@ -118,11 +118,11 @@ fn filled(text: &str) -> &str {
 }
 
 /// The class that is named by a letter.
-fn class(letter: u8) -> ClassId {
+pub(crate) fn class(letter: u8) -> ClassId {
     ClassId::from_bytes([letter; 16])
 }
 
-fn letter(text: &str) -> u8 {
+pub(crate) fn letter(text: &str) -> u8 {
     match text.as_bytes() {
         [letter, ..] => *letter,
         [] => 0,
@@ -203,7 +203,7 @@ fn copied(rt: &impl Abort, alloc: Global, tree: &mut Tree, at: &str, text: &str)
 }
 
 /// A tree without children, of this class.
-fn fresh(alloc: Global, with: u8) -> Tree {
+pub(crate) fn fresh(alloc: Global, with: u8) -> Tree {
     Tree::new(alloc, class(with), u32::from(with))
 }
 
