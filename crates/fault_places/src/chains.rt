@@ -316,7 +316,7 @@ fn refused_by(
 }
 
 /// Which stream the reader refuses for a fault: it marks the sectors of the system's parts, and then those of each stream.
-/// None where it refuses none, or for want of memory.
+/// None where it refuses none.
 fn refused_stream(
     alloc: Global,
     header: &Header,
@@ -324,18 +324,31 @@ fn refused_stream(
     directory: &[u8],
     streams: &[Stream],
     fault: ChainFault,
-) -> Option<usize> {
-    let (first, size) = root_of(alloc, directory)?;
-    let Ok(mut fat) = Fat::load(alloc, header, Image::Whole(file)) else {
-        return None;
+) -> Result<Option<usize>, AllocError> {
+    let root = root_of(alloc, directory)?;
+    let Some((first, size)) = root else {
+        return Ok(None);
     };
-    if fat.chain(alloc, header.first_directory()).is_err() {
-        return None;
+    let mut fat = match Fat::load(alloc, header, Image::Whole(file)) {
+        Ok(fat) => fat,
+        Err(other) => return none_but(other),
+    };
+    match fat.chain(alloc, header.first_directory()) {
+        Ok(_) => {}
+        Err(other) => return none_but(other),
     }
-    let Ok(mut minis) = fat.mini(alloc, header, first, size) else {
-        return None;
-    };
-    refused_by(&mut fat, &mut minis, streams, fault)
+    match fat.mini(alloc, header, first, size) {
+        Ok(mut minis) => Ok(refused_by(&mut fat, &mut minis, streams, fault)),
+        Err(other) => none_but(other),
+    }
+}
+
+/// None where a part of the file is at fault; want of memory is told.
+fn none_but(fault: ChainFault) -> Result<Option<usize>, AllocError> {
+    match fault {
+        ChainFault::NoMemory => Err(AllocError),
+        _ => Ok(None),
+    }
 }
 
 /// The place at which a stream of a file with this header and these parts has a fault of its chain.
@@ -350,7 +363,8 @@ fn find_in_streams(
     ensures { IfOk result (λ v. IfSome v (λ p. (b : Base) → IsBaseOf parts.now b → IsStreamPlace b fault p)) }
 {
     let streams = streams_of(alloc, &parts.directory)?;
-    let Some(at) = refused_stream(alloc, header, file, &parts.directory, &streams, fault) else {
+    let refused = refused_stream(alloc, header, file, &parts.directory, &streams, fault)?;
+    let Some(at) = refused else {
         return Ok(None);
     };
     if at >= streams.len() {
@@ -364,8 +378,10 @@ fn parts_in(alloc: Global, header: &Header, file: &[u8]) -> Result<Option<Parts>
     requires same { header.now ≡ header_of file.now }
     ensures { IfOk result (λ v. IfSome v (ArePartsOf file.now)) }
 {
-    let Ok(fat) = Fat::load(alloc, header, Image::Whole(file)) else {
-        return Ok(None);
+    let fat = match Fat::load(alloc, header, Image::Whole(file)) {
+        Ok(fat) => fat,
+        Err(ChainFault::NoMemory) => return Err(AllocError),
+        Err(_) => return Ok(None),
     };
     let tables = tables_of(alloc, header, file, fat)?;
     parts_of(alloc, header, file, &tables)

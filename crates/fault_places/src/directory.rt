@@ -8,6 +8,7 @@ use crate::looking::find_in_entries;
 use crate::place::EntryPlace;
 use cfb_chain::fat::Fat;
 use cfb_chain::image::Image;
+use cfb_header::fault::ChainFault;
 use cfb_header::header::Header;
 use cfb_names::fault::DirFault;
 use std::alloc::{AllocError, Global};
@@ -21,35 +22,40 @@ pub struct Directory {
     pub bytes: Vec<u8>,
 }
 
-/// The directory of a file with this header. None where the FAT or the directory's chain is at fault, or for want of memory.
-fn directory_of(alloc: Global, header: &Header, file: &[u8]) -> Option<Directory>
+/// The directory of a file with this header. None where the FAT or the directory's chain is at fault.
+fn directory_of(
+    alloc: Global,
+    header: &Header,
+    file: &[u8],
+) -> Result<Option<Directory>, AllocError>
     requires same { header.now ≡ header_of file.now }
-    ensures { IfSome result (IsDirectoryOf file.now) }
+    ensures { IfOk result (λ d. IfSome d (IsDirectoryOf file.now)) }
 {
-    let Ok(mut fat) = Fat::load(alloc, header, Image::Whole(file)) else {
-        return None;
+    let mut fat = match Fat::load(alloc, header, Image::Whole(file)) {
+        Ok(fat) => fat,
+        Err(ChainFault::NoMemory) => return Err(AllocError),
+        Err(_) => return Ok(None),
     };
-    let Ok(sectors) = fat.chain(alloc, header.first_directory()) else {
-        return None;
+    let sectors = match fat.chain(alloc, header.first_directory()) {
+        Ok(sectors) => sectors,
+        Err(ChainFault::NoMemory) => return Err(AllocError),
+        Err(_) => return Ok(None),
     };
-    let Ok(bytes) = fat.join(alloc, &sectors) else {
-        return None;
-    };
-    Some(Directory { sectors, bytes })
+    let bytes = fat.join(alloc, &sectors)?;
+    Ok(Some(Directory { sectors, bytes }))
 }
 
-/// The directory of a file. None where the header, the FAT or the directory's chain is at fault, or for want of memory, which
-/// is in no clause.
-pub fn read_directory(alloc: Global, file: &[u8]) -> Option<Directory>
-    ensures { IfSome result (IsDirectoryOf file.now) }
+/// The directory of a file. None where the header, the FAT or the directory's chain is at fault.
+pub fn read_directory(alloc: Global, file: &[u8]) -> Result<Option<Directory>, AllocError>
+    ensures { IfOk result (λ d. IfSome d (IsDirectoryOf file.now)) }
 {
     let Ok(header) = Header::read(file) else {
-        return None;
+        return Ok(None);
     };
     directory_of(alloc, &header, file)
 }
 
-/// The place at which the directory of a file has a fault. None where the fault isn't found there, or for want of memory.
+/// The place at which the directory of a file has a fault. None where the fault isn't found there.
 pub fn find_entry(
     alloc: Global,
     file: &[u8],
@@ -57,7 +63,8 @@ pub fn find_entry(
 ) -> Result<Option<EntryPlace>, AllocError>
     ensures { IfOk result (λ p. IfSome p (IsFaultOfEntry file.now fault)) }
 {
-    let Some(directory) = read_directory(alloc, file) else {
+    let found = read_directory(alloc, file)?;
+    let Some(directory) = found else {
         return Ok(None);
     };
     find_in_entries(alloc, &directory.bytes, fault)

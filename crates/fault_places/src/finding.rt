@@ -76,6 +76,7 @@ fn find_in_fat(
             let tables = tables_of(alloc, header, file, fat)?;
             find_in_directory(alloc, header, file, &tables, fault)
         }
+        Err(ChainFault::NoMemory) => Err(AllocError),
         Err(other) => Ok(place_if(is_same(other, fault), FaultPlace::Fat)),
     }
 }
@@ -163,15 +164,18 @@ fn find_in_mini_fat(
 }
 
 /// The chain of the mini stream, as the root of a directory of these bytes names it. None where there is no root.
-fn mini_stream_of(alloc: Global, directory: &[u8]) -> Option<Chain>
-    ensures { IfSome result (λ c. (c.first ≡ first_of (entry_at directory.now 0)) × (c.size ≡ size_of (entry_at directory.now 0)) × (c.width ≡ 512)) }
+fn mini_stream_of(alloc: Global, directory: &[u8]) -> Result<Option<Chain>, AllocError>
+    ensures { IfOk result (λ v. IfSome v (λ c. (c.first ≡ first_of (entry_at directory.now 0)) × (c.size ≡ size_of (entry_at directory.now 0)) × (c.width ≡ 512))) }
 {
-    let (first, size) = root_of(alloc, directory)?;
-    Some(Chain {
-        first,
-        width: SECTOR,
-        size: size as u64,
-    })
+    match root_of(alloc, directory) {
+        Ok(Some((first, size))) => Ok(Some(Chain {
+            first,
+            width: SECTOR,
+            size: size as u64,
+        })),
+        Ok(None) => Ok(None),
+        Err(error) => Err(error),
+    }
 }
 
 /// The same where the mini FAT lies in these sectors.
@@ -189,7 +193,8 @@ fn find_in_mini_stream(
     ensures { IfOk result (λ p. IfSome p (IsFaultAt file.now fault)) }
 {
     let bytes = tables.fat.join(alloc, directory)?;
-    let Some(chain) = mini_stream_of(alloc, &bytes) else {
+    let named = mini_stream_of(alloc, &bytes)?;
+    let Some(chain) = named else {
         return Ok(None);
     };
     if chain.size == 0 {

@@ -126,6 +126,7 @@ fn look_below(
             opened.push(id)?;
             Ok(Looked::Children(children))
         }
+        Err(DirFault::NoMemory) => Err(AllocError),
         Err(found) => {
             let is_there = is_told_of(found, fault, opened, id);
             let looked = at_fault(alloc, directory, way, fault, is_there)?;
@@ -134,20 +135,24 @@ fn look_below(
     }
 }
 
-/// Two entries with one name in upper case. None where there are none, or for want of memory.
-fn find_twins(alloc: Global, entries: &Entries<'_>, ids: &[u32]) -> Option<(u32, u32)> {
+/// Two entries with one name in upper case. None where there are none.
+fn find_twins(
+    alloc: Global,
+    entries: &Entries<'_>,
+    ids: &[u32],
+) -> Result<Option<(u32, u32)>, AllocError> {
     let mut keyed = BTreeMap::new(alloc);
     for id in ids {
         let Ok(entry) = entries.entry(*id) else {
-            return None;
+            return Ok(None);
         };
         match keyed.insert(key(&entry.name), *id) {
             Ok(None) => {}
-            Ok(Some(other)) => return Some((other, *id)),
-            Err(_) => return None,
+            Ok(Some(other)) => return Ok(Some((other, *id))),
+            Err(_) => return Err(AllocError),
         }
     }
-    None
+    Ok(None)
 }
 
 /// Whether two keys are the same.
@@ -199,7 +204,8 @@ fn twins_of(
     requires children { All (IsChild directory.now (end_of way.now)) children.now }
     ensures { IfOk result (λ p. IfSome p (IsEntryAtFault directory.now DirFault.DuplicateName)) }
 {
-    let Some((m, n)) = find_twins(alloc, entries, children) else {
+    let twins = find_twins(alloc, entries, children)?;
+    let Some((m, n)) = twins else {
         return Ok(None);
     };
     if are_twins_of(entries, children, m, n) {
@@ -280,6 +286,7 @@ pub(crate) fn find_in_entries(
 {
     let entries = match Entries::load(alloc, directory) {
         Ok(entries) => entries,
+        Err(DirFault::NoMemory) => return Err(AllocError),
         Err(found) => return Ok(nowhere_if(is_told(found, fault))),
     };
     let mut search = search_of(alloc, entries)?;

@@ -15,6 +15,7 @@ use crate::walking::{Chain, chain_at};
 use cfb_bytes::numbers::read_u32;
 use cfb_directory::entries::Entries;
 use cfb_header::header::Header;
+use cfb_names::fault::DirFault;
 use std::alloc::{AllocError, Global};
 
 /// What is read of a file to find its streams.
@@ -77,16 +78,18 @@ fn mini_table(
 
 /// Where the mini stream begins and how many bytes it has, as the root of a directory of these bytes says. None where there
 /// is no root.
-pub(crate) fn root_of(alloc: Global, directory: &[u8]) -> Option<(u32, u32)>
-    ensures { IfSome result (λ root. (root.0 ≡ first_of (entry_at directory.now 0)) × (root.1 ≡ size_of (entry_at directory.now 0))) }
+pub(crate) fn root_of(alloc: Global, directory: &[u8]) -> Result<Option<(u32, u32)>, AllocError>
+    ensures { IfOk result (λ v. IfSome v (λ root. (root.0 ≡ first_of (entry_at directory.now 0)) × (root.1 ≡ size_of (entry_at directory.now 0)))) }
 {
-    let Ok(entries) = Entries::load(alloc, directory) else {
-        return None;
+    let entries = match Entries::load(alloc, directory) {
+        Ok(entries) => entries,
+        Err(DirFault::NoMemory) => return Err(AllocError),
+        Err(_) => return Ok(None),
     };
     let Ok(root) = entries.entry(0) else {
-        return None;
+        return Ok(None);
     };
-    Some((root.first, root.size))
+    Ok(Some((root.first, root.size)))
 }
 
 /// The parts of a file with this header and these tables. None where a chain of one of them isn't whole.
@@ -154,7 +157,8 @@ fn with_mini_stream(
     ensures { IfOk result (λ v. IfSome v (ArePartsOf file.now)) }
 {
     let bytes = tables.fat.join(alloc, directory)?;
-    let Some((first, size)) = root_of(alloc, &bytes) else {
+    let root = root_of(alloc, &bytes)?;
+    let Some((first, size)) = root else {
         return Ok(None);
     };
     let chain = Chain {

@@ -8,6 +8,7 @@ ghost use Rattle.std.specs.Prelude.{◌≡◌, IfOk, OnOk};
 
 use crate::ways::{end_of, push_ways, root_way};
 use cfb_directory::entries::{Entries, EntryKind};
+use cfb_names::fault::DirFault;
 use std::alloc::{AllocError, Global};
 
 /// How many bytes a stream has at least that lies in sectors.
@@ -89,8 +90,10 @@ fn open(
     ensures same { OnOk result (entries.new.directory ≡ directory.now) }
     ensures ways { OnOk result (All (λ w. IsWay directory.now w.items) ways.new.items) }
 {
-    let Ok(children) = entries.children(alloc, end_of(way)) else {
-        return Ok(());
+    let children = match entries.children(alloc, end_of(way)) {
+        Ok(children) => children,
+        Err(DirFault::NoMemory) => return Err(AllocError),
+        Err(_) => return Ok(()),
     };
     push_ways(alloc, directory, ways, way, &children)
 }
@@ -100,8 +103,10 @@ pub(crate) fn streams_of(alloc: Global, directory: &[u8]) -> Result<Vec<Stream>,
     ensures { IfOk result (λ v. All (IsStream directory.now) v.items) }
 {
     let mut streams = Vec::new(alloc);
-    let Ok(mut entries) = Entries::load(alloc, directory) else {
-        return Ok(streams);
+    let mut entries = match Entries::load(alloc, directory) {
+        Ok(entries) => entries,
+        Err(DirFault::NoMemory) => return Err(AllocError),
+        Err(_) => return Ok(streams),
     };
     let mut ways = root_way(alloc)?;
     for at in 0..directory.len() {

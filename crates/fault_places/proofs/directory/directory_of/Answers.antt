@@ -12,8 +12,8 @@ join-requires c =
 
 pub returns : goal.returns
 returns c =
-    let o : IsOpened c.args.file.now c.chain.new.self c.in-Ok-chain.sectors.items c.in-Ok-join.bytes.items =
-    opened_at c.args.file.now c.args.header.now c.in-Ok.fat c.chain.new.self c.first_directory.result c.in-Ok-chain.sectors.items c.deref.result.now c.in-Ok-join.bytes.items c.in-Ok-join.bytes.items
-    c.requires.same c.in-Ok.ensures.table c.first_directory.ensures c.in-Ok-chain.ensures.linked c.in-Ok-chain.ensures.free c.in-Ok-chain.ensures.marks c.deref.ensures.value c.in-Ok-join.ensures
+    let o : IsOpened c.args.file.now c.chain.new.self c.in-Ok-chain.sectors.items c.in_ok-bytes.bytes.items =
+    opened_at c.args.file.now c.args.header.now c.in-Ok.fat c.chain.new.self c.first_directory.result c.in-Ok-chain.sectors.items c.deref.result.now c.in_ok-bytes.bytes.items c.in_ok-bytes.bytes.items
+    c.requires.same c.in-Ok.ensures.table c.first_directory.ensures c.in-Ok-chain.ensures.linked c.in-Ok-chain.ensures.free c.in-Ok-chain.ensures.marks c.deref.ensures.value c.in_ok-bytes.ensures
     refl in
     (record { is_fat = o.is_fat; sectors = c.in-Ok-chain.sectors.items; is_chain = o.chain; bytes_are = o.bytes_are }, refl)

@@ -4,7 +4,9 @@ use Rattle.cfb_header.specs.Header.{difat, first_directory, listed}
 use Rattle.cfb_chain.specs.Fat.{FatValue}
 use Rattle.cfb_directory.specs.Entries.{entry_at, first_of, size_of}
 use Rattle.fault_places.specs.Places.{IsExamined}
+use Rattle.fault_places.specs.declared.walking.Chain.{Chain}
 use Rattle.fault_places.specs.declared.walking.Examined.TheVariants as examined
+use Rattle.fault_places.proofs.Owned.{some_gives}
 use Rattle.fault_places.proofs.Places.{at_link, bytes_joined, directory_at, sectors_below}
 use Rattle.fault_places.proofs.finding.find_in_mini_stream.Goals as goal
 
@@ -31,12 +33,15 @@ returns-in-AtFault c =
     subst (IsExamined c.deref-3.result.now seen c.in-Some.chain c.args.fault) c.in-AtFault.is c.in_ok-found.ensures in
     let found : IsExamined table seen c.in-Some.chain c.args.fault (examined.AtFault c.in-AtFault.link) =
     subst (λ (xs : List ℕ). IsExamined xs seen c.in-Some.chain c.args.fault (examined.AtFault c.in-AtFault.link)) c.deref-3.ensures.value there in
+    let named : (c.in-Some.chain.first ≡ first_of (entry_at dir 0)) × (c.in-Some.chain.size ≡ size_of (entry_at dir 0)) × (c.in-Some.chain.width ≡ 512) =
+    some_gives (λ (x : Chain). (x.first ≡ first_of (entry_at dir 0)) × (x.size ≡ size_of (entry_at dir 0)) × (x.width ≡ 512)) c.in_ok-named.named c.in-Some.chain c.in-Some.is
+    c.in_ok-named.ensures in
     let some : 0 < c.in-Some.chain.size = omega (arith, c.if-chain-eq0.false) in (
       dir,
       directory_at file f lists table c.requires.tables dir ns c.requires.directory e,
       mini,
       c.requires.mini_fat,
-      subst (λ (x : ℕ). 0 < x) c.in-Some.ensures.1 some,
+      subst (λ (x : ℕ). 0 < x) named.1 some,
       at_link file f lists table c.requires.tables seen (listed file ++ difat file ++ ns ++ mini) c.in-Some.chain (first_of (entry_at dir 0)) (size_of (entry_at dir 0)) c.args.fault c.in-AtFault.link
-          found taken c.in-Some.ensures.0 c.in-Some.ensures.1 c.in-Some.ensures.2,
+          found taken named.0 named.1 named.2,
     )

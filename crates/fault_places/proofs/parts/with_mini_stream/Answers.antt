@@ -3,6 +3,7 @@ use Rattle.cfb_header.specs.Bytes.{joined, sector}
 use Rattle.cfb_header.specs.Header.{first_directory}
 use Rattle.cfb_chain.specs.Fat.{FatValue}
 use Rattle.cfb_chain.specs.Chain.{IsChainOf, Store}
+use Rattle.cfb_directory.specs.Entries.{entry_at, first_of, size_of}
 use Rattle.fault_places.specs.Tables.{IsTabled}
 use Rattle.fault_places.proofs.Owned.{some_gives}
 use Rattle.fault_places.proofs.Laid.{chain_in, parts_are}
@@ -28,9 +29,12 @@ returns-in_ok-table-in-Some-found c =
     let own : c.extend_from_slice.new.self.items ≡ lists ++ ns ++ mini_fat ++ c.in-Some-found.mini_stream.items =
     c.in_ok-extend_from_slice-in-Some-found.ensures.items
     ∙ (λ i. (c.in_ok-own-in-Some-found.ensures ∙ ap (λ (xs : List ℕ). xs ++ ns ++ mini_fat) c.deref-in-Some-found.ensures.value) i ++ c.deref-in-Some-found-2.ensures.value i) in
+    let root : (c.in-Some.first ≡ first_of (entry_at c.deref.result.now 0)) × (c.in-Some.size ≡ size_of (entry_at c.deref.result.now 0)) =
+    some_gives (λ (r : ℕ × ℕ). (r.0 ≡ first_of (entry_at c.deref.result.now 0)) × (r.1 ≡ size_of (entry_at c.deref.result.now 0))) c.in_ok-root.root (c.in-Some.first, c.in-Some.size)
+    c.in-Some.is c.in_ok-root.ensures in
     parts_are file f lists table c.requires.tables ns mini_fat c.in-Some-found.mini_stream.items c.deref.result.now c.in-Some.first c.in-Some.size c.args.count
     (record { table = c.in_ok-table-in-Some-found.table; minis = c.in_ok-minis.minis; own = c.extend_from_slice.new.self; directory = c.in_ok-bytes.bytes })
-    c.requires.directory c.requires.counted c.requires.mini_fat dir_is c.in-Some.ensures.0 c.in-Some.ensures.1
+    c.requires.directory c.requires.counted c.requires.mini_fat dir_is root.0 root.1
     (chain_in file f lists table c.requires.tables c.deref-2.result.now (record { first = c.in-Some.first; width = 512; size = c.in-Some.size }) c.in-Some.first c.in-Some.size
     c.in-Some-found.mini_stream.items c.in-Some-found.mini_stream.items (some_gives (λ (xs : Vec ℕ Global). (s : Store) → IsTabled c.deref-2.result.now s → s.width ≡ 512 → IsChainOf s c.in-Some.first c.in-Some.size xs.items)
     c.in_ok-found.found c.in-Some-found.mini_stream c.in-Some-found.is c.in_ok-found.ensures) c.deref-2.ensures.value refl refl refl refl)
