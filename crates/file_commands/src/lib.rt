@@ -6,6 +6,6 @@ pub mod commands;
 pub mod fault;
 pub mod forms;
 pub mod laws;
-mod listing;
+pub mod listing;
 pub mod report;
 pub mod seeking;

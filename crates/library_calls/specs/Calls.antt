@@ -1,23 +1,35 @@
--- What the calls put, and what their faults mean.
-use Rattle.std.specs.Prelude.{◌≡◌, ◌⊎◌, ℕ, List, Some, None, Ok, Err, IsSome}
+-- What the calls put, and what their faults mean. Bytes in memory are always read, and what is put is never refused by a writer, so no
+-- fault is one of reading or of writing.
+use Rattle.std.specs.Prelude.{◌≡◌, ◌<◌, ◌⊎◌, ℕ, List, Some, None, Ok, Err, IsSome, length}
 use Rattle.cfb_names.specs.declared.fault.DirFault.{DirFault}
+use Rattle.storage_tree.specs.Kept.{Kept}
 use Rattle.storage_tree.specs.Tree.{Tree}
+use Rattle.storage_tree.specs.declared.fault.TreeFault.{TreeFault}
 use Rattle.file_model.specs.Denotes.{Denotes}
+use Rattle.file_model.specs.Refusals.{Refuses, writable}
+use Rattle.file_model.specs.declared.fault.WriteFault.{WriteFault}
 use Rattle.file_outline.specs.declared.outline.Outline.{Outline}
 use Rattle.file_outline.specs.Streams.{stream_at}
 use Rattle.file_writer.specs.Laid.{IsLaidOut}
 use Rattle.outline_entries.specs.Places.{IsPlaced}
+use Rattle.stream_io.specs.Reads.{MayRefuseRead}
+use Rattle.stream_io.specs.declared.fault.ReadFault.{ReadFault}
+use Rattle.texts.specs.Input.{most}
 use Rattle.texts.specs.Paths.{path_read}
-use Rattle.file_cleaning.specs.Cleaning.{MayRefuseClean}
-use Rattle.file_listings.specs.Getting.{MayRefuseGet}
+use Rattle.tree_descriptions.specs.Description.{RefusesDescription, described}
+use Rattle.tree_descriptions.specs.declared.fault.LineFault.{LineFault}
 use Rattle.file_commands.specs.Listing.{listing}
-use Rattle.file_commands.specs.Run.{MayRefuseList}
-use Rattle.file_making.specs.Run.{IsMade, MayRefuseMake}
-use Rattle.file_cleaning.specs.declared.fault.CleanFault.{CleanFault}
-use Rattle.file_listings.specs.declared.fault.GetFault.{GetFault}
-use Rattle.file_commands.specs.declared.fault.ListFault.{ListFault}
-use Rattle.file_making.specs.declared.fault.MakeFault.{MakeFault}
-use Rattle.library_calls.specs.Numbers.{clean_number, directory_number, get_number, list_number, make_number}
+use Rattle.file_making.specs.Run.{IsMade}
+use Rattle.library_calls.specs.Numbers.{directory_number, line_number, read_number, tree_number, write_number}
+
+-- ---- reading
+-- There are more bytes than are taken.
+abbrev pub IsTooBig : List ℕ → ℕ → Type 0
+IsTooBig file number = (number ≡ 3) × (most < length file)
+
+-- No tree of a file was found: it has more bytes than are taken, or a fault. One that denotes a tree has none but want of memory.
+abbrev pub IsUnread : List ℕ → ℕ → Type 0
+IsUnread file number = IsTooBig file number ⊎ ((fault : ReadFault) × (number ≡ read_number fault) × MayRefuseRead file fault)
 
 -- the listing, in the form that `told` is, of an outline of the tree that the file denotes, which tells of each stream where its
 -- entry says that it lies
@@ -28,29 +40,35 @@ IsListedAs told file bytes = (t : Tree) × (o : Outline) × ∥ IsPlaced file t 
 abbrev pub IsListed : List ℕ → List ℕ → Type 0
 IsListed file bytes = (t : Tree) × ∥ Denotes file t ∥₁ × (bytes ≡ listing t)
 
+-- the file isn't read, or it is, and no memory was left for the text
 abbrev pub IsRefusedList : List ℕ → ℕ → Type 0
-IsRefusedList file number = (fault : ListFault) × (number ≡ list_number fault) × MayRefuseList file fault
+IsRefusedList file number = IsUnread file number ⊎ ((number ≡ 2) × (t : Tree) × ∥ Denotes file t ∥₁)
 
--- a file of the tree that the text describes
-abbrev pub IsMadeOf : List ℕ → List ℕ → Type 0
-IsMadeOf text bytes = IsMade text bytes
+-- a file of a tree, laid out of that tree alone
+abbrev pub IsFileOf : Tree → List ℕ → Type 0
+IsFileOf t bytes = ∥ Denotes bytes t ∥₁ × IsLaidOut t bytes
 
-abbrev pub IsRefusedMake : List ℕ → ℕ → Type 0
-IsRefusedMake text number = (fault : MakeFault) × (number ≡ make_number fault) × MayRefuseMake text fault
+-- it isn't written: no file holds the tree, or no memory was left for one that does
+abbrev pub IsUnwritten : Tree → ℕ → Type 0
+IsUnwritten t number = (fault : WriteFault) × (number ≡ write_number fault) × Refuses (writable t) fault
 
--- a file of the same tree, laid out of that tree alone
+-- a file of the same tree
 abbrev pub IsCleanOf : List ℕ → List ℕ → Type 0
-IsCleanOf file bytes = (t : Tree) × ∥ Denotes file t ∥₁ × ∥ Denotes bytes t ∥₁ × IsLaidOut t bytes
+IsCleanOf file bytes = (t : Tree) × ∥ Denotes file t ∥₁ × IsFileOf t bytes
 
+-- the file isn't read, or that of its tree isn't written
 abbrev pub IsRefusedClean : List ℕ → ℕ → Type 0
-IsRefusedClean file number = (fault : CleanFault) × (number ≡ clean_number fault) × MayRefuseClean file fault
+IsRefusedClean file number = IsUnread file number ⊎ ((t : Tree) × ∥ Denotes file t ∥₁ × IsUnwritten t number)
 
 -- the bytes of the stream at a path
 abbrev pub IsGot : List ℕ → List (List ℕ) → List ℕ → Type 0
 IsGot file path bytes = (t : Tree) × ∥ Denotes file t ∥₁ × (stream_at path t ≡ Ok bytes)
 
+-- the file isn't read, or its tree has no stream at the path
 abbrev pub IsRefusedGet : List ℕ → List (List ℕ) → ℕ → Type 0
-IsRefusedGet file path number = (fault : GetFault) × (number ≡ get_number fault) × MayRefuseGet file path fault
+IsRefusedGet file path number =
+    IsUnread file number
+    ⊎ ((t : Tree) × (fault : TreeFault) × ∥ Denotes file t ∥₁ × (number ≡ tree_number fault) × (stream_at path t ≡ Err fault))
 
 -- the same of the path that a word spells
 abbrev pub IsGotBy : List ℕ → List ℕ → List ℕ → Type 0
@@ -64,3 +82,19 @@ IsRefusedBy file word number =
     ⊎ ((fault : DirFault) × (number ≡ directory_number fault) × (path_read word ≡ Some (Err fault)))
     ⊎ ((number ≡ 2) × IsSome (path_read word))
     ⊎ ((names : List (List ℕ)) × (path_read word ≡ Some (Ok names)) × IsRefusedGet file names number)
+
+-- ---- making
+-- a file of the tree that the text describes
+abbrev pub IsMadeOf : List ℕ → List ℕ → Type 0
+IsMadeOf text bytes = IsMade text bytes
+
+-- The text is too big; or no memory was left for it; or a line of it is refused.
+abbrev pub IsRefusedText : List ℕ → ℕ → Type 0
+IsRefusedText text number =
+    IsTooBig text number
+    ⊎ (number ≡ 2)
+    ⊎ ((n : ℕ) × (fault : LineFault) × (number ≡ line_number fault) × RefusesDescription text (n, fault))
+
+-- likewise; or the file of its tree isn't written
+abbrev pub IsRefusedMake : List ℕ → ℕ → Type 0
+IsRefusedMake text number = IsRefusedText text number ⊎ ((k : Kept) × (described text ≡ Ok k) × IsUnwritten k.now number)

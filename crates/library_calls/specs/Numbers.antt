@@ -10,18 +10,8 @@ use Rattle.storage_tree.specs.declared.fault.TreeFault.{TreeFault}
 use Rattle.storage_tree.specs.declared.fault.TreeFault.TheVariants as tree
 use Rattle.stream_io.specs.declared.fault.ReadFault.{ReadFault}
 use Rattle.stream_io.specs.declared.fault.ReadFault.TheVariants as read
-use Rattle.texts.specs.declared.input.InputFault.{InputFault}
-use Rattle.texts.specs.declared.input.InputFault.TheVariants as input
-use Rattle.file_cleaning.specs.declared.fault.CleanFault.{CleanFault}
-use Rattle.file_cleaning.specs.declared.fault.CleanFault.TheVariants as clean
-use Rattle.file_listings.specs.declared.fault.GetFault.{GetFault}
-use Rattle.file_listings.specs.declared.fault.GetFault.TheVariants as get
 use Rattle.tree_descriptions.specs.declared.fault.LineFault.{LineFault}
 use Rattle.tree_descriptions.specs.declared.fault.LineFault.TheVariants as line
-use Rattle.file_commands.specs.declared.fault.ListFault.{ListFault}
-use Rattle.file_commands.specs.declared.fault.ListFault.TheVariants as list
-use Rattle.file_making.specs.declared.fault.MakeFault.{MakeFault}
-use Rattle.file_making.specs.declared.fault.MakeFault.TheVariants as make
 use Rattle.texts.specs.declared.lines.SyntaxFault.{SyntaxFault}
 use Rattle.texts.specs.declared.lines.SyntaxFault.TheVariants as syntax_fault
 use Rattle.file_editing.specs.declared.fault.EditFault.{EditFault}
@@ -66,41 +56,11 @@ abbrev pub write_number : WriteFault → ℕ
 write_number write.NoMemory = 2
 write_number write.TooBig = 3
 
-abbrev pub input_number : InputFault → ℕ
-input_number input.NoMemory = 2
-input_number input.TooBig = 3
-input_number input.Unreadable = 4
-
 abbrev pub line_number : LineFault → ℕ
 line_number line.NoMemory = 2
 line_number line.Bad = 40
 line_number (line.Name fault) = directory_number fault
 line_number (line.Tree fault) = tree_number fault
-
-abbrev pub list_number : ListFault → ℕ
-list_number (list.Input fault) = input_number fault
-list_number (list.Read fault) = read_number fault
-list_number list.Unwritable = 5
-list_number list.NoMemory = 2
-
-abbrev pub get_number : GetFault → ℕ
-get_number (get.Input fault) = input_number fault
-get_number (get.Read fault) = read_number fault
-get_number (get.Tree fault) = tree_number fault
-get_number get.Unwritable = 5
-
-abbrev pub make_number : MakeFault → ℕ
-make_number (make.Input fault) = input_number fault
-make_number (make.Line n fault) = line_number fault
-make_number (make.Write fault) = write_number fault
-make_number make.Unwritable = 5
-
-abbrev pub clean_number : CleanFault → ℕ
-clean_number (clean.Input fault) = input_number fault
-clean_number (clean.Read fault) = read_number fault
-clean_number (clean.Write fault) = write_number fault
-clean_number (clean.Cut fault) = input_number fault
-clean_number clean.Unwritable = 5
 
 abbrev pub syntax_number : SyntaxFault → ℕ
 syntax_number syntax_fault.Bad = 40
@@ -150,5 +110,4 @@ number_name n =
     cond (nat_eq n 1) (codes "NoRoom") (
     cond (nat_eq n 2) (codes "NoMemory") (
     cond (nat_eq n 3) (codes "TooBig") (
-    cond (nat_eq n 4) (codes "Unreadable") (
-    cond (nat_eq n 5) (codes "Unwritable") (chain_name n)))))
+    cond (nat_eq n 4) (codes "Unreadable") (chain_name n))))

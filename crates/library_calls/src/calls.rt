@@ -1,89 +1,152 @@
 //! The calls over files in memory. Each puts its answer at the front of a place `out`, tells in `needed` how many bytes the
-//! answer has, and answers `DONE`; `NO_ROOM`, with `needed` told, where the place is too short; else the number of a fault.
+//! answer has, and answers `DONE`; `NO_ROOM`, with `needed` told, where the place is too short; else the number of a fault. Bytes in
+//! memory are always read, and a place of the caller's is always written to: no fault is told of either.
 
 ghost use Rattle.library_calls.specs.Answers.{Answers, IsPut};
 ghost use Rattle.library_calls.specs.Numbers.{number_name};
-ghost use Rattle.library_calls.specs.Calls.{IsCleanOf, IsGot, IsGotBy, IsListed, IsListedAs, IsMadeOf, IsRefusedClean, IsRefusedBy, IsRefusedGet, IsRefusedList, IsRefusedMake};
-ghost use Rattle.std.specs.Prelude.{◌≡◌, length};
+ghost use Rattle.library_calls.specs.Calls.{IsCleanOf, IsFileOf, IsGot, IsGotBy, IsListed, IsListedAs, IsMadeOf, IsRefusedBy, IsRefusedClean, IsRefusedGet, IsRefusedList, IsRefusedMake, IsRefusedText, IsUnread, IsUnwritten};
+ghost use Rattle.file_model.specs.Denotes.{Denotes};
+ghost use Rattle.file_model.specs.Outline.{outline_of};
+ghost use Rattle.file_outline.specs.View.{outline_view};
+ghost use Rattle.outline_entries.specs.Places.{IsPlaced};
+ghost use Rattle.std.specs.Prelude.{◌≡◌, ◌<◌, IfErr, IfOk, List, length, ℕ};
+ghost use Rattle.storage_tree.specs.Kept.{kept};
+ghost use Rattle.storage_tree.specs.Tree.{Tree};
+ghost use Rattle.tree_descriptions.specs.Texts.{MayRefuseText};
 
+use crate::limit::is_too_big;
 use crate::numbers::{
-    BAD_PATH, NO_MEMORY, clean_number, directory_number, get_number, list_number, make_number,
-    number_name,
+    BAD_PATH, NO_MEMORY, TOO_BIG, directory_number, line_number, number_name, read_number,
+    tree_number, write_number,
 };
 use crate::placing::put;
 use cfb_names::name::Name;
-use file_cleaning::cleaning::clean_file;
-use file_commands::forms::list_source_as;
-use file_commands::seeking::list_source;
-use file_listings::getting::get_file;
-use file_making::making::make_file;
+use file_commands::listing::list as list_lines;
+use file_outline::outline::Outline;
+use file_queries::queries::read_stream;
+use file_writer::write::write_file;
 use listing_forms::form::Form;
 use std::alloc::Global;
+use storage_tree::tree::Tree as BuiltTree;
+use stream_io::fault::StreamFault;
+use stream_io::read::{read_file, read_outline};
+use texts::input::InputFault;
 use texts::path::Path;
+use tree_descriptions::description::{Described, describe};
+use tree_descriptions::fault::TextFault;
+
+/// The outline of a file.
+///
+/// Refused, by a number: `TOO_BIG` where the file has more than 134,217,728 bytes; as `read_outline`.
+fn outline_of(alloc: Global, file: &[u8]) -> Result<Outline, u32>
+    ensures outlined { IfOk result (λ o. (t : Tree) × ∥ Denotes file.now t ∥₁ × (outline_view o ≡ outline_of t)) }
+    ensures placed { IfOk result (λ o. (t : Tree) × ∥ IsPlaced file.now t o ∥₁) }
+    ensures fault { IfErr result (λ number. 1 < number) }
+    ensures refused { IfErr result (IsUnread file.now) }
+{
+    if is_too_big(file) {
+        return Err(TOO_BIG);
+    }
+    match read_outline(alloc, file) {
+        Ok(outline) => Ok(outline),
+        Err(fault) => Err(read_number(fault)),
+    }
+}
 
 /// The listing of a file in a form.
 ///
-/// Refused: as `list_source_as`.
+/// Refused: `TOO_BIG` where the file has more than 134,217,728 bytes; as `read_outline`; `NO_MEMORY`. One that denotes a tree is refused
+/// for these two alone.
 pub fn list<F: Form>(alloc: Global, file: &[u8], out: &mut [u8], needed: &mut usize) -> u32
     ensures { Answers (IsListedAs F.told file.now) (IsRefusedList file.now) result out.old out.new needed.new }
 {
     *needed = 0;
-    let mut source = file;
-    let mut text = Vec::new(alloc);
-    match list_source_as::<F, &[u8], Vec<u8>>(alloc, &mut source, &mut text) {
-        Ok(()) => put(&text, out, needed),
-        Err(fault) => list_number(fault),
+    let outline = match outline_of(alloc, file) {
+        Ok(outline) => outline,
+        Err(number) => return number,
+    };
+    match F::text(alloc, &outline) {
+        Ok(text) => put(&text, out, needed),
+        Err(_) => NO_MEMORY,
     }
 }
 
 /// The listing of a file in lines, as `list` of the program writes it.
 ///
-/// Refused: as `list_source`.
+/// Refused: as `list`.
 pub fn lines(alloc: Global, file: &[u8], out: &mut [u8], needed: &mut usize) -> u32
     ensures { Answers (IsListed file.now) (IsRefusedList file.now) result out.old out.new needed.new }
 {
     *needed = 0;
-    let mut source = file;
-    let mut text = Vec::new(alloc);
-    match list_source::<&[u8], Vec<u8>>(alloc, &mut source, &mut text) {
-        Ok(()) => put(&text, out, needed),
-        Err(fault) => list_number(fault),
+    let outline = match outline_of(alloc, file) {
+        Ok(outline) => outline,
+        Err(number) => return number,
+    };
+    match list_lines(alloc, &outline) {
+        Ok(listing) => put(&listing, out, needed),
+        Err(_) => NO_MEMORY,
     }
 }
 
 /// The file of the tree that a description describes.
 ///
-/// Refused: as `make_file`.
+/// Refused: `TOO_BIG` where the description has more than 134,217,728 bytes; `NO_MEMORY`; its first line that is outside the grammar,
+/// or else the first that can't be carried out; a tree that doesn't fit into a file.
 pub fn make(alloc: Global, description: &[u8], out: &mut [u8], needed: &mut usize) -> u32
     ensures { Answers (IsMadeOf description.now) (IsRefusedMake description.now) result out.old out.new needed.new }
 {
     *needed = 0;
     let mut source = description;
-    let mut file = Vec::new(alloc);
-    match make_file(alloc, &mut source, &mut file) {
-        Ok(_) => put(&file, out, needed),
-        Err(fault) => make_number(fault),
+    match describe(alloc, &mut source) {
+        Ok(Described::Whole(tree)) => put_file(alloc, &tree, out, needed),
+        Ok(Described::Outline(_)) => TOO_BIG,
+        Err(fault) => text_number(fault),
+    }
+}
+
+/// The file of a tree.
+fn put_file(alloc: Global, tree: &BuiltTree, out: &mut [u8], needed: &mut usize) -> u32
+    requires { needed.old ≡ 0 }
+    ensures { Answers (IsFileOf (kept tree.now).now) (IsUnwritten (kept tree.now).now) result out.old out.new needed.new }
+{
+    match write_file(alloc, tree) {
+        Ok(file) => put(&file, out, needed),
+        Err(fault) => write_number(fault),
+    }
+}
+
+/// The number of a fault of a description in memory, which is always read.
+fn text_number(fault: TextFault) -> u32
+    ensures fault { 1 < result }
+    ensures told { (text : List ℕ) → MayRefuseText text fault → IsRefusedText text result }
+{
+    match fault {
+        TextFault::Input(InputFault::TooBig) => TOO_BIG,
+        TextFault::Input(_) => NO_MEMORY,
+        TextFault::Line(_, fault) => line_number(fault),
     }
 }
 
 /// A file of the same tree, and nothing else.
 ///
-/// Refused: as `clean_file`.
+/// Refused: as `list`; `TOO_BIG` where the tree doesn't fit into a file.
 pub fn clean(alloc: Global, file: &[u8], out: &mut [u8], needed: &mut usize) -> u32
     ensures { Answers (IsCleanOf file.now) (IsRefusedClean file.now) result out.old out.new needed.new }
 {
     *needed = 0;
-    let mut source = file;
-    let mut clean = Vec::new(alloc);
-    match clean_file(alloc, &mut source, &mut clean) {
-        Ok(_) => put(&clean, out, needed),
-        Err(fault) => clean_number(fault),
+    if is_too_big(file) {
+        return TOO_BIG;
+    }
+    match read_file(alloc, file) {
+        Ok(tree) => put_file(alloc, &tree, out, needed),
+        Err(fault) => read_number(fault),
     }
 }
 
 /// The bytes of the stream at a path, which a word spells as `list` of the program prints it.
 ///
-/// Refused: `BAD_PATH` where the word spells no path; a name of the path that no directory takes; as `get_file`.
+/// Refused: `BAD_PATH` where the word spells no path; a name of the path that no directory takes; as `list`; where the tree has no
+/// stream at the path, as `read_stream`.
 pub fn get(alloc: Global, file: &[u8], word: &[u8], out: &mut [u8], needed: &mut usize) -> u32
     ensures { Answers (IsGotBy file.now word.now) (IsRefusedBy file.now word.now) result out.old out.new needed.new }
 {
@@ -104,11 +167,13 @@ fn get_named(alloc: Global, file: &[u8], names: &[Name], out: &mut [u8], needed:
     requires { needed.old ≡ 0 }
     ensures { Answers (IsGot file.now names.now) (IsRefusedGet file.now names.now) result out.old out.new needed.new }
 {
-    let mut source = file;
-    let mut content = Vec::new(alloc);
-    match get_file(alloc, &mut source, names, &mut content) {
-        Ok(()) => put(&content, out, needed),
-        Err(fault) => get_number(fault),
+    if is_too_big(file) {
+        return TOO_BIG;
+    }
+    match read_stream(alloc, file, names) {
+        Ok(content) => put(&content, out, needed),
+        Err(StreamFault::Read(fault)) => read_number(fault),
+        Err(StreamFault::Tree(fault)) => tree_number(fault),
     }
 }
 

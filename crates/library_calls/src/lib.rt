@@ -4,5 +4,6 @@
 
 pub mod calls;
 pub mod editing;
+mod limit;
 pub mod numbers;
 mod placing;

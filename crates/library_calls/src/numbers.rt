@@ -1,20 +1,16 @@
 //! The numbers of the faults, and their names.
 
-ghost use Rattle.library_calls.specs.Numbers.{chain_name, chain_number, clean_number, directory_name, directory_number, edit_number, get_number, input_number, line_number, list_number, make_number, number_name, read_number, syntax_number, tree_name, tree_number, write_number};
+ghost use Rattle.library_calls.specs.Numbers.{chain_name, chain_number, directory_name, directory_number, edit_number, line_number, number_name, read_number, syntax_number, tree_name, tree_number, write_number};
 ghost use Rattle.std.specs.Prelude.{◌≡◌, ◌<◌};
 
 use cfb_header::fault::ChainFault;
 use cfb_names::fault::DirFault;
-use file_cleaning::fault::CleanFault;
-use file_commands::fault::ListFault;
 use file_editing::fault::EditFault;
-use file_listings::fault::GetFault;
-use file_making::fault::{LineFault, MakeFault};
 use file_model::fault::WriteFault;
 use storage_tree::fault::TreeFault;
 use stream_io::fault::ReadFault;
-use texts::input::InputFault;
 use texts::lines::SyntaxFault;
+use tree_descriptions::fault::LineFault;
 
 /// What is told where all was done.
 pub const DONE: u32 = 0;
@@ -28,7 +24,7 @@ pub const NO_MEMORY: u32 = 2;
 /// What is told where there are more bytes than are taken.
 pub const TOO_BIG: u32 = 3;
 
-/// What is told of an input that isn't read.
+/// What is told of a file that a line of an edit names, since in memory none has a name.
 pub const UNREADABLE: u32 = 4;
 
 /// What is told of a path that no word spells so.
@@ -52,7 +48,7 @@ fn chain_number(fault: ChainFault) -> u32
 }
 
 /// The number of a fault of a directory or of a name.
-pub fn directory_number(fault: DirFault) -> u32
+pub(crate) fn directory_number(fault: DirFault) -> u32
     ensures number { result ≡ directory_number fault }
     ensures fault { 1 < result }
 {
@@ -69,7 +65,8 @@ pub fn directory_number(fault: DirFault) -> u32
     }
 }
 
-fn tree_number(fault: TreeFault) -> u32
+/// The number of a fault of a tree.
+pub(crate) fn tree_number(fault: TreeFault) -> u32
     ensures number { result ≡ tree_number fault }
     ensures fault { 1 < result }
 {
@@ -83,7 +80,8 @@ fn tree_number(fault: TreeFault) -> u32
     }
 }
 
-fn read_number(fault: ReadFault) -> u32
+/// The number of a fault of a file that isn't read.
+pub(crate) fn read_number(fault: ReadFault) -> u32
     ensures number { result ≡ read_number fault }
     ensures fault { 1 < result }
 {
@@ -94,7 +92,8 @@ fn read_number(fault: ReadFault) -> u32
     }
 }
 
-fn write_number(fault: WriteFault) -> u32
+/// The number of a fault of a tree that isn't written.
+pub(crate) fn write_number(fault: WriteFault) -> u32
     ensures number { result ≡ write_number fault }
     ensures fault { 1 < result }
 {
@@ -104,18 +103,8 @@ fn write_number(fault: WriteFault) -> u32
     }
 }
 
-fn input_number(fault: InputFault) -> u32
-    ensures number { result ≡ input_number fault }
-    ensures fault { 1 < result }
-{
-    match fault {
-        InputFault::NoMemory => 2,
-        InputFault::TooBig => 3,
-        InputFault::Unreadable => 4,
-    }
-}
-
-fn line_number(fault: LineFault) -> u32
+/// The number of a fault of a line.
+pub(crate) fn line_number(fault: LineFault) -> u32
     ensures number { result ≡ line_number fault }
     ensures fault { 1 < result }
 {
@@ -127,61 +116,8 @@ fn line_number(fault: LineFault) -> u32
     }
 }
 
-/// The number of a fault of a listing.
-pub fn list_number(fault: ListFault) -> u32
-    ensures number { result ≡ list_number fault }
-    ensures fault { 1 < result }
-{
-    match fault {
-        ListFault::Input(fault) => input_number(fault),
-        ListFault::Read(fault) => read_number(fault),
-        ListFault::Unwritable => 5,
-        ListFault::NoMemory => 2,
-    }
-}
-
-/// The number of a fault of a stream.
-pub fn get_number(fault: GetFault) -> u32
-    ensures number { result ≡ get_number fault }
-    ensures fault { 1 < result }
-{
-    match fault {
-        GetFault::Input(fault) => input_number(fault),
-        GetFault::Read(fault) => read_number(fault),
-        GetFault::Tree(fault) => tree_number(fault),
-        GetFault::Unwritable => 5,
-    }
-}
-
-/// The number of a fault of a file that is made.
-pub fn make_number(fault: MakeFault) -> u32
-    ensures number { result ≡ make_number fault }
-    ensures fault { 1 < result }
-{
-    match fault {
-        MakeFault::Input(fault) => input_number(fault),
-        MakeFault::Line(_, fault) => line_number(fault),
-        MakeFault::Write(fault) => write_number(fault),
-        MakeFault::Unwritable => 5,
-    }
-}
-
-/// The number of a fault of a file that is written anew.
-pub fn clean_number(fault: CleanFault) -> u32
-    ensures number { result ≡ clean_number fault }
-    ensures fault { 1 < result }
-{
-    match fault {
-        CleanFault::Input(fault) => input_number(fault),
-        CleanFault::Read(fault) => read_number(fault),
-        CleanFault::Write(fault) => write_number(fault),
-        CleanFault::Cut(fault) => input_number(fault),
-        CleanFault::Unwritable => 5,
-    }
-}
-
 /// The number of a fault of the lines of a text.
-pub fn syntax_number(fault: SyntaxFault) -> u32
+pub(crate) fn syntax_number(fault: SyntaxFault) -> u32
     ensures number { result ≡ syntax_number fault }
     ensures fault { 1 < result }
 {
@@ -192,7 +128,7 @@ pub fn syntax_number(fault: SyntaxFault) -> u32
 }
 
 /// The number of a fault of a file that is edited. In memory a store refuses only a file that is too big.
-pub fn edit_number(fault: EditFault) -> u32
+pub(crate) fn edit_number(fault: EditFault) -> u32
     ensures number { result ≡ edit_number fault }
     ensures fault { 1 < result }
 {
@@ -213,7 +149,6 @@ pub fn number_name(number: u32) -> &'static str
         2 => "NoMemory",
         TOO_BIG => "TooBig",
         UNREADABLE => "Unreadable",
-        5 => "Unwritable",
         _ => chain_name(number),
     }
 }

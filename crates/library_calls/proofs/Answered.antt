@@ -1,0 +1,55 @@
+-- What calls answer, told otherwise.
+use Rattle.std.proofs.Common.{◌≡◌, ◌<◌, ℕ, List, Result, Ok, Err, IfErr, inl, inr, refl, subst}
+use Rattle.cfb_header.specs.Header.{header_read}
+use Rattle.cfb_header.specs.declared.fault.ChainFault.{ChainFault}
+use Rattle.storage_tree.specs.Kept.{Kept}
+use Rattle.storage_tree.specs.Tree.{Tree}
+use Rattle.storage_tree.specs.declared.tree.Tree.{Tree as BuiltTree}
+use Rattle.file_model.specs.Denotes.{Denotes}
+use Rattle.file_making.specs.Run.{IsMade}
+use Rattle.tree_descriptions.specs.Description.{described}
+use Rattle.library_calls.specs.Answers.{Answers}
+use Rattle.file_model.specs.declared.fault.WriteFault.TheVariants.{TooBig}
+use Rattle.stream_io.proofs.ReadingTold.{read_refused}
+use Rattle.stream_io.specs.Reads.{MayRefuseFile, chain_fault}
+use Rattle.stream_io.specs.declared.fault.ReadFault.{ReadFault}
+use Rattle.stream_io.specs.declared.fault.ReadFault.TheVariants.{NoMemory}
+use Rattle.tree_descriptions.proofs.Room.{too_large}
+use Rattle.tree_descriptions.specs.Texts.{Describes}
+use Rattle.tree_descriptions.specs.declared.building.Described.{Described}
+use Rattle.tree_descriptions.specs.declared.building.Described.TheVariants.{Outline}
+use Rattle.library_calls.specs.Calls.{IsCleanOf, IsFileOf, IsMadeOf, IsRefusedClean, IsRefusedMake, IsUnread, IsUnwritten}
+use Rattle.library_calls.specs.Numbers.{read_number}
+
+-- a file that isn't read
+pub unread : {A : Type 0} (file : List ℕ) (r : Result A ReadFault) (fault : ReadFault) (number : ℕ) → r ≡ Err fault → number ≡ read_number fault
+    → ((e : ChainFault) → header_read file ≡ Err e → r ≡ Err (chain_fault e))
+    → ((t : Tree) → Denotes file t → IfErr r (λ e. e ≡ NoMemory))
+    → IfErr r (MayRefuseFile file)
+    → IsUnread file number
+unread file r fault number is told header reads refused = inr (fault, told, read_refused file r fault is header reads refused)
+
+-- a described tree whose streams have more bytes than a file
+pub outlined : (text : List ℕ) (d : Described) (t : BuiltTree) → d ≡ Outline t → Describes text d → IsRefusedMake text 3
+outlined text d t is made =
+    let told : Describes text (Outline t) = subst (Describes text) is made in
+    inr (told.1.0, told.1.1, (TooBig, refl, too_large told.1.0.now told.1.2.1))
+
+module _ (result : ℕ) (old new : List ℕ) (needed : ℕ) where
+  -- what is put is told otherwise, and what a fault means
+  pub answers_of : (P Q : List ℕ → Type 0) (F G : ℕ → Type 0) → ((bytes : List ℕ) → P bytes → Q bytes) → (F result → G result)
+      → Answers P F result old new needed → Answers Q G result old new needed
+  answers_of P Q F G is fault (inl (bytes, told, put, count)) = inl (bytes, is bytes told, put, count)
+  answers_of P Q F G is fault (inr (above, told, same, none)) = inr (above, fault told, same, none)
+
+  -- the file of a described tree
+  pub made_of : (text : List ℕ) (k : Kept) → described text ≡ Ok k → Answers (IsFileOf k.now) (IsUnwritten k.now) result old new needed
+      → Answers (IsMadeOf text) (IsRefusedMake text) result old new needed
+  made_of text k is = answers_of (IsFileOf k.now) (IsMadeOf text) (IsUnwritten k.now) (IsRefusedMake text)
+      (λ bytes file. record { k = k; describes = is; denotes = file.0; laid_out = file.1 })
+      (λ fault. inr (k, is, fault))
+
+  -- the file of a tree that was read
+  pub clean_of : (file : List ℕ) (t : Tree) → ∥ Denotes file t ∥₁ → Answers (IsFileOf t) (IsUnwritten t) result old new needed
+      → Answers (IsCleanOf file) (IsRefusedClean file) result old new needed
+  clean_of file t is = answers_of (IsFileOf t) (IsCleanOf file) (IsUnwritten t) (IsRefusedClean file) (λ bytes told. (t, is, told)) (λ fault. inr (t, is, fault))
