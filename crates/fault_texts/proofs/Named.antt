@@ -1,5 +1,5 @@
 -- The names on a way.
-use Rattle.std.proofs.Common.{◌≡◌, ◌<◌, ◌+◌, ◌++◌, ◌∷◌, [], ◌∙◌, inl, inr, ℕ, zero, suc, List, arith, length, length-append, get_or, refl, sym, ap, subst, append_assoc}
+use Rattle.std.proofs.Common.{◌≡◌, ◌<◌, ◌+◌, ◌++◌, ◌∷◌, [], ◌∙◌, inl, inr, ℕ, List, arith, length, length-append, get_or, refl, sym, ap, subst, append_assoc}
 use Rattle.cfb_directory.specs.Entries.{IsNamed, entry_at}
 use Rattle.text_model.specs.Spelled.{name_text}
 use Rattle.fault_texts.specs.Spots.{AreNamesOf, IsPathIn, within}

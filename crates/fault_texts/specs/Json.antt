@@ -13,7 +13,6 @@ use Rattle.fault_places.specs.declared.place.EntryPlace.{EntryPlace}
 use Rattle.fault_places.specs.declared.place.EntryPlace.TheVariants as entry
 use Rattle.fault_places.specs.declared.place.Owner.{Owner}
 use Rattle.fault_places.specs.declared.place.Owner.TheVariants as owner
-use Rattle.fault_places.specs.declared.place.StreamPlace.{StreamPlace}
 use Rattle.stream_io.specs.Reads.{read_fault_name}
 use Rattle.stream_io.specs.declared.fault.ReadFault.{ReadFault}
 use Rattle.fault_texts.specs.Lines.{SOUND, told_line}

@@ -1,7 +1,8 @@
 -- Where a file is at fault, with the path of the entry and the byte of the file.
-use Rattle.std.specs.Prelude.{◌≡◌, ◌⊎◌, ◌<◌, ◌≤◌, ◌+◌, ◌*◌, ◌/◌, ◌%◌, ◌++◌, ℕ, Bool, true, false, List, [], ◌∷◌, Option, Some, None, IfSome, drop, length, slice_index, string_bytes, take}
+use Rattle.std.specs.Prelude.{◌≡◌, ◌⊎◌, ◌<◌, ◌≤◌, ◌+◌, ◌*◌, ◌/◌, ◌%◌, ◌++◌, ℕ, Bool, true, false, List, [], ◌∷◌, Option, Some, None, IfSome, Err, drop, length, option_map, slice_index, string_bytes, take}
 use Rattle.cfb_header.specs.Bytes.{u32_at}
-use Rattle.cfb_header.specs.Header.{first_mini_fat, listed}
+use Rattle.cfb_header.specs.Header.{first_mini_fat, header_read, listed}
+use Rattle.cfb_header.specs.declared.fault.ChainFault.{ChainFault}
 use Rattle.cfb_chain.specs.Chain.{IsChain}
 use Rattle.cfb_chain.specs.Fat.{sectors_of}
 use Rattle.cfb_directory.specs.Entries.{IsNamed, entry_at}
@@ -136,3 +137,7 @@ pub record IsSpotOf (file : List ℕ) (fault : ReadFault) (s : Spot) : Type 0 wh
   pub at : IsPlaceOf file fault s.place
   pub path : IfSome s.path (λ p. IsPathOf file (way_of s.place) (string_bytes p))
   pub byte : IfSome s.byte (λ b. IsByteOf file s.place b)
+
+-- a fault of the header is told, with the header as its place
+abbrev pub IsHeaderTold : List ℕ → ReadFault → Option Spot → Type 0
+IsHeaderTold file fault at = (e : ChainFault) → header_read file ≡ Err e → fault ≡ read.Chain e → option_map (λ s. s.place) at ≡ Some (place.Chain chain.Header)

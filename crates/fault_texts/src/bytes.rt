@@ -1,20 +1,22 @@
 //! The bytes of a file at which what is wrong stands.
 
 ghost use Rattle.cfb_header.specs.Bytes.{u32_at};
-ghost use Rattle.fault_places.specs.Ways.{end_of};
+ghost use Rattle.fault_places.specs.Ways.{IsDirectoryOf, end_of};
 ghost use Rattle.fault_texts.specs.Spots.{IsByteOf, IsByteOfChain, IsByteOfEntry, IsEntryAt, IsFirstOf, IsItemAt, IsNextMiniOf, IsNextOf, IsStreamLinkAt, IsWordAt};
-ghost use Rattle.std.specs.Prelude.{◌*◌, ◌+◌, ◌≡◌, ◌≤◌, IfNone, IfSome, Some, drop, length, take, true};
+ghost use Rattle.std.specs.Prelude.{◌*◌, ◌+◌, ◌≡◌, ◌≤◌, IfNone, IfOk, IfSome, Some, drop, length, take, true};
 
+use crate::directory::read_directory;
 use crate::spot::Place;
 use cfb_bytes::numbers::read_u32;
 use cfb_chain::difat::fat_sectors;
 use cfb_chain::fat::Fat;
 use cfb_chain::image::Image;
+use cfb_header::fault::ChainFault;
 use cfb_header::header::Header;
-use fault_places::directory::read_directory;
+use fault_places::directory::Directory;
 use fault_places::place::{EntryPlace, FaultPlace, Link, StreamPlace};
 use fault_places::ways::end_of;
-use std::alloc::Global;
+use std::alloc::{AllocError, Global};
 
 /// The bytes of a sector.
 const SECTOR: usize = 512;
@@ -45,56 +47,73 @@ fn byte_in(sectors: &[u32], width: usize, n: u32) -> Option<usize>
 }
 
 /// The byte of the entry of a sector in the FAT.
-fn byte_in_fat(alloc: Global, file: &[u8], n: u32) -> Option<usize>
-    ensures { IfSome result (IsNextOf file.now n) }
+fn byte_in_fat(alloc: Global, file: &[u8], n: u32) -> Result<Option<usize>, AllocError>
+    ensures { IfOk result (λ b. IfSome b (IsNextOf file.now n)) }
 {
-    let header = Header::read(file).ok()?;
-    let own = fat_sectors(alloc, &header, &Image::Whole(file)).ok()?;
-    byte_in(&own.fat, NUMBER, n)
+    let Ok(header) = Header::read(file) else {
+        return Ok(None);
+    };
+    let own = fat_sectors(alloc, &header, &Image::Whole(file))?;
+    Ok(byte_in(&own.fat, NUMBER, n))
 }
 
 /// The byte of the entry of a mini sector in the mini FAT.
-fn byte_in_mini_fat(alloc: Global, file: &[u8], n: u32) -> Option<usize>
-    ensures { IfSome result (IsNextMiniOf file.now n) }
+fn byte_in_mini_fat(alloc: Global, file: &[u8], n: u32) -> Result<Option<usize>, AllocError>
+    ensures { IfOk result (λ b. IfSome b (IsNextMiniOf file.now n)) }
 {
     let Ok(header) = Header::read(file) else {
-        return None;
+        return Ok(None);
     };
-    let Ok(mut fat) = Fat::load(alloc, &header, Image::Whole(file)) else {
-        return None;
+    let mut fat = match Fat::load(alloc, &header, Image::Whole(file)) {
+        Ok(fat) => fat,
+        Err(ChainFault::NoMemory) => return Err(AllocError),
+        Err(_) => return Ok(None),
     };
-    let Ok(sectors) = fat.chain(alloc, header.first_mini_fat()) else {
-        return None;
+    let sectors = match fat.chain(alloc, header.first_mini_fat()) {
+        Ok(sectors) => sectors,
+        Err(ChainFault::NoMemory) => return Err(AllocError),
+        Err(_) => return Ok(None),
     };
-    byte_in(&sectors, NUMBER, n)
+    Ok(byte_in(&sectors, NUMBER, n))
 }
 
 /// The byte of the first number of the stream of an entry.
-fn byte_of_first(alloc: Global, file: &[u8], id: u32) -> Option<usize>
-    ensures { IfSome result (IsFirstOf file.now id) }
+fn byte_of_first(alloc: Global, file: &[u8], id: u32) -> Result<Option<usize>, AllocError>
+    ensures { IfOk result (λ b. IfSome b (IsFirstOf file.now id)) }
 {
-    let directory = read_directory(alloc, file)?;
-    let at = byte_in(&directory.sectors, ENTRY, id)?;
-    if at >= 0x1_0000_0000 {
-        return None;
+    let found = read_directory(alloc, file)?;
+    let Some(directory) = found else {
+        return Ok(None);
+    };
+    match byte_in(&directory.sectors, ENTRY, id) {
+        Some(at) if at < 0x1_0000_0000 => Ok(Some(at + FIRST)),
+        _ => Ok(None),
     }
-    Some(at + FIRST)
 }
 
 /// The byte of the number of a link of a chain of sectors, of which the first one stands at another.
-fn byte_of_link(alloc: Global, file: &[u8], link: Link, first: Option<usize>) -> Option<usize>
-    ensures next { IfSome link.from (λ n. IfSome result (IsNextOf file.now n)) }
-    ensures first { IfNone link.from (result ≡ first) }
+fn byte_of_link(
+    alloc: Global,
+    file: &[u8],
+    link: Link,
+    first: Option<usize>,
+) -> Result<Option<usize>, AllocError>
+    ensures next { IfSome link.from (λ n. IfOk result (λ b. IfSome b (IsNextOf file.now n))) }
+    ensures first { IfNone link.from (result ≡ Ok first) }
 {
     match link.from {
         Some(from) => byte_in_fat(alloc, file, from),
-        None => first,
+        None => Ok(first),
     }
 }
 
 /// The byte of the number of a link of a stream's chain.
-fn byte_of_stream_link(alloc: Global, file: &[u8], stream: &StreamPlace) -> Option<usize>
-    ensures { IfSome result (IsStreamLinkAt file.now stream.now.is_mini (IsFirstOf file.now (end_of stream.now.way.items)) stream.now.link.from) }
+fn byte_of_stream_link(
+    alloc: Global,
+    file: &[u8],
+    stream: &StreamPlace,
+) -> Result<Option<usize>, AllocError>
+    ensures { IfOk result (λ b. IfSome b (IsStreamLinkAt file.now stream.now.is_mini (IsFirstOf file.now (end_of stream.now.way.items)) stream.now.link.from)) }
 {
     match stream.link.from {
         Some(from) if stream.is_mini => byte_in_mini_fat(alloc, file, from),
@@ -148,10 +167,21 @@ fn are_same(bytes: &[u8], at: usize, others: &[u8], other: usize) -> bool
 }
 
 /// The byte at which an entry of the directory begins.
-fn entry_at(alloc: Global, file: &[u8], id: u32) -> Option<u32>
+fn entry_at(alloc: Global, file: &[u8], id: u32) -> Result<Option<u32>, AllocError>
+    ensures { IfOk result (λ b. IfSome b (λ byte. IsEntryAt file.now byte id)) }
+{
+    let found = read_directory(alloc, file)?;
+    match found {
+        Some(directory) => Ok(entry_in(file, &directory, id)),
+        None => Ok(None),
+    }
+}
+
+/// The same of an entry of this directory.
+fn entry_in(file: &[u8], directory: &Directory, id: u32) -> Option<u32>
+    requires directory { IsDirectoryOf file.now directory.now }
     ensures { IfSome result (λ byte. IsEntryAt file.now byte id) }
 {
-    let directory = read_directory(alloc, file)?;
     let at = byte_in(&directory.sectors, ENTRY, id)?;
     if at < 0x1_0000_0000 && are_same(file, at, &directory.bytes, ENTRY * id as usize) {
         return Some(at as u32);
@@ -160,49 +190,49 @@ fn entry_at(alloc: Global, file: &[u8], id: u32) -> Option<u32>
 }
 
 /// The byte of a place of a chain of the system's own parts.
-fn byte_of_chain(alloc: Global, file: &[u8], place: FaultPlace) -> Option<u32>
-    ensures { IfSome result (IsByteOfChain file.now place) }
+fn byte_of_chain(alloc: Global, file: &[u8], place: FaultPlace) -> Result<Option<u32>, AllocError>
+    ensures { IfOk result (λ b. IfSome b (IsByteOfChain file.now place)) }
 {
     match place {
-        FaultPlace::Header => None,
-        FaultPlace::Fat => None,
+        FaultPlace::Header => Ok(None),
+        FaultPlace::Fat => Ok(None),
         FaultPlace::Directory(link) => {
-            let at = byte_of_link(alloc, file, link, Some(FIRST_DIRECTORY));
-            word_at(file, at, link.to)
+            let at = byte_of_link(alloc, file, link, Some(FIRST_DIRECTORY))?;
+            Ok(word_at(file, at, link.to))
         }
         FaultPlace::MiniFat(link) => {
-            let at = byte_of_link(alloc, file, link, Some(FIRST_MINI_FAT));
-            word_at(file, at, link.to)
+            let at = byte_of_link(alloc, file, link, Some(FIRST_MINI_FAT))?;
+            Ok(word_at(file, at, link.to))
         }
         FaultPlace::MiniStream(link) => {
-            let first = byte_of_first(alloc, file, 0);
-            let at = byte_of_link(alloc, file, link, first);
-            word_at(file, at, link.to)
+            let first = byte_of_first(alloc, file, 0)?;
+            let at = byte_of_link(alloc, file, link, first)?;
+            Ok(word_at(file, at, link.to))
         }
     }
 }
 
 /// The byte of a place of the directory.
-fn byte_of_entry(alloc: Global, file: &[u8], place: &EntryPlace) -> Option<u32>
-    ensures { IfSome result (IsByteOfEntry file.now place.now) }
+fn byte_of_entry(alloc: Global, file: &[u8], place: &EntryPlace) -> Result<Option<u32>, AllocError>
+    ensures { IfOk result (λ b. IfSome b (IsByteOfEntry file.now place.now)) }
 {
     match place {
-        EntryPlace::Nowhere => None,
+        EntryPlace::Nowhere => Ok(None),
         EntryPlace::Entry(way) => entry_at(alloc, file, end_of(way)),
         EntryPlace::Twins(_, _, other) => entry_at(alloc, file, *other),
     }
 }
 
 /// The byte of a place: where the number stands that a chain goes wrong by, or where the entry begins. None for the header and
-/// the lists of the FAT, and for want of memory.
-pub(crate) fn byte_of(alloc: Global, file: &[u8], place: &Place) -> Option<u32>
-    ensures { IfSome result (IsByteOf file.now place.now) }
+/// the lists of the FAT.
+pub(crate) fn byte_of(alloc: Global, file: &[u8], place: &Place) -> Result<Option<u32>, AllocError>
+    ensures { IfOk result (λ b. IfSome b (IsByteOf file.now place.now)) }
 {
     match place {
         Place::Chain(chain) => byte_of_chain(alloc, file, *chain),
         Place::Stream(stream) => {
-            let at = byte_of_stream_link(alloc, file, stream);
-            word_at(file, at, stream.link.to)
+            let at = byte_of_stream_link(alloc, file, stream)?;
+            Ok(word_at(file, at, stream.link.to))
         }
         Place::Entry(entry) => byte_of_entry(alloc, file, entry),
     }

@@ -2,6 +2,7 @@
 #![tactic(auto)]
 
 mod bytes;
+mod directory;
 mod json_form;
 mod lines;
 mod paths;

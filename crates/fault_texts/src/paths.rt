@@ -6,9 +6,10 @@ ghost use Rattle.fault_texts.specs.Spots.{IsPathIn, IsPathOf};
 ghost use Rattle.std.specs.Prelude.{◌≡◌, ◌++◌, IfOk, IfSome, OnOk, string_bytes};
 ghost use Rattle.text_model.specs.Spelled.{name_text};
 
+use crate::directory::read_directory;
 use cfb_directory::entries::Entries;
+use cfb_names::fault::DirFault;
 use cfb_names::name::Name;
-use fault_places::directory::read_directory;
 use std::alloc::{AllocError, Global};
 use texts::writing::push_name;
 
@@ -65,17 +66,30 @@ fn text_of(path: Vec<u8>) -> Option<String>
     }
 }
 
-/// The path of the entry of a file to which a way leads, as far as names can be read. None where no name is read, where the
-/// way leads to the root, and for want of memory.
-pub(crate) fn path_of(alloc: Global, file: &[u8], way: &[u32]) -> Option<String>
-    ensures { IfSome result (λ path. IsPathOf file.now way.now (string_bytes path)) }
+/// The path of the entry of a file to which a way leads, as far as names can be read. None where no name is read, and where the way
+/// leads to the root.
+pub(crate) fn path_of(alloc: Global, file: &[u8], way: &[u32]) -> Result<Option<String>, AllocError>
+    ensures { IfOk result (λ p. IfSome p (λ path. IsPathOf file.now way.now (string_bytes path))) }
 {
-    let directory = read_directory(alloc, file)?;
-    let Ok(entries) = Entries::load(alloc, &directory.bytes) else {
-        return None;
+    let found = read_directory(alloc, file)?;
+    let Some(directory) = found else {
+        return Ok(None);
     };
-    let Ok(Some(path)) = path_in(alloc, &entries, way) else {
-        return None;
+    path_by(alloc, &directory.bytes, way)
+}
+
+/// The same in the directory of these bytes.
+fn path_by(alloc: Global, directory: &[u8], way: &[u32]) -> Result<Option<String>, AllocError>
+    ensures { IfOk result (λ p. IfSome p (λ path. IsPathIn directory.now way.now (string_bytes path))) }
+{
+    let entries = match Entries::load(alloc, directory) {
+        Ok(entries) => entries,
+        Err(DirFault::NoMemory) => return Err(AllocError),
+        Err(_) => return Ok(None),
     };
-    text_of(path)
+    let read = path_in(alloc, &entries, way)?;
+    match read {
+        Some(path) => Ok(text_of(path)),
+        None => Ok(None),
+    }
 }

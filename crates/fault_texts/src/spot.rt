@@ -1,7 +1,10 @@
 //! The place at which a file is at fault, with the path of its entry and the byte at which it stands.
 
-ghost use Rattle.fault_texts.specs.Spots.{IsPathOf, IsPlaceOf, IsSpotOf, way_of};
-ghost use Rattle.std.specs.Prelude.{[], ◌∷◌, ◌≡◌, ◌++◌, IfOk, IfSome, string_bytes};
+ghost use Rattle.cfb_header.specs.Header.{header_read};
+ghost use Rattle.cfb_header.specs.declared.fault.ChainFault.{ChainFault};
+ghost use Rattle.cfb_header.specs.declared.fault.ChainFault.TheVariants.{NoMemory};
+ghost use Rattle.fault_texts.specs.Spots.{IsHeaderTold, IsPathOf, IsPlaceOf, IsSpotOf, way_of};
+ghost use Rattle.std.specs.Prelude.{[], ◌∷◌, ◌≡◌, ◌≢◌, ◌++◌, Err, IfOk, IfSome, Some, string_bytes};
 
 use crate::bytes::byte_of;
 use crate::paths::path_of;
@@ -38,53 +41,76 @@ pub struct Spot {
 }
 
 /// The place at which a file has a fault of its header or a chain of its parts.
-fn place_in_parts(alloc: Global, file: &[u8], fault: ChainFault) -> Option<Place>
-    ensures { IfSome result (IsPlaceOf file.now (ReadFault.Chain fault)) }
+fn place_in_parts(
+    alloc: Global,
+    file: &[u8],
+    fault: ChainFault,
+) -> Result<Option<Place>, AllocError>
+    ensures there { IfOk result (λ p. IfSome p (IsPlaceOf file.now (ReadFault.Chain fault))) }
+    ensures header { header_read file.now ≡ Err fault → fault ≢ NoMemory → IfOk result (λ p. p ≡ Some (Place.Chain FaultPlace.Header)) }
 {
     match find_place(alloc, file, fault) {
-        Ok(Some(place)) => Some(Place::Chain(place)),
-        _ => None,
+        Ok(Some(place)) => Ok(Some(Place::Chain(place))),
+        Ok(None) => Ok(None),
+        Err(error) => Err(error),
     }
 }
 
 /// The place at which a file has a fault of a stream's chain.
-fn place_in_streams(alloc: Global, file: &[u8], fault: ChainFault) -> Option<Place>
-    ensures { IfSome result (IsPlaceOf file.now (ReadFault.Chain fault)) }
+fn place_in_streams(
+    alloc: Global,
+    file: &[u8],
+    fault: ChainFault,
+) -> Result<Option<Place>, AllocError>
+    ensures { IfOk result (λ p. IfSome p (IsPlaceOf file.now (ReadFault.Chain fault))) }
 {
     match find_stream(alloc, file, fault) {
-        Ok(Some(place)) => Some(Place::Stream(place)),
-        _ => None,
+        Ok(Some(place)) => Ok(Some(Place::Stream(place))),
+        Ok(None) => Ok(None),
+        Err(error) => Err(error),
     }
 }
 
 /// The place at which a file has a fault of its header or a chain.
-fn place_in_chains(alloc: Global, file: &[u8], fault: ChainFault) -> Option<Place>
-    ensures { IfSome result (IsPlaceOf file.now (ReadFault.Chain fault)) }
+fn place_in_chains(
+    alloc: Global,
+    file: &[u8],
+    fault: ChainFault,
+) -> Result<Option<Place>, AllocError>
+    ensures there { IfOk result (λ p. IfSome p (IsPlaceOf file.now (ReadFault.Chain fault))) }
+    ensures header { header_read file.now ≡ Err fault → fault ≢ NoMemory → IfOk result (λ p. p ≡ Some (Place.Chain FaultPlace.Header)) }
 {
     match place_in_parts(alloc, file, fault) {
-        Some(place) => Some(place),
-        None => place_in_streams(alloc, file, fault),
+        Ok(Some(place)) => Ok(Some(place)),
+        Ok(None) => place_in_streams(alloc, file, fault),
+        Err(error) => Err(error),
     }
 }
 
 /// The place at which a file has a fault of its directory.
-fn place_in_directory(alloc: Global, file: &[u8], fault: DirFault) -> Option<Place>
-    ensures { IfSome result (IsPlaceOf file.now (ReadFault.Directory fault)) }
+fn place_in_directory(
+    alloc: Global,
+    file: &[u8],
+    fault: DirFault,
+) -> Result<Option<Place>, AllocError>
+    ensures { IfOk result (λ p. IfSome p (IsPlaceOf file.now (ReadFault.Directory fault))) }
 {
     match find_entry(alloc, file, fault) {
-        Ok(Some(place)) => Some(Place::Entry(place)),
-        _ => None,
+        Ok(Some(place)) => Ok(Some(Place::Entry(place))),
+        Ok(None) => Ok(None),
+        Err(error) => Err(error),
     }
 }
 
 /// The place at which a file has a fault.
-fn place_of(alloc: Global, file: &[u8], fault: ReadFault) -> Option<Place>
-    ensures { IfSome result (IsPlaceOf file.now fault) }
+fn place_of(alloc: Global, file: &[u8], fault: ReadFault) -> Result<Option<Place>, AllocError>
+    ensures there { IfOk result (λ p. IfSome p (IsPlaceOf file.now fault)) }
+    ensures header { (e : ChainFault) → header_read file.now ≡ Err e → fault ≡ ReadFault.Chain e → IfOk result (λ p. p ≡ Some (Place.Chain FaultPlace.Header)) }
 {
     match fault {
         ReadFault::Chain(chain) => place_in_chains(alloc, file, chain),
         ReadFault::Directory(directory) => place_in_directory(alloc, file, directory),
-        ReadFault::NoMemory => None,
+        ReadFault::NoMemory => Ok(None),
     }
 }
 
@@ -111,22 +137,26 @@ fn with_last(alloc: Global, way: &[u32], last: u32) -> Result<Vec<u32>, AllocErr
 }
 
 /// The path of the entry of a place, as far as it is known.
-fn known_path(alloc: Global, file: &[u8], place: &Place) -> Option<String>
-    ensures { IfSome result (λ path. IsPathOf file.now (way_of place.now) (string_bytes path)) }
+fn known_path(alloc: Global, file: &[u8], place: &Place) -> Result<Option<String>, AllocError>
+    ensures { IfOk result (λ p. IfSome p (λ path. IsPathOf file.now (way_of place.now) (string_bytes path))) }
 {
-    let Ok(way) = way_of(alloc, place) else {
-        return None;
-    };
+    let way = way_of(alloc, place)?;
     path_of(alloc, file, &way)
 }
 
-/// The place at which a file has a fault, where one is found and there is memory to look for it, with the path of its entry
-/// and the byte, where these are known.
-pub fn find_spot(alloc: Global, file: &[u8], fault: ReadFault) -> Option<Spot>
-    ensures { IfSome result (IsSpotOf file.now fault) }
+/// The place at which a file has a fault, where one is found, with the path of its entry and the byte, where these are known. That
+/// of a fault of the header is found.
+///
+/// Refused for want of memory alone.
+pub fn find_spot(alloc: Global, file: &[u8], fault: ReadFault) -> Result<Option<Spot>, AllocError>
+    ensures there { IfOk result (λ s. IfSome s (IsSpotOf file.now fault)) }
+    ensures header { IfOk result (IsHeaderTold file.now fault) }
 {
-    let place = place_of(alloc, file, fault)?;
-    let path = known_path(alloc, file, &place);
-    let byte = byte_of(alloc, file, &place);
-    Some(Spot { place, path, byte })
+    let found = place_of(alloc, file, fault)?;
+    let Some(place) = found else {
+        return Ok(None);
+    };
+    let path = known_path(alloc, file, &place)?;
+    let byte = byte_of(alloc, file, &place)?;
+    Ok(Some(Spot { place, path, byte }))
 }

@@ -20,10 +20,11 @@ use texts::input::read_all;
 use texts::output::write_all;
 
 /// Writes that a file is sound where it holds a tree. Where it holds none, writes the fault's name and the place at which it
-/// is, as far as that is found, and gives the fault. Either is a line for eyes or one JSON value, as the form says.
+/// is, as far as that is found, and gives the fault. That of a fault of the header is found. Either is a line for eyes or one
+/// JSON value, as the form says.
 ///
-/// Refused besides: a file that isn't read or has more than 134,217,728 bytes; `NoMemory`, where nothing is written;
-/// `Unwritable` where a write fails.
+/// Refused besides: a file that isn't read or has more than 134,217,728 bytes; `NoMemory`, also where the place is looked for,
+/// and nothing is written; `Unwritable` where a write fails.
 pub fn check_file<R: Read, W: Write>(
     alloc: Global,
     reader: &mut R,
@@ -130,7 +131,9 @@ fn tell_fault<W: Write>(
     ensures told { Tells file.now form.entry result (W.contents writer.old) (W.contents writer.new) }
     ensures ends { MayRefuseRead file.now fault → MayRefuseCheck file.now result }
 {
-    let spot = find_spot(alloc, file, fault);
+    let Ok(spot) = find_spot(alloc, file, fault) else {
+        return ListFault::NoMemory;
+    };
     let Ok(text) = told_text(alloc, form, &fault, &spot) else {
         return ListFault::NoMemory;
     };

@@ -1,11 +1,11 @@
-use Rattle.std.proofs.Common.{refl}
+use Rattle.std.proofs.Common.{Option, IfSome, refl, subst}
+use Rattle.fault_places.specs.Ways.{IsDirectoryOf}
+use Rattle.fault_places.specs.declared.directory.Directory.{Directory}
 use Rattle.fault_texts.proofs.Standing.{entry_in}
 use Rattle.fault_texts.proofs.bytes.byte_of_first.Goals as goal
 
-pub returns : goal.returns
-returns c = (
-  c.in_ok-directory.directory.bytes.items,
-  c.in_ok-at.at,
-  entry_in c.args.file.now c.in_ok-directory.directory c.deref.result.now c.args.id c.in_ok-at.at c.in_ok-directory.ensures c.deref.ensures.value c.in_ok-at.ensures,
-  refl,
-)
+pub returns-in-Some-byte_in : goal.returns-in-Some-byte_in
+returns-in-Some-byte_in c =
+    let d : Directory = c.in-Some.directory in
+    let is : IsDirectoryOf c.args.file.now d = subst (λ (x : Option Directory). IfSome x (IsDirectoryOf c.args.file.now)) c.in-Some.is c.in_ok-found.ensures in
+    (d.bytes.items, c.in-Some-byte_in.at, entry_in c.args.file.now d c.deref.result.now c.args.id c.in-Some-byte_in.at is c.deref.ensures.value c.in-Some-byte_in.ensures, refl)

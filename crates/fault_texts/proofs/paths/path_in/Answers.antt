@@ -1,5 +1,5 @@
 use Rattle.std.proofs.Common.{◌≡◌, ◌<◌, ◌+◌, [], arith, length, rules}
-use Rattle.fault_texts.proofs.Named.{front_more, front_none, path_cut, path_whole}
+use Rattle.fault_texts.proofs.Named.{front_more, front_none, path_whole}
 use Rattle.fault_texts.proofs.paths.path_in.Goals as goal
 
 pub loop-k-init : goal.loop-k-init

@@ -9,9 +9,10 @@ returns-in-Ok-write_all-clause-told g c =
     let old : Option (List ℕ) = g.W.Write.contents c.args.writer.now in
     let new : Option (List ℕ) = g.W.Write.contents c.write_all.new.writer in
     let told : TellsFault c.args.file.now c.args.form c.args.fault old new = record {
-      at = c.find_spot-spot.result;
-      is_there = c.find_spot-spot.ensures;
-      written = subst (Appends old new) (c.deref.ensures.value ∙ c.in-Ok.ensures) c.in-Ok-write_all.ensures;
+      at = c.in-Ok.spot;
+      is_there = c.in-Ok.ensures.there;
+      header = c.in-Ok.ensures.header;
+      written = subst (Appends old new) (c.deref.ensures.value ∙ c.in-Ok-told_text.ensures) c.in-Ok-write_all.ensures;
     } in
     told_fault c.args.file.now c.args.form c.args.fault old new c.requires.its_own told
 
