@@ -5,7 +5,6 @@ ghost use Rattle.fault_places.specs.Ways.{IsDirectoryOf, end_of};
 ghost use Rattle.fault_texts.specs.Spots.{IsByteOf, IsByteOfChain, IsByteOfEntry, IsEntryAt, IsFirstOf, IsItemAt, IsNextMiniOf, IsNextOf, IsStreamLinkAt, IsWordAt};
 ghost use Rattle.std.specs.Prelude.{◌*◌, ◌+◌, ◌≡◌, ◌≤◌, IfNone, IfOk, IfSome, Some, drop, length, take, true};
 
-use crate::directory::read_directory;
 use crate::spot::Place;
 use cfb_bytes::numbers::read_u32;
 use cfb_chain::difat::fat_sectors;
@@ -13,7 +12,7 @@ use cfb_chain::fat::Fat;
 use cfb_chain::image::Image;
 use cfb_header::fault::ChainFault;
 use cfb_header::header::Header;
-use fault_places::directory::Directory;
+use fault_places::directory::{Directory, read_directory};
 use fault_places::place::{EntryPlace, FaultPlace, Link, StreamPlace};
 use fault_places::ways::end_of;
 use std::alloc::{AllocError, Global};

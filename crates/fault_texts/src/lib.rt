@@ -2,7 +2,6 @@
 #![tactic(auto)]
 
 mod bytes;
-mod directory;
 mod json_form;
 mod lines;
 mod paths;

@@ -6,10 +6,10 @@ ghost use Rattle.fault_texts.specs.Spots.{IsPathIn, IsPathOf};
 ghost use Rattle.std.specs.Prelude.{◌≡◌, ◌++◌, IfOk, IfSome, OnOk, string_bytes};
 ghost use Rattle.text_model.specs.Spelled.{name_text};
 
-use crate::directory::read_directory;
 use cfb_directory::entries::Entries;
 use cfb_names::fault::DirFault;
 use cfb_names::name::Name;
+use fault_places::directory::read_directory;
 use std::alloc::{AllocError, Global};
 use texts::writing::push_name;
 

@@ -5,7 +5,8 @@ ghost use Rattle.fault_texts.specs.Json.{sound_text};
 ghost use Rattle.std.specs.Io.KnownBytes.{Appends};
 ghost use Rattle.stream_io.specs.Reads.{MayRefuseRead};
 ghost use Rattle.stream_io.specs.declared.fault.ReadFault.TheVariants.{NoMemory};
-ghost use Rattle.std.specs.Prelude.{◌≡◌, ◌≢◌, IfErr, IfSome, OnOk};
+ghost use Rattle.std.specs.Prelude.{◌≡◌, ◌≢◌, IfErr, IfSome, OnOk, ◌≤◌, length};
+ghost use Rattle.texts.specs.Input.{most};
 
 use crate::seeking::{is_sound, read_whole};
 use fault_texts::spot::find_spot;
@@ -32,6 +33,7 @@ pub fn check_file<R: Read, W: Write>(
     writer: &mut W,
 ) -> Result<(), ListFault>
     ensures sound { OnOk result (IfSome (R.remaining reader.old) (λ file. IsSound file form.entry (W.contents writer.old) (W.contents writer.new))) }
+    ensures few { OnOk result (IfSome (R.remaining reader.old) (λ file. length file ≤ most)) }
     ensures refused { IfErr result (λ fault. IfSome (R.remaining reader.old) (λ file. MayRefuseCheck file fault)) }
     ensures told { IfErr result (λ fault. IfSome (R.remaining reader.old) (λ file. Tells file form.entry fault (W.contents writer.old) (W.contents writer.new))) }
 {
@@ -52,6 +54,7 @@ pub fn check_source<S: Source, W: Write>(
     writer: &mut W,
 ) -> Result<(), ListFault>
     ensures sound { OnOk result (IfSome (S.bytes source.old) (λ file. IsSound file form.entry (W.contents writer.old) (W.contents writer.new))) }
+    ensures few { OnOk result (IfSome (S.bytes source.old) (λ file. length file ≤ most)) }
     ensures refused { IfErr result (λ fault. IfSome (S.bytes source.old) (λ file. MayRefuseCheck file fault)) }
     ensures told { IfErr result (λ fault. IfSome (S.bytes source.old) (λ file. Tells file form.entry fault (W.contents writer.old) (W.contents writer.new))) }
 {

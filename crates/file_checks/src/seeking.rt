@@ -2,9 +2,9 @@
 
 ghost use Rattle.file_model.specs.Denotes.{Denotes};
 ghost use Rattle.cfb_header.specs.Header.{IsHeader, header_read};
-ghost use Rattle.std.specs.Prelude.{◌≡◌, IfErr, IfOk, IfSome, Ok, drop, length, take, true};
+ghost use Rattle.std.specs.Prelude.{◌≡◌, IfErr, IfOk, IfSome, Ok, drop, length, take, true, ◌≤◌};
 ghost use Rattle.storage_tree.specs.Tree.{Tree};
-ghost use Rattle.texts.specs.Input.{MayRefuseInput};
+ghost use Rattle.texts.specs.Input.{MayRefuseInput, most};
 
 use file_places::fault::PlacesFault;
 use file_places::reading::{Catalog, read_catalog};
@@ -13,11 +13,15 @@ use std::alloc::Global;
 use stream_io::read::read_placed;
 use texts::input::InputFault;
 
+/// The most bytes that a file may have.
+const MOST: u64 = 134_217_728;
+
 /// Whether a file holds a tree, by what its listing needs. Want of memory finds none.
 ///
 /// Refused: a file that isn't read or has more than 134,217,728 bytes, and `NoMemory`.
 pub(crate) fn is_sound<S: Source>(alloc: Global, source: &mut S) -> Result<bool, InputFault>
     ensures sound { IfOk result (λ is. is ≡ true → IfSome (S.bytes source.old) (λ file. (t : Tree) × ∥ Denotes file t ∥₁)) }
+    ensures few { IfOk result (λ is. is ≡ true → IfSome (S.bytes source.old) (λ file. length file ≤ most)) }
     ensures refused { IfErr result (λ fault. IfSome (S.bytes source.old) (λ file. MayRefuseInput file fault)) }
     ensures kept { S.bytes source.new ≡ S.bytes source.old }
 {
@@ -57,11 +61,15 @@ fn read_front<S: Source>(alloc: Global, source: &mut S, size: usize) -> Result<V
 /// All bytes of a file.
 pub(crate) fn read_whole<S: Source>(alloc: Global, source: &mut S) -> Result<Vec<u8>, InputFault>
     ensures whole { IfOk result (λ bytes. IfSome (S.bytes source.old) (λ file. bytes.items ≡ file)) }
+    ensures few { IfOk result (λ _. IfSome (S.bytes source.old) (λ file. length file ≤ most)) }
     ensures refused { IfErr result (λ fault. IfSome (S.bytes source.old) (λ file. MayRefuseInput file fault)) }
 {
     let Ok(size) = source.size() else {
         return Err(InputFault::Unreadable);
     };
+    if size > MOST {
+        return Err(InputFault::TooBig);
+    }
     match read_front(alloc, source, size as usize) {
         Ok(bytes) => Ok(bytes),
         Err(fault) => Err(fault),
