@@ -22,7 +22,8 @@ pub(crate) const START: &str =
     "new d.ole 40 12\ninsert 1 note 0 0 20 5\ninsert 1 note 0 6 20 5\nstart\nstart\n";
 
 /// What is written before it is saved.
-const BEFORE: &str = "frame 1\nobject 1\nobject 2\nserver 1\nserver 2\nok\nok\nok\nok\nok\n";
+pub(crate) const BEFORE: &str =
+    "frame 1\nobject 1\nobject 2\nserver 1\nserver 2\nok\nok\nok\nok\nok\n";
 
 /// The most calls of a disk that are tried.
 const MOST_CALLS: u64 = 300;
@@ -220,7 +221,7 @@ fn a_save_of_two_servers_is_as_it_is_told_whichever_call_of_its_disk_fails(rt: H
 }
 
 /// What is written before the session is raised, where it is and two servers start, and where it is lost and then raised again.
-const INSERTED: &str = "frame 1\nobject 1\nobject 2\n";
+pub(crate) const INSERTED: &str = "frame 1\nobject 1\nobject 2\n";
 
 const TWO: &str = "server 1\nserver 2\n";
 

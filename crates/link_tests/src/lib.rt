@@ -1,4 +1,4 @@
-//! Tests of scripts by their public call, over servers in memory whose links fail, and of what their saves write.
+//! Tests of scripts by their public call, over servers in memory whose links fail or that memory is refused to, and of what their saves write.
 #![tactic(auto)]
 
 #[cfg(test)]
@@ -9,6 +9,8 @@ mod disks;
 mod ends;
 #[cfg(test)]
 mod given;
+#[cfg(test)]
+mod refusals;
 #[cfg(test)]
 mod saves;
 #[cfg(test)]

@@ -61,12 +61,16 @@ impl Server {
 
     /// Lets it go on until it has read all that was sent, or wants an object.
     pub(crate) fn serve(&mut self, alloc: Global) -> Result<Pause, AllocError> {
-        serve_link(
+        let pause = serve_link(
             alloc,
             &mut self.serving,
             &mut self.inward,
             &mut self.outward,
-        )
+        )?;
+        if self.outward.lacks() {
+            return Err(AllocError);
+        }
+        Ok(pause)
     }
 
     /// Offers it an object.

@@ -1,5 +1,5 @@
 //! A host whose servers are in memory, and of whose links one call fails as a test says. It has one file, whose disk's calls fail
-//! as a test says too.
+//! as a test says too, and it has no memory for one of its calls where a test says so.
 
 ghost use Rattle.script_model.specs.Histories.{told_in};
 ghost use Rattle.std.specs.Prelude.{◌≡◌, ◌<◌, ◌≤◌, [], IfSome, length};
@@ -28,7 +28,8 @@ pub(crate) enum Arrives {
     All,
 }
 
-/// The host. Calls of links, sends and reads alike, are counted from 0.
+/// The host. Calls of links, sends and reads alike, are counted from 0; and so are, by themselves, all starts, connections, sends and
+/// reads.
 #[derive(Drop)]
 pub(crate) struct Servers {
     alloc: Global,
@@ -38,6 +39,8 @@ pub(crate) struct Servers {
     calls: u64,
     failing: u64,
     arrives: Arrives,
+    asked: u64,
+    lacking: u64,
     disk: Option<MemoryDisk>,
     given: u32,
     failing_from: u32,
@@ -58,6 +61,8 @@ impl Servers {
             calls: 0,
             failing,
             arrives,
+            asked: 0,
+            lacking: u64::MAX,
             disk: MemoryDisk::new(alloc, Vec::new(alloc), Vec::new(alloc)).ok(),
             given: 0,
             failing_from: 0,
@@ -81,6 +86,18 @@ impl Servers {
     {
         self.failing_from = given;
         self.faults = faults;
+    }
+
+    /// It has no memory for this of its starts, connections, sends and reads.
+    pub(crate) fn lack_at(&mut self, lacking: u64)
+        ensures { ⟦<Servers as Host>⟧.told self.new ≡ ⟦<Servers as Host>⟧.told self.old }
+    {
+        self.lacking = lacking;
+    }
+
+    /// Whether the call was made for which it has no memory.
+    pub(crate) fn has_lacked(&self) -> bool {
+        self.asked > self.lacking
     }
 
     /// How often the disk was given to be saved on.
@@ -110,6 +127,15 @@ impl Servers {
         let fails = self.calls == self.failing;
         self.calls = self.calls.saturating_add(1);
         fails
+    }
+
+    /// Counts what it is asked, and tells whether it has no memory for it.
+    fn lacks(&mut self) -> bool
+        ensures history { self.new.history ≡ self.old.history }
+    {
+        let lacks = self.asked == self.lacking;
+        self.asked = self.asked.saturating_add(1);
+        lacks
     }
 
     /// Where a server stands.
@@ -189,6 +215,10 @@ impl Host for Servers {
     ghost told = { λ h. told_in h.history };
 
     fn start(&mut self, session: u32, inc: u32) -> Result<(), HostFault> {
+        if self.lacks() {
+            self.history.started(session, inc, false);
+            return Err(HostFault::NoMemory);
+        }
         match self.begin(session, inc) {
             Ok(()) => {
                 self.history.started(session, inc, true);
@@ -202,6 +232,10 @@ impl Host for Servers {
     }
 
     fn connect(&mut self, inc: u32) -> Result<(), HostFault> {
+        if self.lacks() {
+            self.history.connected(inc, false);
+            return Err(HostFault::NoMemory);
+        }
         match self.place(inc) {
             Some(place) => {
                 self.servers[place].connect(self.alloc);
@@ -216,22 +250,37 @@ impl Host for Servers {
     }
 
     fn send(&mut self, inc: u32, bytes: &[u8]) -> Result<(), HostFault> {
+        if self.lacks() {
+            self.history.sent(inc, bytes, false);
+            return Err(HostFault::NoMemory);
+        }
         let fails = self.fails();
         let len = if fails {
             self.arriving(bytes.len())
         } else {
             bytes.len()
         };
-        let is_sent = self.deliver(inc, &bytes[..len]).is_ok() && !fails;
-        self.history.sent(inc, bytes, is_sent);
-        if is_sent {
-            Ok(())
-        } else {
-            Err(HostFault::Failed)
+        match self.deliver(inc, &bytes[..len]) {
+            Ok(()) if !fails => {
+                self.history.sent(inc, bytes, true);
+                Ok(())
+            }
+            Ok(()) => {
+                self.history.sent(inc, bytes, false);
+                Err(HostFault::Failed)
+            }
+            Err(_) => {
+                self.history.sent(inc, bytes, false);
+                Err(HostFault::NoMemory)
+            }
         }
     }
 
     fn read(&mut self, inc: u32, into: &mut [u8]) -> Result<usize, HostFault> {
+        if self.lacks() {
+            self.history.heard(inc, &[], false);
+            return Err(HostFault::NoMemory);
+        }
         let fails = self.fails();
         match self.place(inc) {
             Some(place) if !fails => {

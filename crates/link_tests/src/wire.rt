@@ -36,10 +36,11 @@ impl Read for Inward {
     }
 }
 
-/// The bytes that come from a server.
+/// The bytes that come from a server, and whether there was no memory for some.
 #[derive(Drop)]
 pub(crate) struct Outward {
     bytes: Vec<u8>,
+    lacks: bool,
 }
 
 impl Outward {
@@ -47,7 +48,13 @@ impl Outward {
     pub(crate) fn new(alloc: Global) -> Outward {
         Outward {
             bytes: Vec::new(alloc),
+            lacks: false,
         }
+    }
+
+    /// Whether there was no memory for bytes that the server wrote.
+    pub(crate) fn lacks(&self) -> bool {
+        self.lacks
     }
 
     /// Takes what came from the server, as much as there is room for.
@@ -62,7 +69,10 @@ impl Write for Outward {
     fn write(&mut self, buf: &[u8]) -> io::Result<usize> {
         match self.bytes.extend_from_slice(buf) {
             Ok(()) => Ok(buf.len()),
-            Err(_) => Err(io::Error::from(ErrorKind::OutOfMemory)),
+            Err(_) => {
+                self.lacks = true;
+                Err(io::Error::from(ErrorKind::OutOfMemory))
+            }
         }
     }
 

@@ -1,5 +1,6 @@
 -- What a command sends a server, how often its link is made anew, and how often it is read.
-use Rattle.std.proofs.Common.{◌≡◌, ◌≤◌, ◌<◌, ◌+◌, ◌-◌, ◌==◌, ℕ, zero, suc, Bool, true, false, List, [], ◌∷◌, length, remove, drop, if◌then◌else◌, Result, OnOk, refl, sym, ap, ◌∙◌, subst, arith, slice_index_or, slice_set}
+use Rattle.std.proofs.Common.{◌≡◌, ◌≤◌, ◌<◌, ◌+◌, ◌-◌, ◌==◌, ℕ, zero, suc, Bool, true, false, List, [], ◌∷◌, length, remove, drop, if◌then◌else◌, Result, Ok, Err, OnOk, refl, sym, ap, ◌∙◌, subst, arith, slice_index_or, slice_set}
+use Rattle.std.specs.Prelude.{IfErr, IfOk, MatchResult, is_ok}
 use Rattle.std.proofs.lemmas.Bool.{eqb-true, eq-eqb}
 use Rattle.script_model.specs.Bounds.{IsWithin, Pace, linking, most_anew, pace, reading, resting, sending}
 use Rattle.script_model.specs.Events.{Event, Connected, Heard, Sent, running}
@@ -8,6 +9,9 @@ use Rattle.store_model.specs.declared.disk.Disk.{Ghosts as Disks}
 use Rattle.script_links.specs.Links.{AreLinked, links_of}
 use Rattle.script_links.specs.Ready.{AreDue, AreReady, GoesOn, HadTurn, HasLeft, HaveHad, IsReady, IsUnderway, MayLink, pace_beside}
 use Rattle.script_container.specs.Told.{IsTold}
+use Rattle.script_container.specs.declared.fault.ScriptFault.{ScriptFault}
+use Rattle.script_model.specs.declared.host.HostFault.{HostFault}
+use Rattle.script_model.specs.declared.host.HostFault.TheVariants as host
 use Rattle.script_links.specs.declared.links.Link.{Link}
 use Rattle.script_links.proofs.Served.{none_left, not_this, with_this}
 
@@ -155,6 +159,12 @@ sent_pace es after inc bytes ok is = ap (pace inc) is ∙ picked (inc == inc) (s
 
 pub read_pace : {D : Type 0} (es after : List (Event D)) (inc : ℕ) (bytes : List ℕ) (ok : Bool) → after ≡ Heard inc bytes ok ∷ es → pace inc after ≡ reading (pace inc es)
 read_pace es after inc bytes ok is = ap (pace inc) is ∙ picked (inc == inc) (reading (pace inc es)) (pace inc es) (eq-eqb inc inc refl)
+
+-- whether a link was made anew, where the host's want of memory is told apart
+pub made_so : (r : Result Bool ScriptFault) (answer : Result (Unit {0}) HostFault) (p now : Pace) → IfOk r (λ done. done ≡ is_ok answer) → IfErr r (λ _. answer ≡ Err host.NoMemory) → now ≡ linking (is_ok answer) p
+    → MatchResult r (λ made. now ≡ linking made p) (λ _. now ≡ linking false p)
+made_so (Ok done) answer p now is asked linked = linked ∙ ap (λ (b : Bool). linking b p) (sym is)
+made_so (Err fault) answer p now is asked linked = linked ∙ ap (λ (a : Result (Unit {0}) HostFault). linking (is_ok a) p) asked
 
 pub made_pace : {D : Type 0} (es after : List (Event D)) (inc : ℕ) (ok : Bool) → after ≡ Connected inc ok ∷ es → pace inc after ≡ linking ok (pace inc es)
 made_pace es after inc ok is = ap (pace inc) is ∙ picked (inc == inc) (linking ok (pace inc es)) (pace inc es) (eq-eqb inc inc refl)

@@ -9,13 +9,14 @@ ghost use Rattle.script_model.specs.Events.{running};
 ghost use Rattle.script_model.specs.Notices.{Notes, Notice, Tells, first_noticed, notices, refusal_noticed};
 ghost use Rattle.script_model.specs.Origins.{AreNext, fresh, giving, passed};
 ghost use Rattle.script_model.specs.Turns.{server_of, turn_of};
+ghost use Rattle.script_model.specs.declared.host.HostFault.TheVariants as host;
 ghost use Rattle.script_container.specs.Beside.{beside};
 ghost use Rattle.script_container.specs.Shown.{Shows};
 ghost use Rattle.script_container.specs.Told.{IsTold};
 ghost use Rattle.script_container.specs.declared.fault.ScriptFault.TheVariants.{NoMemory};
 ghost use Rattle.script_links.specs.Links.{IsServed};
 ghost use Rattle.script_links.specs.Ready.{GoesOn, HadTurn, HasLeft, IsReady, MayLink, pace_beside};
-ghost use Rattle.std.specs.Prelude.{◌≡◌, ◌≢◌, ◌++◌, ◌∷◌, [], IfErr, IfOk, OnOk, Option, false, ℕ};
+ghost use Rattle.std.specs.Prelude.{◌≡◌, ◌≢◌, ◌++◌, ◌∷◌, [], Err, IfErr, IfOk, MatchResult, OnOk, Option, false, is_ok, ℕ};
 
 use crate::waiting::Waiting;
 use container_core::container::ContainerCore;
@@ -28,7 +29,7 @@ use script_container::container::message;
 use script_container::fault::ScriptFault;
 use script_container::saves::{first_of, save_all};
 use script_model::answer::Told;
-use script_model::host::Host;
+use script_model::host::{Host, HostFault};
 use std::alloc::{AllocError, Global};
 use store_model::disk::Disk;
 use wire_msgs::message::{Message, Said};
@@ -117,6 +118,20 @@ fn turn_bytes(alloc: Global, core: &ContainerCore, inc: u32) -> Result<Vec<u8>, 
     Ok(out)
 }
 
+/// Whether a host did what it was asked for. Its want of memory ends the script, and is no failed link.
+fn is_done(answer: Result<(), HostFault>) -> Result<bool, ScriptFault>
+    ensures done { IfOk result (λ done. done ≡ is_ok answer) }
+    ensures lacking { IfErr result (λ fault. fault ≡ NoMemory) }
+    ensures asked { IfErr result (λ _. answer ≡ Err host.NoMemory) }
+    ensures refused { answer ≡ Err host.NoMemory → is_ok result ≡ false }
+{
+    match answer {
+        Ok(()) => Ok(true),
+        Err(HostFault::Failed) => Ok(false),
+        Err(HostFault::NoMemory) => Err(ScriptFault::NoMemory),
+    }
+}
+
 /// Sends a link its turn. Gives whether it was sent.
 pub fn send_turn<H: Host>(
     alloc: Global,
@@ -136,7 +151,7 @@ pub fn send_turn<H: Host>(
     ensures shown { IfErr result (λ fault. Shows ⟦<H::Disk as Disk>⟧ (H.told host.new) fault) }
 {
     let bytes = turn_bytes(alloc, core, inc)?;
-    Ok(host.send(inc, &bytes).is_ok())
+    is_done(host.send(inc, &bytes))
 }
 
 /// What is told of a refusal.
@@ -283,7 +298,8 @@ fn read_some<H: Host>(host: &mut H, link: &mut Link) -> Result<bool, ScriptFault
     let mut piece = [0u8; PIECE];
     let n = match host.read(link.inc, &mut piece) {
         Ok(n) => n,
-        Err(_) => return Ok(false),
+        Err(HostFault::Failed) => return Ok(false),
+        Err(HostFault::NoMemory) => return Err(ScriptFault::NoMemory),
     };
     if n == 0 {
         return Ok(false);
@@ -368,8 +384,10 @@ fn exchange<H: Host>(
     hear(alloc, host, core, link, noticed, reads)
 }
 
-/// Connects a link again: what came of the old connection and isn't carried out is dropped.
-pub fn reconnect<H: Host>(alloc: Global, host: &mut H, link: &mut Link) -> bool
+/// Connects a link again: what came of the old connection and isn't carried out is dropped. Gives whether it was made.
+///
+/// Refused for want of memory alone.
+pub fn reconnect<H: Host>(alloc: Global, host: &mut H, link: &mut Link) -> Result<bool, ScriptFault>
     requires served { IsServed (passed link.old.inc (H.told host.old)) link.old [] }
     requires may { MayLink (pace link.old.inc (H.told host.old)) }
     ensures told { (r : Record) → IsTold ⟦<H::Disk as Disk>⟧ (H.told host.old) r → IsTold ⟦<H::Disk as Disk>⟧ (H.told host.new) r }
@@ -378,13 +396,14 @@ pub fn reconnect<H: Host>(alloc: Global, host: &mut H, link: &mut Link) -> bool
     ensures apart { (s : ℕ) → beside link.old.inc s (H.told host.new) ≡ beside link.old.inc s (H.told host.old) }
     ensures served { IsServed (passed link.new.inc (H.told host.new)) link.new [] }
     ensures aside { (s : ℕ) → pace_beside link.old.inc s (H.told host.new) ≡ pace_beside link.old.inc s (H.told host.old) }
-    ensures linked { pace link.new.inc (H.told host.new) ≡ linking result (pace link.old.inc (H.told host.old)) }
+    ensures linked { MatchResult result (λ made. pace link.new.inc (H.told host.new) ≡ linking made (pace link.old.inc (H.told host.old))) (λ _. pace link.new.inc (H.told host.new) ≡ linking false (pace link.old.inc (H.told host.old))) }
     ensures ordered { course (H.told host.new) ≡ course (H.told host.old) }
     ensures noticed { notices (H.told host.new) ≡ notices (H.told host.old) }
+    ensures lacking { IfErr result (λ fault. fault ≡ NoMemory) }
     ensures holding { link.new.held ≡ link.old.held }
 {
     link.decoder = Decoder::new(alloc);
-    host.connect(link.inc).is_ok()
+    is_done(host.connect(link.inc))
 }
 
 /// A link's turn. One that fails is connected again, once. Gives whether the link stands.
@@ -417,7 +436,8 @@ pub fn serve<H: Host>(
         Heard::Failed => {}
         _ => return Ok(false),
     }
-    if !reconnect(alloc, host, link) {
+    let made = reconnect(alloc, host, link)?;
+    if !made {
         return Ok(false);
     }
     let heard = exchange(alloc, host, core, link, noticed, &mut reads)?;

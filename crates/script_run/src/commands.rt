@@ -24,7 +24,7 @@ ghost use Rattle.script_run.specs.Printed.{HasLine, IsBeginning, IsBegunWith, Is
 ghost use Rattle.script_run.specs.Starts.{AreIn};
 ghost use Rattle.script_container.specs.declared.fault.ScriptFault.TheVariants.{NoMemory, Unwritable};
 ghost use Rattle.script_links.specs.declared.links.Link.{Link};
-ghost use Rattle.std.specs.Prelude.{◌≡◌, ◌≢◌, ◌≤◌, ◌<◌, ◌++◌, ◌∷◌, Bool, [], false, true, IfErr, IfNone, IfOk, IfSome, List, OnOk, Some, length, ℕ, slice_index_or, slice_set, vec_capacity, vec_len};
+ghost use Rattle.std.specs.Prelude.{◌≡◌, ◌≢◌, ◌≤◌, ◌<◌, ◌++◌, ◌∷◌, Bool, [], false, true, IfErr, IfNone, IfOk, IfSome, List, MatchResult, OnOk, Some, length, ℕ, slice_index_or, slice_set, vec_capacity, vec_len};
 
 use crate::opens::open;
 use crate::refusals::refusal;
@@ -427,7 +427,8 @@ fn cut<H: Host>(
 {
     let inc = links[place].inc;
     send_turn(alloc, host, core, inc)?;
-    if reconnect_at(alloc, host, links, place) {
+    let made = reconnect_at(alloc, host, links, place)?;
+    if made {
         return Ok(());
     }
     end_at(alloc, host, core, links, place, noticed)
@@ -476,7 +477,14 @@ fn let_go(alloc: Global, links: &mut Vec<Link>, place: usize) -> Waiting
 }
 
 /// Connects the link at a place again. Gives whether it was made.
-fn reconnect_at<H: Host>(alloc: Global, host: &mut H, links: &mut Vec<Link>, place: usize) -> bool
+///
+/// Refused for want of memory alone.
+fn reconnect_at<H: Host>(
+    alloc: Global,
+    host: &mut H,
+    links: &mut Vec<Link>,
+    place: usize,
+) -> Result<bool, ScriptFault>
     requires within { place < length links.old.items }
     requires single { (s : ℕ) → running s (H.told host.old) ≤ 1 }
     requires linked { AreLinked (H.told host.old) links.old.items }
@@ -488,7 +496,8 @@ fn reconnect_at<H: Host>(alloc: Global, host: &mut H, links: &mut Vec<Link>, pla
     ensures many { length links.new.items ≡ length links.old.items }
     ensures same { (d : Link) → (slice_index_or links.new.items place d).inc ≡ (slice_index_or links.old.items place d).inc }
     ensures aside { (d : Link) (s : ℕ) → pace_beside (slice_index_or links.old.items place d).inc s (H.told host.new) ≡ pace_beside (slice_index_or links.old.items place d).inc s (H.told host.old) }
-    ensures made { (d : Link) → pace (slice_index_or links.old.items place d).inc (H.told host.new) ≡ linking result (pace (slice_index_or links.old.items place d).inc (H.told host.old)) }
+    ensures made { (d : Link) → MatchResult result (λ made. pace (slice_index_or links.old.items place d).inc (H.told host.new) ≡ linking made (pace (slice_index_or links.old.items place d).inc (H.told host.old))) (λ _. pace (slice_index_or links.old.items place d).inc (H.told host.new) ≡ linking false (pace (slice_index_or links.old.items place d).inc (H.told host.old))) }
+    ensures lacking { IfErr result (λ fault. fault ≡ NoMemory) }
     ensures ordered { course (H.told host.new) ≡ course (H.told host.old) }
     ensures noticed { notices (H.told host.new) ≡ notices (H.told host.old) }
     ensures holding { (f : ℕ → Bool) → HoldFor f links.old.items → HoldFor f links.new.items }

@@ -11,8 +11,11 @@ pub returns-in_default-clause-served : goal.returns-in_default-clause-served
 returns-in_default-clause-served g c =
     piece_heard (g.H.Host.told c.args.host.now) (g.H.Host.told c.read.new.self) c.args.link.now c.feed.new.self (take c.in-Ok.n c.read.new.into) c.feed.result (λ is. c.in_default.not-NoMemory (cc)) c.feed.ensures.fed c.in-Ok.ensures.told c.requires.served
 
-pub returns-in-Err-clause-read : goal.returns-in-Err-clause-read
-returns-in-Err-clause-read g c = read_pace (g.H.Host.told c.args.host.now) (g.H.Host.told c.read.new.self) c.args.link.now.inc _ _ c.in-Err.ensures.told
+pub returns-in-Err-Failed-clause-read : goal.returns-in-Err-Failed-clause-read
+returns-in-Err-Failed-clause-read g c = read_pace (g.H.Host.told c.args.host.now) (g.H.Host.told c.read.new.self) c.args.link.now.inc _ _ c.in-Err-Failed.ensures.told
+
+pub returns-in-Err-NoMemory-clause-read : goal.returns-in-Err-NoMemory-clause-read
+returns-in-Err-NoMemory-clause-read g c = read_pace (g.H.Host.told c.args.host.now) (g.H.Host.told c.read.new.self) c.args.link.now.inc _ _ c.in-Err-NoMemory.ensures.told
 
 pub returns-then-n-eq0-clause-read : goal.returns-then-n-eq0-clause-read
 returns-then-n-eq0-clause-read g c = read_pace (g.H.Host.told c.args.host.now) (g.H.Host.told c.read.new.self) c.args.link.now.inc _ _ c.in-Ok.ensures.told

@@ -1,6 +1,5 @@
-use Rattle.std.proofs.Common.{Bool, ap, sym, ◌∙◌}
-use Rattle.script_model.specs.Bounds.{linking, pace}
-use Rattle.script_links.proofs.Paces.{connected_told, made_pace}
+use Rattle.script_model.specs.Bounds.{pace}
+use Rattle.script_links.proofs.Paces.{connected_told, made_pace, made_so}
 use Rattle.script_links.proofs.Served.{reconnected}
 use Rattle.script_links.proofs.links.reconnect.Goals as goal
 
@@ -9,8 +8,8 @@ returns-clause-served g c = reconnected (g.H.Host.told c.args.host.now) (g.H.Hos
 
 pub returns-clause-linked : goal.returns-clause-linked
 returns-clause-linked g c =
-    made_pace (g.H.Host.told c.args.host.now) (g.H.Host.told c.connect.new.self) c.args.link.now.inc _ c.connect.ensures
-    ∙ ap (λ (b : Bool). linking b (pace c.args.link.now.inc (g.H.Host.told c.args.host.now))) (sym c.is_ok.ensures.value)
+    made_so c.is_done.result c.connect.result (pace c.args.link.now.inc (g.H.Host.told c.args.host.now)) (pace c.args.link.now.inc (g.H.Host.told c.connect.new.self)) c.is_done.ensures.done c.is_done.ensures.asked
+    (made_pace (g.H.Host.told c.args.host.now) (g.H.Host.told c.connect.new.self) c.args.link.now.inc _ c.connect.ensures)
 
 pub returns-clause-told : goal.returns-clause-told
 returns-clause-told g c = λ r told. connected_told (g.H.Host.told c.args.host.now) (g.H.Host.told c.connect.new.self) r c.args.link.now.inc _ c.connect.ensures c.requires.may told

@@ -1,11 +1,18 @@
 use Rattle.std.proofs.Common.{◌≡◌, rules}
+use Rattle.script_model.specs.Bounds.{pace, sending}
 use Rattle.script_links.proofs.Paces.{sent_pace}
+use Rattle.script_links.proofs.Served.{on_ok}
 use Rattle.std.specs.Result.{IsErrAnd}
-use Rattle.script_container.proofs.Shown.{lacking_on}
+use Rattle.script_container.proofs.Shown.{lacking_on, memory_shown}
 use Rattle.script_links.proofs.links.send_turn.Goals as goal
 
 pub returns-clause-sent : goal.returns-clause-sent
-returns-clause-sent g c = sent_pace (g.H.Host.told c.args.host.now) (g.H.Host.told c.send.new.self) c.args.inc _ _ c.send.ensures
+returns-clause-sent g c =
+    on_ok c.is_done.result (pace c.args.inc (g.H.Host.told c.send.new.self) ≡ sending (pace c.args.inc (g.H.Host.told c.args.host.now)))
+    (sent_pace (g.H.Host.told c.args.host.now) (g.H.Host.told c.send.new.self) c.args.inc _ _ c.send.ensures)
+
+pub returns-clause-shown : goal.returns-clause-shown
+returns-clause-shown g c = memory_shown g.H.Disk.Disk c.is_done.result (g.H.Host.told c.send.new.self) c.is_done.ensures.lacking
 
 pub returns-in_err-bytes-clause-shown : goal.returns-in_err-bytes-clause-shown
 returns-in_err-bytes-clause-shown g c =

@@ -1,4 +1,5 @@
-use Rattle.std.proofs.Common.{◌≡◌, ℕ, ap, subst, sym, ◌∙◌}
+use Rattle.std.proofs.Common.{◌≡◌, ℕ, ap, false, subst, sym, ◌∙◌}
+use Rattle.std.specs.Prelude.{MatchResult}
 use Rattle.script_model.specs.Bounds.{linking, pace}
 use Rattle.script_links.specs.declared.links.Link.{Link}
 use Rattle.script_links.specs.Ready.{MayLink, pace_beside}
@@ -33,9 +34,10 @@ returns-clause-aside g c = λ d.
 
 pub returns-clause-made : goal.returns-clause-made
 returns-clause-made g c = λ d.
-    subst (λ (l : Link). pace l.inc (g.H.Host.told c.reconnect.new.host) ≡ linking c.reconnect.result (pace l.inc (g.H.Host.told c.args.host.now)))
+    subst (λ (l : Link). MatchResult c.reconnect.result (λ made. pace l.inc (g.H.Host.told c.reconnect.new.host) ≡ linking made (pace l.inc (g.H.Host.told c.args.host.now))) (λ _. pace l.inc (g.H.Host.told c.reconnect.new.host) ≡ linking false (pace l.inc (g.H.Host.told c.args.host.now))))
     (c.index_mut.ensures.value ∙ any_at c.args.links.now.items c.args.place c.index_mut.result.now d c.requires.within)
-    (subst (λ (i : ℕ). pace i (g.H.Host.told c.reconnect.new.host) ≡ linking c.reconnect.result (pace c.index_mut.result.now.inc (g.H.Host.told c.args.host.now))) c.reconnect.ensures.same c.reconnect.ensures.linked)
+    (subst (λ (i : ℕ). MatchResult c.reconnect.result (λ made. pace i (g.H.Host.told c.reconnect.new.host) ≡ linking made (pace c.index_mut.result.now.inc (g.H.Host.told c.args.host.now))) (λ _. pace i (g.H.Host.told c.reconnect.new.host) ≡ linking false (pace c.index_mut.result.now.inc (g.H.Host.told c.args.host.now))))
+    c.reconnect.ensures.same c.reconnect.ensures.linked)
 
 pub returns-clause-holding : goal.returns-clause-holding
 returns-clause-holding g c = λ f hold.
