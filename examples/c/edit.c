@@ -2,7 +2,7 @@
  *
  *     edit FILE < LINES > NEW
  *
- * The status is 3 where the file or a line is refused, whose fault is named on standard error. */
+ * The status is 3 where the file or a line is refused, whose fault is named on standard error, behind the number of the line. */
 
 #include "olecon.h"
 
@@ -48,28 +48,31 @@ static struct bytes read_all(FILE *file) {
     return bytes;
 }
 
-static void refuse(uint32_t fault) {
+static void refuse(uint32_t fault, size_t line) {
     char name[32];
     size_t len = 0;
     olecon_fault_name(fault, (uint8_t *)name, sizeof name - 1, &len);
     name[len] = 0;
+    if (line > 0) {
+        fprintf(stderr, "line %zu: ", line);
+    }
     stop(name);
 }
 
 /* One call for the length of the new file, and one for the file. */
 static struct bytes edited(struct bytes file, struct bytes lines) {
     struct bytes out = {grown(NULL, 1), 0};
-    size_t needed = 0;
+    size_t needed = 0, line = 0;
     uint32_t fault = OLECON_NO_ROOM;
     while (fault == OLECON_NO_ROOM) {
         if (needed > 0) {
             out.at = grown(out.at, needed);
             out.len = needed;
         }
-        fault = olecon_edit(file.at, file.len, lines.at, lines.len, out.at, out.len, &needed);
+        fault = olecon_edit_line(file.at, file.len, lines.at, lines.len, out.at, out.len, &needed, &line);
     }
     if (fault != OLECON_DONE) {
-        refuse(fault);
+        refuse(fault, line);
     }
     return out;
 }

@@ -4,7 +4,7 @@ linked from libolecon:
 
     edit.py LIBRARY FILE < LINES > NEW
 
-The status is 3 where the file or a line is refused, whose fault is named on standard error.
+The status is 3 where the file or a line is refused, whose fault is named on standard error, behind the number of the line.
 """
 
 import ctypes
@@ -20,9 +20,10 @@ def main():
     library = ctypes.CDLL(sys.argv[1])
     with open(sys.argv[2], "rb") as file:
         content = file.read()
-    fault, out = answered(library.olecon_edit, content, sys.stdin.buffer.read())
+    line = ctypes.c_size_t(0)
+    fault, out = answered(library.olecon_edit_line, content, sys.stdin.buffer.read(), told=[line])
     if fault:
-        print(named(library, fault), file=sys.stderr)
+        print(f"line {line.value}: " * (line.value > 0) + named(library, fault), file=sys.stderr)
         return 3
     sys.stdout.buffer.write(out)
     return 0

@@ -13,15 +13,16 @@ import sys
 NO_ROOM = 1
 
 
-def answered(call, *inputs):
-    """The fault and the bytes that a call answers: asked once for their number, and once for the bytes."""
+def answered(call, *inputs, told=()):
+    """The fault and the bytes that a call answers, which tells more in `told`: asked once for their number, and once for the bytes."""
     words = [word for text in inputs for word in (text, ctypes.c_size_t(len(text)))]
     needed = ctypes.c_size_t(0)
     out = ctypes.create_string_buffer(1)
-    fault = call(*words, out, ctypes.c_size_t(0), ctypes.byref(needed))
+    more = [ctypes.byref(number) for number in told]
+    fault = call(*words, out, ctypes.c_size_t(0), ctypes.byref(needed), *more)
     if fault == NO_ROOM:
         out = ctypes.create_string_buffer(needed.value)
-        fault = call(*words, out, needed, ctypes.byref(needed))
+        fault = call(*words, out, needed, ctypes.byref(needed), *more)
     return fault, out.raw[: needed.value]
 
 

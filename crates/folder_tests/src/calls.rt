@@ -1,7 +1,7 @@
 //! The calls that other languages have, on the happy path and without room.
 
-use library_calls::calls::{clean, fault_name, get, lines, list, make};
-use library_calls::editing::edit;
+use library_calls::calls::{clean, fault_name, get, lines, list, make, make_line};
+use library_calls::editing::{edit, edit_line};
 use library_calls::numbers::{BAD_PATH, DONE, NO_ROOM};
 use listing_forms::json_form::Json;
 use listing_forms::long_form::Long;
@@ -50,6 +50,22 @@ fn is_edited(alloc: Global, file: &[u8]) -> bool {
         && gives(alloc, Call::Get, &edited, b"\x04\x05\x06".as_slice())
 }
 
+/// Whether a description is refused for its second line.
+fn is_refused_by_line(alloc: Global, description: &[u8]) -> bool {
+    let mut out = [0; 16];
+    let mut needed = 0;
+    let mut line = 0;
+    make_line(alloc, description, &mut out, &mut needed, &mut line) > NO_ROOM && line == 2
+}
+
+/// Whether an edit of a file is refused for its second line.
+fn is_edit_refused_by_line(alloc: Global, file: &[u8], text: &[u8]) -> bool {
+    let mut out = [0; 16];
+    let mut needed = 0;
+    let mut line = 0;
+    edit_line(alloc, file, text, &mut out, &mut needed, &mut line) > NO_ROOM && line == 2
+}
+
 fn is_named(number: u32, want: &[u8]) -> bool {
     let mut out = [0; 16];
     let mut needed = 0;
@@ -85,5 +101,13 @@ fn calls_answer(rt: HostRuntime) {
         "get"
     );
     assert!(rt; is_edited(rt.alloc(), &file), "edit");
+    assert!(rt;
+        is_refused_by_line(rt.alloc(), b"storage A\nstream A -\n".as_slice()),
+        "a line"
+    );
+    assert!(rt;
+        is_edit_refused_by_line(rt.alloc(), &file, b"remove A\nfile A name\n".as_slice()),
+        "a line of an edit"
+    );
     assert!(rt; is_named(BAD_PATH, b"BadPath".as_slice()), "a name");
 }

@@ -1,14 +1,13 @@
 -- What calls answer, told otherwise.
-use Rattle.std.proofs.Common.{◌≡◌, ◌<◌, ℕ, List, Result, Ok, Err, IfErr, inl, inr, refl, subst}
+use Rattle.std.proofs.Common.{◌≡◌, ℕ, List, Result, Ok, Err, IfErr, inl, inr, refl, subst}
 use Rattle.cfb_header.specs.Header.{header_read}
 use Rattle.cfb_header.specs.declared.fault.ChainFault.{ChainFault}
 use Rattle.storage_tree.specs.Kept.{Kept}
 use Rattle.storage_tree.specs.Tree.{Tree}
 use Rattle.storage_tree.specs.declared.tree.Tree.{Tree as BuiltTree}
 use Rattle.file_model.specs.Denotes.{Denotes}
-use Rattle.file_making.specs.Run.{IsMade}
 use Rattle.tree_descriptions.specs.Description.{described}
-use Rattle.library_calls.specs.Answers.{Answers}
+use Rattle.library_calls.specs.Answers.{Answers, AnswersAt}
 use Rattle.file_model.specs.declared.fault.WriteFault.TheVariants.{TooBig}
 use Rattle.stream_io.proofs.ReadingTold.{read_refused}
 use Rattle.stream_io.specs.Reads.{MayRefuseFile, chain_fault}
@@ -30,10 +29,10 @@ pub unread : {A : Type 0} (file : List ℕ) (r : Result A ReadFault) (fault : Re
 unread file r fault number is told header reads refused = inr (fault, told, read_refused file r fault is header reads refused)
 
 -- a described tree whose streams have more bytes than a file
-pub outlined : (text : List ℕ) (d : Described) (t : BuiltTree) → d ≡ Outline t → Describes text d → IsRefusedMake text 3
+pub outlined : (text : List ℕ) (d : Described) (t : BuiltTree) → d ≡ Outline t → Describes text d → IsRefusedMake text 0 3
 outlined text d t is made =
     let told : Describes text (Outline t) = subst (Describes text) is made in
-    inr (told.1.0, told.1.1, (TooBig, refl, too_large told.1.0.now told.1.2.1))
+    inr (refl, told.1.0, told.1.1, (TooBig, refl, too_large told.1.0.now told.1.2.1))
 
 module _ (result : ℕ) (old new : List ℕ) (needed : ℕ) where
   -- what is put is told otherwise, and what a fault means
@@ -42,12 +41,17 @@ module _ (result : ℕ) (old new : List ℕ) (needed : ℕ) where
   answers_of P Q F G is fault (inl (bytes, told, put, count)) = inl (bytes, is bytes told, put, count)
   answers_of P Q F G is fault (inr (above, told, same, none)) = inr (above, fault told, same, none)
 
+  -- no line is told
+  pub without_line : (P : List ℕ → Type 0) (F : ℕ → ℕ → Type 0) (line : ℕ) → AnswersAt P F result old new needed line
+      → Answers P (λ number. (n : ℕ) × F n number) result old new needed
+  without_line P F line (inl (bytes, told, put, count, none)) = inl (bytes, told, put, count)
+  without_line P F line (inr (above, told, same, none)) = inr (above, (line, told), same, none)
+
   -- the file of a described tree
   pub made_of : (text : List ℕ) (k : Kept) → described text ≡ Ok k → Answers (IsFileOf k.now) (IsUnwritten k.now) result old new needed
-      → Answers (IsMadeOf text) (IsRefusedMake text) result old new needed
-  made_of text k is = answers_of (IsFileOf k.now) (IsMadeOf text) (IsUnwritten k.now) (IsRefusedMake text)
-      (λ bytes file. record { k = k; describes = is; denotes = file.0; laid_out = file.1 })
-      (λ fault. inr (k, is, fault))
+      → AnswersAt (IsMadeOf text) (IsRefusedMake text) result old new needed 0
+  made_of text k is (inl (bytes, file, put, count)) = inl (bytes, record { k = k; describes = is; denotes = file.0; laid_out = file.1 }, put, count, refl)
+  made_of text k is (inr (above, fault, same, none)) = inr (above, inr (refl, k, is, fault), same, none)
 
   -- the file of a tree that was read
   pub clean_of : (file : List ℕ) (t : Tree) → ∥ Denotes file t ∥₁ → Answers (IsFileOf t) (IsUnwritten t) result old new needed

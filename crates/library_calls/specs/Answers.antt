@@ -12,3 +12,9 @@ abbrev pub Answers : (List ℕ → Type 0) → (ℕ → Type 0) → ℕ → List
 Answers P IsFault result old new needed =
     ((bytes : List ℕ) × P bytes × IsPut result old new bytes × (needed ≡ length bytes))
     ⊎ ((1 < result) × IsFault result × (new ≡ old) × (needed ≡ 0))
+
+-- likewise, with the number of the line that is refused; 0 where none is
+abbrev pub AnswersAt : (List ℕ → Type 0) → (ℕ → ℕ → Type 0) → ℕ → List ℕ → List ℕ → ℕ → ℕ → Type 0
+AnswersAt P IsFault result old new needed line =
+    ((bytes : List ℕ) × P bytes × IsPut result old new bytes × (needed ≡ length bytes) × (line ≡ 0))
+    ⊎ ((1 < result) × IsFault line result × (new ≡ old) × (needed ≡ 0))

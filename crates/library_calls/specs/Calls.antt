@@ -18,6 +18,8 @@ use Rattle.texts.specs.Input.{most}
 use Rattle.texts.specs.Paths.{path_read}
 use Rattle.tree_descriptions.specs.Description.{RefusesDescription, described}
 use Rattle.tree_descriptions.specs.declared.fault.LineFault.{LineFault}
+use Rattle.tree_descriptions.specs.declared.fault.TextFault.{TextFault}
+use Rattle.tree_descriptions.specs.declared.fault.TextFault.TheVariants.{Input, Line}
 use Rattle.file_commands.specs.Listing.{listing}
 use Rattle.file_making.specs.Run.{IsMade}
 use Rattle.library_calls.specs.Numbers.{directory_number, line_number, read_number, tree_number, write_number}
@@ -88,13 +90,20 @@ IsRefusedBy file word number =
 abbrev pub IsMadeOf : List ℕ → List ℕ → Type 0
 IsMadeOf text bytes = IsMade text bytes
 
--- The text is too big; or no memory was left for it; or a line of it is refused.
-abbrev pub IsRefusedText : List ℕ → ℕ → Type 0
-IsRefusedText text number =
-    IsTooBig text number
-    ⊎ (number ≡ 2)
-    ⊎ ((n : ℕ) × (fault : LineFault) × (number ≡ line_number fault) × RefusesDescription text (n, fault))
+-- the line of a fault of a text; 0 where it is of none
+abbrev pub text_line : TextFault → ℕ
+text_line (Input fault) = 0
+text_line (Line n fault) = n
 
--- likewise; or the file of its tree isn't written
-abbrev pub IsRefusedMake : List ℕ → ℕ → Type 0
-IsRefusedMake text number = IsRefusedText text number ⊎ ((k : Kept) × (described text ≡ Ok k) × IsUnwritten k.now number)
+-- The text is too big, or no memory was left for it, and no line is told; or this line of it is refused.
+abbrev pub IsRefusedText : List ℕ → ℕ → ℕ → Type 0
+IsRefusedText text line number =
+    ((line ≡ 0) × IsTooBig text number)
+    ⊎ ((line ≡ 0) × (number ≡ 2))
+    ⊎ ((fault : LineFault) × (number ≡ line_number fault) × RefusesDescription text (line, fault))
+
+-- likewise; or the file of its tree isn't written, and no line is told
+abbrev pub IsRefusedMake : List ℕ → ℕ → ℕ → Type 0
+IsRefusedMake text line number =
+    IsRefusedText text line number
+    ⊎ ((line ≡ 0) × (k : Kept) × (described text ≡ Ok k) × IsUnwritten k.now number)

@@ -9,32 +9,48 @@ use Rattle.edit_lines.specs.declared.change.Change.{Change}
 use Rattle.edit_lines.specs.declared.change.Line.{Line}
 use Rattle.file_editing.specs.Edits.{IsEdit, MayRefuseUpdate}
 use Rattle.file_editing.specs.declared.fault.EditFault.{EditFault}
+use Rattle.file_editing.specs.declared.fault.EditFault.TheVariants as edit
+use Rattle.library_calls.specs.declared.editing.LinesFault.{LinesFault}
+use Rattle.library_calls.specs.declared.editing.LinesFault.TheVariants as lines_fault
 use Rattle.library_calls.specs.Numbers.{edit_number, syntax_number}
 
 -- In memory no file has a name, so a line that names one gives nothing.
 abbrev pub no_file : List ℕ → List ℕ → Type 0
 no_file name bytes = ⊥
 
--- a file of the tree that changes make of another's, and why there is none
-abbrev pub IsRefusedUpdate : List ℕ → List (ℕ × Change) → ℕ → Type 0
-IsRefusedUpdate file changes number = (fault : EditFault) × (number ≡ edit_number fault) × MayRefuseUpdate changes file fault
+-- the line of a fault of an edit; 0 where it is of none
+abbrev pub edit_line : EditFault → ℕ
+edit_line (edit.Store fault) = 0
+edit_line (edit.Read fault) = 0
+edit_line (edit.Line n fault) = n
+edit_line (edit.Write fault) = 0
+
+-- why there is no file of the tree that changes make of another's, and which line is refused
+abbrev pub IsRefusedUpdate : List ℕ → List (ℕ × Change) → ℕ → ℕ → Type 0
+IsRefusedUpdate file changes line number =
+    (fault : EditFault) × (line ≡ edit_line fault) × (number ≡ edit_number fault) × MayRefuseUpdate changes file fault
+
+-- when lines ask for no changes: one names a file, or no memory was left
+abbrev pub MayRefuseLines : List (ℕ × Line) → LinesFault → Type 0
+MayRefuseLines lines (lines_fault.Named n) = (name : List ℕ) × (named : IsNamed lines name) × (n ≡ named.n)
+MayRefuseLines lines lines_fault.NoMemory = Unit {0}
 
 -- likewise of the changes that lines ask for: one that names a file is refused
 abbrev pub IsEditedBy : List ℕ → List (ℕ × Line) → List ℕ → Type 0
 IsEditedBy file lines bytes = (changes : List (ℕ × Change)) × AreGiven no_file lines changes × IsEdit changes file bytes
 
-abbrev pub IsRefusedBy : List ℕ → List (ℕ × Line) → ℕ → Type 0
-IsRefusedBy file lines number =
-    ((number ≡ 4) × (name : List ℕ) × IsNamed lines name)
-    ⊎ (number ≡ 2)
-    ⊎ ((changes : List (ℕ × Change)) × AreGiven no_file lines changes × IsRefusedUpdate file changes number)
+abbrev pub IsRefusedBy : List ℕ → List (ℕ × Line) → ℕ → ℕ → Type 0
+IsRefusedBy file lines line number =
+    ((number ≡ 4) × MayRefuseLines lines (lines_fault.Named line))
+    ⊎ ((number ≡ 2) × (line ≡ 0))
+    ⊎ ((changes : List (ℕ × Change)) × AreGiven no_file lines changes × IsRefusedUpdate file changes line number)
 
 -- likewise of the lines of a text
 abbrev pub IsEdited : List ℕ → List ℕ → List ℕ → Type 0
 IsEdited file text bytes = (lines : List (ℕ × Line)) × (text_read numbered_read text ≡ Ok lines) × IsEditedBy file lines bytes
 
-abbrev pub IsRefusedEdit : List ℕ → List ℕ → ℕ → Type 0
-IsRefusedEdit file text number =
-    ((number ≡ 3) × (most < length text))
-    ⊎ ((n : ℕ) × (fault : SyntaxFault) × (number ≡ syntax_number fault) × RefusesText numbered_read text (n, fault))
-    ⊎ ((lines : List (ℕ × Line)) × (text_read numbered_read text ≡ Ok lines) × IsRefusedBy file lines number)
+abbrev pub IsRefusedEdit : List ℕ → List ℕ → ℕ → ℕ → Type 0
+IsRefusedEdit file text line number =
+    ((number ≡ 3) × (line ≡ 0) × (most < length text))
+    ⊎ ((fault : SyntaxFault) × (number ≡ syntax_number fault) × RefusesText numbered_read text (line, fault))
+    ⊎ ((lines : List (ℕ × Line)) × (text_read numbered_read text ≡ Ok lines) × IsRefusedBy file lines line number)

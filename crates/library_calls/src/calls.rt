@@ -2,9 +2,9 @@
 //! answer has, and answers `DONE`; `NO_ROOM`, with `needed` told, where the place is too short; else the number of a fault. Bytes in
 //! memory are always read, and a place of the caller's is always written to: no fault is told of either.
 
-ghost use Rattle.library_calls.specs.Answers.{Answers, IsPut};
+ghost use Rattle.library_calls.specs.Answers.{Answers, AnswersAt, IsPut};
 ghost use Rattle.library_calls.specs.Numbers.{number_name};
-ghost use Rattle.library_calls.specs.Calls.{IsCleanOf, IsFileOf, IsGot, IsGotBy, IsListed, IsListedAs, IsMadeOf, IsRefusedBy, IsRefusedClean, IsRefusedGet, IsRefusedList, IsRefusedMake, IsRefusedText, IsUnread, IsUnwritten};
+ghost use Rattle.library_calls.specs.Calls.{IsCleanOf, IsFileOf, IsGot, IsGotBy, IsListed, IsListedAs, IsMadeOf, IsRefusedBy, IsRefusedClean, IsRefusedGet, IsRefusedList, IsRefusedMake, IsRefusedText, IsUnread, IsUnwritten, text_line};
 ghost use Rattle.file_model.specs.Denotes.{Denotes};
 ghost use Rattle.file_model.specs.Outline.{outline_of};
 ghost use Rattle.file_outline.specs.View.{outline_view};
@@ -90,17 +90,47 @@ pub fn lines(alloc: Global, file: &[u8], out: &mut [u8], needed: &mut usize) -> 
 
 /// The file of the tree that a description describes.
 ///
+/// Refused: as `make_line`.
+pub fn make(alloc: Global, description: &[u8], out: &mut [u8], needed: &mut usize) -> u32
+    ensures { Answers (IsMadeOf description.now) (λ number. (line : ℕ) × IsRefusedMake description.now line number) result out.old out.new needed.new }
+{
+    let mut line = 0;
+    make_line(alloc, description, out, needed, &mut line)
+}
+
+/// The same, and tells in `line` the number of the line that is refused, from 1; 0 where none is.
+///
 /// Refused: `TOO_BIG` where the description has more than 134,217,728 bytes; `NO_MEMORY`; its first line that is outside the grammar,
 /// or else the first that can't be carried out; a tree that doesn't fit into a file.
-pub fn make(alloc: Global, description: &[u8], out: &mut [u8], needed: &mut usize) -> u32
-    ensures { Answers (IsMadeOf description.now) (IsRefusedMake description.now) result out.old out.new needed.new }
+pub fn make_line(
+    alloc: Global,
+    description: &[u8],
+    out: &mut [u8],
+    needed: &mut usize,
+    line: &mut usize,
+) -> u32
+    ensures { AnswersAt (IsMadeOf description.now) (IsRefusedMake description.now) result out.old out.new needed.new line.new }
 {
     *needed = 0;
+    *line = 0;
     let mut source = description;
     match describe(alloc, &mut source) {
         Ok(Described::Whole(tree)) => put_file(alloc, &tree, out, needed),
         Ok(Described::Outline(_)) => TOO_BIG,
-        Err(fault) => text_number(fault),
+        Err(fault) => {
+            *line = text_line(fault);
+            text_number(fault)
+        }
+    }
+}
+
+/// The line of a fault of a description; 0 where it is of none.
+fn text_line(fault: TextFault) -> usize
+    ensures { result ≡ text_line fault }
+{
+    match fault {
+        TextFault::Input(_) => 0,
+        TextFault::Line(number, _) => number,
     }
 }
 
@@ -118,7 +148,7 @@ fn put_file(alloc: Global, tree: &BuiltTree, out: &mut [u8], needed: &mut usize)
 /// The number of a fault of a description in memory, which is always read.
 fn text_number(fault: TextFault) -> u32
     ensures fault { 1 < result }
-    ensures told { (text : List ℕ) → MayRefuseText text fault → IsRefusedText text result }
+    ensures told { (text : List ℕ) → MayRefuseText text fault → IsRefusedText text (text_line fault) result }
 {
     match fault {
         TextFault::Input(InputFault::TooBig) => TOO_BIG,

@@ -4,6 +4,7 @@
 
 pub mod calls;
 pub mod editing;
+pub mod laws;
 mod limit;
 pub mod numbers;
 mod placing;

@@ -1,13 +1,13 @@
 //! The library for other languages: the calls of `library_calls` under the names of C (`olecon.h`).
 #![tactic(auto)]
 
-ghost use Rattle.library_calls.specs.Answers.{Answers, IsPut};
+ghost use Rattle.library_calls.specs.Answers.{Answers, AnswersAt, IsPut};
 ghost use Rattle.library_calls.specs.Calls.{IsCleanOf, IsGotBy, IsListed, IsListedAs, IsMadeOf, IsRefusedBy, IsRefusedClean, IsRefusedList, IsRefusedMake};
 ghost use Rattle.library_calls.specs.Edits.{IsEdited, IsRefusedEdit};
 ghost use Rattle.library_calls.specs.Numbers.{number_name};
 ghost use Rattle.listing_forms.specs.Json.{json_listed};
 ghost use Rattle.listing_forms.specs.Placed.{placed_view};
-ghost use Rattle.std.specs.Prelude.{◌≡◌, length};
+ghost use Rattle.std.specs.Prelude.{◌≡◌, length, ℕ};
 
 use library_calls::{calls, editing};
 use listing_forms::json_form::Json;
@@ -56,9 +56,23 @@ pub extern "C" fn olecon_make(
     out: &mut [u8],
     needed: &mut usize,
 ) -> u32
-    ensures { Answers (IsMadeOf description.now) (IsRefusedMake description.now) result out.old out.new needed.new }
+    ensures { Answers (IsMadeOf description.now) (λ number. (line : ℕ) × IsRefusedMake description.now line number) result out.old out.new needed.new }
 {
     calls::make(alloc, description, out, needed)
+}
+
+/// The file that a description describes, or the line of it that is refused.
+#[unsafe(no_mangle)]
+pub extern "C" fn olecon_make_line(
+    alloc: Global,
+    description: &[u8],
+    out: &mut [u8],
+    needed: &mut usize,
+    line: &mut usize,
+) -> u32
+    ensures { AnswersAt (IsMadeOf description.now) (IsRefusedMake description.now) result out.old out.new needed.new line.new }
+{
+    calls::make_line(alloc, description, out, needed, line)
 }
 
 /// A file of the same storages and streams, and nothing else.
@@ -83,9 +97,24 @@ pub extern "C" fn olecon_edit(
     out: &mut [u8],
     needed: &mut usize,
 ) -> u32
-    ensures { Answers (IsEdited file.now lines.now) (IsRefusedEdit file.now lines.now) result out.old out.new needed.new }
+    ensures { Answers (IsEdited file.now lines.now) (λ number. (line : ℕ) × IsRefusedEdit file.now lines.now line number) result out.old out.new needed.new }
 {
     editing::edit(alloc, file, lines, out, needed)
+}
+
+/// The file of the tree that the lines of a text make of another file's, or the line that is refused.
+#[unsafe(no_mangle)]
+pub extern "C" fn olecon_edit_line(
+    alloc: Global,
+    file: &[u8],
+    lines: &[u8],
+    out: &mut [u8],
+    needed: &mut usize,
+    line: &mut usize,
+) -> u32
+    ensures { AnswersAt (IsEdited file.now lines.now) (IsRefusedEdit file.now lines.now) result out.old out.new needed.new line.new }
+{
+    editing::edit_line(alloc, file, lines, out, needed, line)
 }
 
 /// The name of the fault of a number.
