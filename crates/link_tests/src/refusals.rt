@@ -119,7 +119,7 @@ fn shown_behind(rt: &impl Abort, alloc: Global, script: &str) -> Vec<u8> {
     shown
 }
 
-fn shown(rt: &impl Abort, alloc: Global) -> Shown {
+fn all_shown(rt: &impl Abort, alloc: Global) -> Shown {
     Shown {
         old: shown_behind(rt, alloc, START),
         new: shown_behind(rt, alloc, SCRIPT),
@@ -164,7 +164,7 @@ fn play(rt: &impl Abort, alloc: Global, lacking: u64, is_marked: bool) -> (End, 
 #[test]
 fn a_script_ends_for_want_of_memory_or_as_wanted(rt: HostRuntime) {
     let alloc = rt.alloc();
-    let shown = shown(&rt, alloc);
+    let shown = all_shown(&rt, alloc);
     let (end, _, disk) = play(&rt, alloc, u64::MAX, true);
     assert!(rt; may_leave(end, &look(&rt, alloc, disk), &shown));
 }
@@ -172,7 +172,7 @@ fn a_script_ends_for_want_of_memory_or_as_wanted(rt: HostRuntime) {
 #[test]
 fn a_host_without_memory_ends_the_script(rt: HostRuntime) {
     let alloc = rt.alloc();
-    let shown = shown(&rt, alloc);
+    let shown = all_shown(&rt, alloc);
     for calls in 0..MOST_CALLS {
         let (end, has_lacked, disk) = play(&rt, alloc, calls, false);
         let want = if has_lacked { End::Lacking } else { End::Saved };

@@ -60,3 +60,6 @@ returns-in_err-made-clause-told g c = c.reconnect.ensures.told c.exchange.new.co
 
 pub exchange-requires-2-clause-told : goal.exchange-requires-2-clause-told
 exchange-requires-2-clause-told g c = c.reconnect.ensures.told c.exchange.new.core c.exchange.ensures.told
+
+pub returns-then-not-made-clause-told : goal.returns-then-not-made-clause-told
+returns-then-not-made-clause-told g c = c.reconnect.ensures.told c.exchange.new.core c.exchange.ensures.told
