@@ -10,9 +10,9 @@
  * NEEDED 0 and nothing put. No fault is one of reading or of writing: a file that holds a tree is refused for want of memory, for
  * more than 134,217,728 bytes, or for what is asked of it.
  *
- * What a caller owes: each pointer leads to so many bytes that may be read, or written for OUT, NEEDED and LINE, until the call
- * is done; OUT, NEEDED and LINE overlap each other and what is read nowhere; none of the pointers is NULL, also where the length is
- * 0; malloc, realloc and free are those of one C library. */
+ * What a caller owes: each pointer leads to so many bytes that may be read, or written for OUT, NEEDED, LINE and FAULT, until
+ * the call is done; these overlap each other and what is read nowhere; none of the pointers is NULL, also where the length is 0;
+ * malloc, realloc and free are those of one C library. */
 
 #ifndef OLECON_H
 #define OLECON_H
@@ -58,6 +58,13 @@ uint32_t olecon_edit_line(const uint8_t *file, size_t file_len, const uint8_t *l
 
 /* A file of the same storages and streams, and nothing else. */
 uint32_t olecon_clean(const uint8_t *file, size_t file_len, uint8_t *out, size_t out_len, size_t *needed);
+
+/* Whether a file is sound: "ok", or a line with its fault and the place where that is. FAULT is the number of the file's fault, and 0
+ * where it has none, or where that wasn't found out. A file that is at fault is answered as one that is sound: by 0. */
+uint32_t olecon_check(const uint8_t *file, size_t file_len, uint8_t *out, size_t out_len, size_t *needed, uint32_t *fault);
+
+/* The same as one JSON value. */
+uint32_t olecon_check_json(const uint8_t *file, size_t file_len, uint8_t *out, size_t out_len, size_t *needed, uint32_t *fault);
 
 /* The name of the fault of a number; empty for a number of no fault. */
 uint32_t olecon_fault_name(uint32_t number, uint8_t *out, size_t out_len, size_t *needed);

@@ -1,6 +1,8 @@
 //! The calls that other languages have, on the happy path and without room.
 
+use fault_texts::telling::Form;
 use library_calls::calls::{clean, fault_name, get, lines, list, make, make_line};
+use library_calls::checking::check;
 use library_calls::editing::{edit, edit_line};
 use library_calls::numbers::{BAD_PATH, DONE, NO_ROOM};
 use listing_forms::json_form::Json;
@@ -66,6 +68,20 @@ fn is_edit_refused_by_line(alloc: Global, file: &[u8], text: &[u8]) -> bool {
     edit_line(alloc, file, text, &mut out, &mut needed, &mut line) > NO_ROOM && line == 2
 }
 
+/// Whether a file is told to be sound, and its front to be at fault.
+fn is_checked(alloc: Global, file: &[u8]) -> bool {
+    let mut out = [0; 64];
+    let mut needed = 0;
+    let mut fault = 0;
+    let done = check(alloc, file, Form::Line, &mut out, &mut needed, &mut fault);
+    if done != DONE || fault != 0 || out.get(..needed) != Some(b"ok\n".as_slice()) {
+        return false;
+    }
+    let front = &file[..file.len().min(100)];
+    check(alloc, front, Form::Line, &mut out, &mut needed, &mut fault) == DONE
+        && is_named(fault, b"Truncated".as_slice())
+}
+
 fn is_named(number: u32, want: &[u8]) -> bool {
     let mut out = [0; 16];
     let mut needed = 0;
@@ -109,5 +125,6 @@ fn calls_answer(rt: HostRuntime) {
         is_edit_refused_by_line(rt.alloc(), &file, b"remove A\nfile A name\n".as_slice()),
         "a line of an edit"
     );
+    assert!(rt; is_checked(rt.alloc(), &file), "a check");
     assert!(rt; is_named(BAD_PATH, b"BadPath".as_slice()), "a name");
 }

@@ -9,9 +9,11 @@ use Rattle.file_model.specs.Denotes.{Denotes}
 use Rattle.file_model.specs.Refusals.{Refuses, writable}
 use Rattle.file_model.specs.declared.fault.WriteFault.{WriteFault}
 use Rattle.file_model.specs.declared.fault.WriteFault.TheVariants.{NoMemory, TooBig}
+use Rattle.fault_texts.specs.declared.telling.Form.{Form}
 use Rattle.file_outline.specs.Streams.{stream_at}
 use Rattle.texts.specs.Input.{most}
 use Rattle.library_calls.specs.Calls.{IsRefusedClean, IsRefusedGet, IsRefusedList, IsUnread}
+use Rattle.library_calls.specs.Checks.{IsChecked}
 use Rattle.library_calls.specs.Numbers.{read_number, write_number}
 
 ⊥_prop : (a b : ⊥) → a ≡ b
@@ -54,3 +56,7 @@ cleaned_but_memory file t number denotes few fits refused = cleaned file t numbe
 
 pub got_but_memory : (file : List ℕ) (path : List (List ℕ)) (t : Tree) (number : ℕ) → Denotes file t → length file ≤ most → IsOk (stream_at path t) → IsRefusedGet file path number → number ≡ 2
 got_but_memory file path t number denotes few there refused = got file t number denotes few path there refused
+
+pub checked_as_sound : (file : List ℕ) (form : Form) (t : Tree) (told : ℕ) (bytes : List ℕ) → Denotes file t → IsChecked file form told bytes → told ≡ 0
+checked_as_sound file form t told bytes denotes (inl (is, u, same, text)) = is
+checked_as_sound file form t told bytes denotes (inr (fault, is, at_fault, text)) = absurd (at_fault.0 (at_fault.1.reads t denotes))

@@ -4,6 +4,8 @@
 ghost use Rattle.file_model.specs.Denotes.{Denotes};
 ghost use Rattle.file_model.specs.Refusals.{writable};
 ghost use Rattle.file_outline.specs.Streams.{stream_at};
+ghost use Rattle.fault_texts.specs.declared.telling.Form.{Form};
+ghost use Rattle.library_calls.specs.Checks.{IsChecked};
 ghost use Rattle.library_calls.specs.Calls.{IsRefusedClean, IsRefusedGet, IsRefusedList};
 ghost use Rattle.std.specs.Prelude.{◌≡◌, ◌≤◌, IsOk, List, Ok, length, ℕ};
 ghost use Rattle.storage_tree.specs.Tree.{Tree};
@@ -22,4 +24,9 @@ pub fn sound_files_are_cleaned()
 /// A stream of its tree is refused for want of memory alone.
 pub fn streams_are_got()
     ensures { (file : List ℕ) (path : List (List ℕ)) (t : Tree) (number : ℕ) → Denotes file t → length file ≤ most → IsOk (stream_at path t) → IsRefusedGet file path number → number ≡ 2 }
+{}
+
+/// No fault of it is told by a check.
+pub fn sound_files_are_checked()
+    ensures { (file : List ℕ) (form : Form) (t : Tree) (told : ℕ) (bytes : List ℕ) → Denotes file t → IsChecked file form told bytes → told ≡ 0 }
 {}

@@ -3,6 +3,7 @@
 #![tactic(auto)]
 
 pub mod calls;
+pub mod checking;
 pub mod editing;
 pub mod laws;
 mod limit;

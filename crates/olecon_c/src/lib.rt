@@ -3,13 +3,16 @@
 
 ghost use Rattle.library_calls.specs.Answers.{Answers, AnswersAt, IsPut};
 ghost use Rattle.library_calls.specs.Calls.{IsCleanOf, IsGotBy, IsListed, IsListedAs, IsMadeOf, IsRefusedBy, IsRefusedClean, IsRefusedList, IsRefusedMake};
+ghost use Rattle.fault_texts.specs.declared.telling.Form.TheVariants as form;
+ghost use Rattle.library_calls.specs.Checks.{IsChecked, IsRefusedCheck};
 ghost use Rattle.library_calls.specs.Edits.{IsEdited, IsRefusedEdit};
 ghost use Rattle.library_calls.specs.Numbers.{number_name};
 ghost use Rattle.listing_forms.specs.Json.{json_listed};
 ghost use Rattle.listing_forms.specs.Placed.{placed_view};
 ghost use Rattle.std.specs.Prelude.{◌≡◌, length, ℕ};
 
-use library_calls::{calls, editing};
+use fault_texts::telling::Form;
+use library_calls::{calls, checking, editing};
 use listing_forms::json_form::Json;
 use std::alloc::Global;
 
@@ -115,6 +118,34 @@ pub extern "C" fn olecon_edit_line(
     ensures { AnswersAt (IsEdited file.now lines.now) (IsRefusedEdit file.now lines.now) result out.old out.new needed.new line.new }
 {
     editing::edit_line(alloc, file, lines, out, needed, line)
+}
+
+/// That a file is sound, or its fault and where that is, in a line.
+#[unsafe(no_mangle)]
+pub extern "C" fn olecon_check(
+    alloc: Global,
+    file: &[u8],
+    out: &mut [u8],
+    needed: &mut usize,
+    fault: &mut u32,
+) -> u32
+    ensures { Answers (IsChecked file.now form.Line fault.new) (IsRefusedCheck file.now fault.new) result out.old out.new needed.new }
+{
+    checking::check(alloc, file, Form::Line, out, needed, fault)
+}
+
+/// The same as one JSON value.
+#[unsafe(no_mangle)]
+pub extern "C" fn olecon_check_json(
+    alloc: Global,
+    file: &[u8],
+    out: &mut [u8],
+    needed: &mut usize,
+    fault: &mut u32,
+) -> u32
+    ensures { Answers (IsChecked file.now form.Json fault.new) (IsRefusedCheck file.now fault.new) result out.old out.new needed.new }
+{
+    checking::check(alloc, file, Form::Json, out, needed, fault)
 }
 
 /// The name of the fault of a number.
