@@ -83,7 +83,9 @@ fn put_fault(
     requires { needed.old ≡ 0 }
     ensures { Answers (IsTold file.now form.entry fault) (λ number. number ≡ 2) result out.old out.new needed.new }
 {
-    let spot = find_spot(alloc, file, fault);
+    let Ok(spot) = find_spot(alloc, file, fault) else {
+        return NO_MEMORY;
+    };
     match told_text(alloc, form, &fault, &spot) {
         Ok(text) => put(&text, out, needed),
         Err(_) => NO_MEMORY,
