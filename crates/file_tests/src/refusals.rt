@@ -269,7 +269,9 @@ fn are_held(rt: &impl Abort, streams: &Streams, texts: &str) -> bool {
     let mut count = 0;
     for text in texts.split(' ') {
         match streams.get(&name(rt, text)) {
-            Some(bytes) if bytes.as_slice() == text.as_bytes() => count += 1,
+            Some(bytes) if bytes.as_slice() == text.as_bytes() => count = usize::saturating_add(
+                count, 1,
+            ),
             _ => return false,
         }
     }
@@ -323,18 +325,15 @@ fn chained(rt: &impl Abort, alloc: Global, fat: &mut Fat<'_>, start: u32) -> Vec
     }
 }
 
-fn join_once(alloc: Global, fat: &Fat<'_>, sectors: &[u32]) -> Result<Vec<u8>, AllocError> {
+/// The bytes of the chain from a sector on.
+fn joined(rt: &impl Abort, alloc: Global, fat: &mut Fat<'_>, start: u32) -> Vec<u8> {
+    let sectors = fat.chain(alloc, start).expect(rt, "a chain");
     begin(alloc);
-    let bytes = fat.join(alloc, sectors);
+    let bytes = fat.join(alloc, &sectors);
     end(alloc);
-    bytes
-}
-
-/// The bytes of sectors.
-fn joined(rt: &impl Abort, alloc: Global, fat: &Fat<'_>, sectors: &[u32]) -> Vec<u8> {
-    match join_once(alloc, fat, sectors) {
+    match bytes {
         Ok(bytes) => bytes,
-        Err(_) => join_once(alloc, fat, sectors).expect(rt, "memory"),
+        Err(_) => fat.join(alloc, &sectors).expect(rt, "memory"),
     }
 }
 
@@ -374,24 +373,25 @@ fn holds(rt: &impl Abort, alloc: Global, fat: &Fat<'_>, start: u32, bytes: &[u8]
 }
 
 /// Whether a table has a chain of two sectors that aren't in a row, and one of which 513 bytes are held.
-fn is_linked(rt: &impl Abort, alloc: Global, fat: &mut Fat<'_>) -> bool {
+fn is_linked(rt: &impl Abort, alloc: Global, fat: &mut Fat<'_>, bytes: &[u8]) -> bool {
     let sectors = chained(rt, alloc, fat, 1);
-    let bytes = joined(rt, alloc, fat, &sectors);
     fat.mark_chain(7, 513).expect(rt, "a chain");
     let first = held(rt, alloc, fat, 7, 513);
     are_numbers(rt, alloc, &sectors, "1,8")
-        && are_spelled(rt, alloc, &bytes, "512*01,12*08,500*00")
+        && are_spelled(rt, alloc, bytes, "512*01,12*08,500*00")
         && are_spelled(rt, alloc, &first, "512*07,02")
         && holds(rt, alloc, fat, 7, &first)
-        && !holds(rt, alloc, fat, 7, &bytes)
+        && !holds(rt, alloc, fat, 7, bytes)
 }
 
 #[test]
 fn a_refused_chain_is_followed_again(rt: HostRuntime) {
     let alloc = rt.alloc();
     let file = chains::file_of(&rt, alloc, chains::LINKED);
-    let mut fat = loaded(&rt, alloc, &header_of(&rt, &file), &file);
-    assert!(rt; is_linked(&rt, alloc, &mut fat));
+    let header = header_of(&rt, &file);
+    let bytes = joined(&rt, alloc, &mut loaded(&rt, alloc, &header, &file), 1);
+    let mut fat = loaded(&rt, alloc, &header, &file);
+    assert!(rt; is_linked(&rt, alloc, &mut fat, &bytes));
 }
 
 fn mini_once<'a>(alloc: Global, fat: &mut Fat<'a>, header: &Header) -> Result<Fat<'a>, ChainFault> {
@@ -484,6 +484,9 @@ fn a_refused_directory_is_read_again(rt: HostRuntime) {
 }
 
 fn build_once(alloc: Global, names: &[Name]) -> Result<Links, DirFault> {
+    if names.len() > 100 {
+        return Err(DirFault::NameTooLong);
+    }
     begin(alloc);
     let links = build(alloc, names);
     end(alloc);
@@ -612,25 +615,25 @@ fn catalog_once(alloc: Global, file: &[u8]) -> Result<Catalog, PlacesFault> {
     catalog
 }
 
-/// The places of a file that its listing needs.
-fn cataloged(rt: &impl Abort, alloc: Global, file: &[u8]) -> Catalog {
+/// Whether the places of a file are read that its listing needs, the second time where memory is refused.
+fn is_cataloged(alloc: Global, file: &[u8]) -> bool {
     match catalog_once(alloc, file) {
-        Err(PlacesFault::NoMemory) => catalog_once(alloc, file).expect(rt, "places"),
-        catalog => catalog.expect(rt, "a whole file"),
+        Err(PlacesFault::NoMemory) => catalog_once(alloc, file).is_ok(),
+        catalog => catalog.is_ok(),
     }
 }
 
-fn placed_once(alloc: Global, catalog: &Catalog) -> Result<Outline, ReadFault> {
+/// The outline of a file by its places.
+fn placed(rt: &impl Abort, alloc: Global, file: &[u8]) -> Outline {
+    let mut source = file;
+    let catalog = read_catalog(alloc, &mut source).expect(rt, "places");
     begin(alloc);
     let outline = read_placed(alloc, &catalog.header, &catalog.file);
     end(alloc);
-    outline
-}
-
-/// The outline by these places.
-fn placed(rt: &impl Abort, alloc: Global, catalog: &Catalog) -> Outline {
-    match placed_once(alloc, catalog) {
-        Err(ReadFault::NoMemory) => placed_once(alloc, catalog).expect(rt, "an outline"),
+    match outline {
+        Err(ReadFault::NoMemory) => {
+            read_placed(alloc, &catalog.header, &catalog.file).expect(rt, "an outline")
+        }
         outline => outline.expect(rt, "a whole file"),
     }
 }
@@ -639,8 +642,8 @@ fn placed(rt: &impl Abort, alloc: Global, catalog: &Catalog) -> Outline {
 fn refused_places_are_read_again(rt: HostRuntime) {
     let alloc = rt.alloc();
     let file = spelled(&rt, alloc, FILE);
-    let catalog = cataloged(&rt, alloc, &file);
-    let outline = placed(&rt, alloc, &catalog);
+    assert!(rt; is_cataloged(alloc, &file));
+    let outline = placed(&rt, alloc, &file);
     assert!(rt; first_size(&outline) == Some(3));
 }
 
