@@ -4,7 +4,6 @@ pub mod Carried
 pub mod Coursed
 pub mod Faulted
 pub mod Held
-pub mod Holding
 pub mod Lines
 pub mod Ordered
 pub mod Reading
