@@ -78,11 +78,11 @@ pub fn lines(alloc: Global, file: &[u8], out: &mut [u8], needed: &mut usize) -> 
     ensures { Answers (IsListed file.now) (IsRefusedList file.now) result out.old out.new needed.new }
 {
     *needed = 0;
-    let outline = match outline_of(alloc, file) {
+    let outlined = match outline_of(alloc, file) {
         Ok(outline) => outline,
         Err(number) => return number,
     };
-    match list_lines(alloc, &outline) {
+    match list_lines(alloc, &outlined) {
         Ok(listing) => put(&listing, out, needed),
         Err(_) => NO_MEMORY,
     }
