@@ -15,6 +15,8 @@ use Rattle.script_model.specs.Events.{Event, Started, Connected, Sent, Heard, En
 use Rattle.script_model.specs.Orders.{orders}
 use Rattle.script_model.specs.Saved.{is_any_unsaved}
 use Rattle.script_texts.specs.Commands.{commands_read}
+use Rattle.script_run.specs.Holding.{IsStillHeld}
+use Rattle.script_run.proofs.Holding.{held_before}
 use Rattle.script_run.specs.Faulted.{IsFaultOf, IsHeldToTheEnd, RefusesScript, ShowsOf}
 
 -- ---- without the last ends
@@ -96,6 +98,9 @@ module _ {D : Type 0} where
     held = h.held;
   }
 
+  still_held : (es : List (Event D)) (commands : List ScriptCommand) → IsStillHeld es commands → IsStillHeld (before_ends es) commands
+  still_held es commands h = record { left = held_still es commands h.left; held = held_before commands h.left.server es ∙ h.held }
+
   unstarted_still : (inc : ℕ) (es : List (Event D)) → IsUnstarted inc es → IsUnstarted inc (before_ends es)
   unstarted_still inc es u = (u.0, u.1, ap before_ends u.2)
 
@@ -126,7 +131,7 @@ module _ {D : Type 0} where
   still disks input commands es (fault.Input why) read shows = absurd shows
   still disks input commands es (fault.Line n why) read shows = absurd shows
   still disks input commands es (fault.Link inc) read shows = unstarted_still inc es shows
-  still disks input commands es fault.Stalled read shows = ⊎_elim (λ u. inl (unsettled_still es u)) (λ h. inr (record { commands = commands; read = read; left = held_still es commands h })) shows
+  still disks input commands es fault.Stalled read shows = ⊎_elim (λ u. inl (unsettled_still es u)) (λ h. inr (record { commands = commands; read = read; left = still_held es commands h })) shows
   still disks input commands es (fault.File name why) read shows = unknown_still disks name.items why es shows
   still disks input commands es fault.NoMemory read shows = tt
   still disks input commands es fault.Unwritable read shows = tt

@@ -28,6 +28,7 @@ use Rattle.script_model.specs.declared.answer.Told.TheVariants as told
 use Rattle.script_model.specs.declared.command.ScriptCommand.{ScriptCommand}
 use Rattle.script_model.specs.declared.command.ScriptCommand.TheVariants as script
 use Rattle.script_model.specs.declared.step.Step.TheVariants as step
+use Rattle.script_run.proofs.Holding.{both_later}
 use Rattle.script_run.specs.Printed.{HasLine, IfBegun, IsBeginning, IsBegunWith, IsCut, IsFirst, IsFirstOf, IsLine, IsOpenTold, IsShown, told_of_server}
 
 -- ---- results
@@ -96,6 +97,9 @@ unequal false n m is apart = refl
 
 pub raised_so : (r : Record) → (r.session ≡ 0 → ⊥) → is_unraised r asks.Start ≡ false
 raised_so r some = unequal (r.session == 0) r.session 0 refl some
+
+pub none_raised : (r : Record) (c : Command) → is_unraised r c ≡ true → r.session ≡ 0
+none_raised r c is = eqb-true r.session 0 (both_later (is_start c) (r.session == 0) is)
 
 pub unraised_so : (r : Record) → r.session ≡ 0 → is_unraised r asks.Start ≡ true
 unraised_so r none = eq-eqb r.session 0 none

@@ -52,3 +52,6 @@ returns-in-Err-clause-seen g c =
 
 pub returns-in-Err-clause-shown : goal.returns-in-Err-clause-shown
 returns-in-Err-clause-shown g c = memory_shown g.H.Disk.Disk c.refusal.result (g.H.Host.told c.command.new.host) c.refusal.ensures.lacking
+
+pub returns-in-Err-clause-holding : goal.returns-in-Err-clause-holding
+returns-in-Err-clause-holding g c = λ f hold. hold.each

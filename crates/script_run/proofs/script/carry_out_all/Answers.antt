@@ -7,6 +7,7 @@ use Rattle.script_links.specs.Links.{is_any_held}
 use Rattle.script_run.proofs.Carried.{last_begun, left_held, so_far_more}
 use Rattle.script_run.proofs.Faulted.{handed_on}
 use Rattle.script_run.proofs.Held.{some_held}
+use Rattle.script_run.proofs.Holding.{released_by}
 use Rattle.script_run.proofs.Settled.{settled_by}
 use Rattle.script_run.proofs.Writing.{lines_all, lines_held, lines_left, lines_more}
 use Rattle.std.specs.Result.{IsErrAnd}
@@ -27,7 +28,7 @@ loop-place-preserved g c =
           (into_iter_items c.next.new.self.iter) c.in-Some.command c.loop-place.place-iterator.count c.in-Some.place c.next.new.self.count (g.W.Write.contents c.args.writer.now) (g.W.Write.contents c.loop-place.writer) (g.W.Write.contents c.carry_out.new.writer)
           c.loop-place.invariant.so_far items at c.begins.ensures.noted c.carry_out.ensures.standing c.loop-place.invariant.lines counts c.in_ok-carry_out.ensures.printed;
       so_far = so_far_more (g.H.Host.told c.loop-place.host) (g.H.Host.told c.begins.new.host) (g.H.Host.told c.carry_out.new.host) c.loop-place.links.items c.carry_out.new.links.items c.args.commands.items (into_iter_items c.loop-place.place-iterator.iter)
-          (into_iter_items c.next.new.self.iter) c.in-Some.command c.loop-place.place-iterator.count c.in-Some.place c.next.new.self.count c.loop-place.invariant.so_far at counts items c.begins.ensures.ordered c.in_ok-carry_out.ensures.ordered c.carry_out.ensures.holding;
+          (into_iter_items c.next.new.self.iter) c.in-Some.command c.loop-place.place-iterator.count c.in-Some.place c.next.new.self.count c.loop-place.invariant.so_far at counts items c.begins.ensures.noted c.begins.ensures.ordered c.in_ok-carry_out.ensures.ordered c.carry_out.ensures.standing c.carry_out.ensures.linked c.carry_out.ensures.holding;
     }
 
 pub returns-in_err-carry_out-clause-begun : goal.returns-in_err-carry_out-clause-begun
@@ -55,6 +56,10 @@ pub returns-clause-settled : goal.returns-clause-settled
 returns-clause-settled g c =
     settled_by (g.H.Host.told c.loop-place.host) c.loop-place.core c.loop-place.links.items c.loop-place.invariant.told c.loop-place.invariant.linked c.loop-place.invariant.quiet c.loop-place.invariant.saved
     (ap is_any_held (sym c.deref.ensures.value) ∙ sym c.is_any_held.ensures ∙ c.if-is_any_held.false)
+
+pub returns-clause-released : goal.returns-clause-released
+returns-clause-released g c =
+    released_by c.args.commands.items (g.H.Host.told c.loop-place.host) c.loop-place.links.items c.loop-place.invariant.linked c.loop-place.invariant.so_far.holds (ap is_any_held (sym c.deref.ensures.value) ∙ sym c.is_any_held.ensures ∙ c.if-is_any_held.false)
 
 pub carry_out-requires-clause-begins : goal.carry_out-requires-clause-begins
 carry_out-requires-clause-begins g c = record { place = c.in-Some.place; before = g.H.Host.told c.loop-place.host; last = c.begins.ensures.noted }
