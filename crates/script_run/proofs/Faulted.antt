@@ -90,16 +90,16 @@ module _ {D : Type 0} where
   unsettled_still : (es : List (Event D)) → IsUnsettled es → IsUnsettled (before_ends es)
   unsettled_still es u = ⊎_elim (λ asked. inl (unanswered_still es asked)) (λ unsaved. inr (ap (λ (g : Given). is_any_unsaved g.now.frames) (recorded es) ∙ unsaved)) u
 
-  held_still : (es : List (Event D)) (commands : List ScriptCommand) → IsLeftHeld es commands → IsLeftHeld (before_ends es) commands
-  held_still es commands h = record {
-    ordered = ordered es ∙ h.ordered;
-    server = h.server;
-    runs = let now = h.runs in let before = ran h.server es in omega (arith, now, before);
-    held = h.held;
-  }
-
   still_held : (es : List (Event D)) (commands : List ScriptCommand) → IsStillHeld es commands → IsStillHeld (before_ends es) commands
-  still_held es commands h = record { left = held_still es commands h.left; held = held_before commands h.left.server es ∙ h.held }
+  still_held es commands h = record {
+    left = record {
+      ordered = ordered es ∙ h.left.ordered;
+      server = h.left.server;
+      runs = let now = h.left.runs in let before = ran h.left.server es in omega (arith, now, before);
+      held = h.left.held;
+    };
+    held = held_before commands h.left.server es ∙ h.held;
+  }
 
   unstarted_still : (inc : ℕ) (es : List (Event D)) → IsUnstarted inc es → IsUnstarted inc (before_ends es)
   unstarted_still inc es u = (u.0, u.1, ap before_ends u.2)

@@ -26,11 +26,11 @@ save_all-requires-clause-seen g c = seen_still (notices (g.H.Host.told c.args.ho
 pub returns-in_err-save_all-in-Ok-clause-ordered : goal.returns-in_err-save_all-in-Ok-clause-ordered
 returns-in_err-save_all-in-Ok-clause-ordered g c = given_on (g.H.Host.told c.args.host.now) (g.H.Host.told c.save_all.new.host) (g.H.Host.told c.command.new.host) asks.Session (starts_same (g.H.Host.told c.command.new.host) (g.H.Host.told c.save_all.new.host) c.save_all.ensures.ordered) c.command.ensures.ordered
 
-pub returns-in-Ok-clause-ordered : goal.returns-in-Ok-clause-ordered
-returns-in-Ok-clause-ordered g c = given_on (g.H.Host.told c.args.host.now) (g.H.Host.told c.save_all.new.host) (g.H.Host.told c.command.new.host) asks.Session (starts_same (g.H.Host.told c.command.new.host) (g.H.Host.told c.save_all.new.host) c.save_all.ensures.ordered) c.command.ensures.ordered
+pub returns-in_ok-save_all-in-Ok-clause-ordered : goal.returns-in_ok-save_all-in-Ok-clause-ordered
+returns-in_ok-save_all-in-Ok-clause-ordered g c = given_on (g.H.Host.told c.args.host.now) (g.H.Host.told c.save_all.new.host) (g.H.Host.told c.command.new.host) asks.Session (starts_same (g.H.Host.told c.command.new.host) (g.H.Host.told c.save_all.new.host) c.save_all.ensures.ordered) c.command.ensures.ordered
 
-pub returns-in-Ok-clause-tried : goal.returns-in-Ok-clause-tried
-returns-in-Ok-clause-tried g c =
+pub returns-in_ok-save_all-in-Ok-clause-tried : goal.returns-in_ok-save_all-in-Ok-clause-tried
+returns-in_ok-save_all-in-Ok-clause-tried g c =
     unstarted_same (g.H.Host.told c.command.new.host) (g.H.Host.told c.save_all.new.host) c.save_all.ensures.ordered
     ∙ none_for (g.H.Host.told c.args.host.now) (g.H.Host.told c.command.new.host) c.args.core.now asks.Session (Ok (counts_none c.command.new.core c.in-Ok.answer)) c.requires.told.recorded c.in-Ok.ensures.answered c.command.ensures.ordered c.requires.idle (c.in-Ok.ensures.starts c.requires.none)
 

@@ -1,6 +1,7 @@
 use Rattle.std.proofs.Common.{◌≡◌, ◌∙◌, inr, refl, sym}
 use Rattle.container_model.specs.declared.command.Command.TheVariants as asks
 use Rattle.script_model.specs.Orders.{asked}
+use Rattle.script_model.specs.Origins.{passed}
 use Rattle.script_links.proofs.Linked.{still_linked}
 use Rattle.script_links.proofs.Served.{same_served}
 use Rattle.script_run.proofs.Coursed.{asked_given}
@@ -91,7 +92,7 @@ pub returns-in_err-raised-clause-linked : goal.returns-in_err-raised-clause-link
 returns-in_err-raised-clause-linked g c = still_linked (g.H.Host.told c.args.host.now) (g.H.Host.told c.raise.new.host) c.args.links.now.items c.raise.ensures.still c.requires.linked
 
 pub give-requires-clause-served : goal.give-requires-clause-served
-give-requires-clause-served g c = same_served c.args.links.now.items c.raise.ensures.quiet c.requires.served
+give-requires-clause-served g c = same_served (λ s. passed s (g.H.Host.told c.args.host.now)) (λ s. passed s (g.H.Host.told c.raise.new.host)) c.args.links.now.items c.raise.ensures.quiet c.requires.served
 
 pub returns-in_err-raised-clause-served : goal.returns-in_err-raised-clause-served
-returns-in_err-raised-clause-served g c = same_served c.args.links.now.items c.raise.ensures.quiet c.requires.served
+returns-in_err-raised-clause-served g c = same_served (λ s. passed s (g.H.Host.told c.args.host.now)) (λ s. passed s (g.H.Host.told c.raise.new.host)) c.args.links.now.items c.raise.ensures.quiet c.requires.served
