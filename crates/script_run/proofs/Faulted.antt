@@ -10,7 +10,7 @@ use Rattle.script_links.specs.Shown.{Shows}
 use Rattle.script_model.specs.declared.command.ScriptCommand.{ScriptCommand}
 use Rattle.script_model.specs.Bounds.{MOST_TURNS, Pace, pace}
 use Rattle.script_model.specs.Containers.{Given, given_by}
-use Rattle.script_model.specs.Errors.{IsLeftHeld, IsUnanswered, IsUnknown, IsUnopened, IsUnsettled, IsUnstarted, before_ends, is_asked}
+use Rattle.script_model.specs.Errors.{IsUnanswered, IsUnknown, IsUnopened, IsUnsettled, IsUnstarted, before_ends, is_asked}
 use Rattle.script_model.specs.Events.{Event, Started, Connected, Sent, Heard, Ended, Opened, Found, Shut, Stepped, running}
 use Rattle.script_model.specs.Orders.{orders}
 use Rattle.script_model.specs.Saved.{is_any_unsaved}

@@ -1,5 +1,5 @@
 -- What is written of the commands that ended, one more at a time.
-use Rattle.std.proofs.Common.{◌≡◌, ◌≢◌, ◌≤◌, ◌+◌, ◌++◌, ◌⊎◌, ⊎_elim, inl, inr, ℕ, zero, suc, List, [], ◌∷◌, length, Option, Some, None, Result, Ok, Err, IfErr, IfOk, OnOk, refl, sym, ap, ◌∙◌, subst, append_assoc, append-nil, arith}
+use Rattle.std.proofs.Common.{◌≡◌, ◌≢◌, ◌+◌, ◌++◌, inl, inr, ℕ, zero, suc, List, [], ◌∷◌, length, Option, Some, None, Result, Ok, Err, IfErr, OnOk, refl, sym, ap, ◌∙◌, subst, append_assoc, append-nil, arith}
 use Rattle.std.specs.Prelude.{IfSome, slice_get}
 use Rattle.std.specs.Io.KnownBytes.{Appends}
 use Rattle.std.specs.Result.{IsErrAnd}
@@ -19,7 +19,7 @@ use Rattle.script_texts.specs.Commands.{commands_read}
 use Rattle.script_run.proofs.Carried.{SoFar, at_place}
 use Rattle.script_run.proofs.Coursed.{shut_begun}
 use Rattle.script_run.specs.Faulted.{RefusesScript, ShowsOf}
-use Rattle.script_run.specs.Printed.{HasAll, HasEarlier, HasLine, HasLines, HasSome, HasSomeOf, IsBehind, IsLine, Printed, PrintedBefore}
+use Rattle.script_run.specs.Printed.{HasAll, HasEarlier, HasLine, HasLines, HasSome, HasSomeOf, Printed, PrintedBefore}
 
 -- an error that commands end with: their text was read
 abbrev pub IsOfCommands : ScriptFault → Type 0

@@ -1,4 +1,4 @@
-use Rattle.std.proofs.Common.{◌≡◌, ◌∙◌, [], Ok, Err, refl, rules, sym}
+use Rattle.std.proofs.Common.{◌≡◌, ◌∙◌, [], Ok, Err, refl, rules}
 use Rattle.std.specs.Result.{IsErrAnd}
 use Rattle.container_model.specs.Commands.{on_command}
 use Rattle.container_model.specs.declared.command.Command.TheVariants as asks
@@ -11,7 +11,7 @@ use Rattle.script_container.proofs.Noticed.{seen_still}
 use Rattle.script_container.proofs.Shown.{memory_shown, passed_on}
 use Rattle.script_links.proofs.Served.{on_ok}
 use Rattle.script_run.proofs.Coursed.{given_on, starts_same, unstarted_same}
-use Rattle.script_run.proofs.Lines.{answer_told, refusal_told, refused_on, refused_then}
+use Rattle.script_run.proofs.Lines.{refusal_told, refused_on, refused_then}
 use Rattle.script_run.proofs.Starting.{none_for}
 use Rattle.script_run.proofs.commands.raise.Goals as goal
 

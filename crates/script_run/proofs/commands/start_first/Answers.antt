@@ -1,4 +1,4 @@
-use Rattle.std.proofs.Common.{◌≡◌, ◌∙◌, inr, refl, sym}
+use Rattle.std.proofs.Common.{◌∙◌, inr, refl, sym}
 use Rattle.container_model.specs.declared.command.Command.TheVariants as asks
 use Rattle.script_model.specs.Orders.{asked}
 use Rattle.script_model.specs.Origins.{passed}
