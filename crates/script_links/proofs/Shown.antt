@@ -106,7 +106,7 @@ unanswered_by es r ls turn all t linked due asked = record {
 
 pub hold_set : (f : ℕ → Bool) (ls : List Link) (place : ℕ) (l d : Link) → place < length ls → l.inc ≡ (slice_index_or ls place d).inc → l.held ≡ (slice_index_or ls place d).held → HoldFor f ls → HoldFor f (slice_set ls place l)
 hold_set f [] place l d within inc held hold = hold
-hold_set f (x ∷ xs) zero l d within inc held hold = ((λ is. ap f inc ∙ hold.0 (sym held ∙ is)), hold.1)
+hold_set f (x ∷ xs) zero l d within inc held hold = (held ∙ hold.0 ∙ sym (ap f inc), hold.1)
 hold_set f (x ∷ xs) (suc place) l d within inc held hold = (hold.0, hold_set f xs place l d (omega (arith, within)) inc held hold.1)
 
 hold_removed : (f : ℕ → Bool) (ls : List Link) (place : ℕ) → HoldFor f ls → HoldFor f (remove ls place)

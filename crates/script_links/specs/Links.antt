@@ -1,5 +1,5 @@
 -- Links and the servers that run.
-use Rattle.std.specs.Prelude.{◌≡◌, ◌+◌, ◌==◌, ◌++◌, ◌||◌, ℕ, Bool, true, false, List, [], ◌∷◌, if◌then◌else◌, slice_index_or}
+use Rattle.std.specs.Prelude.{◌≡◌, ◌+◌, ◌==◌, ◌++◌, ◌||◌, ℕ, Bool, false, List, [], ◌∷◌, if◌then◌else◌, slice_index_or}
 use Rattle.std.specs.List.{AllByRecursion}
 use Rattle.message_bytes.specs.Fronts.{Stands}
 use Rattle.message_model.specs.declared.frame.Frame.{Frame}
@@ -39,9 +39,14 @@ EachServed f ls = AllByRecursion (λ (l : Link). IsServed (f l.inc) l []) ls
 abbrev pub AreServed : {D : Type 0} → List (Event D) → List Link → Type 0
 AreServed es ls = EachServed (λ s. passed s es) ls
 
--- Of the server of each link that holds what comes, this is true.
+-- Whether each link holds what comes is told by its server.
 abbrev pub HoldFor : (ℕ → Bool) → List Link → Type 0
-HoldFor f ls = AllByRecursion (λ (l : Link). l.held ≡ true → f l.inc ≡ true) ls
+HoldFor f ls = AllByRecursion (λ (l : Link). l.held ≡ f l.inc) ls
+
+-- The links that hold what comes are those of these servers: of a server without a link nothing is held.
+pub record AreHeld (f : ℕ → Bool) (ls : List Link) : Type 0 where
+  pub each : HoldFor f ls
+  pub none : (s : ℕ) → links_of s ls ≡ 0 → f s ≡ false
 
 -- whether one of these links is held
 abbrev pub is_any_held : List Link → Bool

@@ -1,10 +1,24 @@
 -- What stays of a course.
-use Rattle.std.proofs.Common.{◌≡◌, List, ◌∷◌, ap, ◌∙◌}
+use Rattle.std.proofs.Common.{◌≡◌, List, [], ◌∷◌, Some, None, refl, ap, ◌∙◌}
 use Rattle.container_model.specs.declared.command.Command.{Command}
 use Rattle.script_model.specs.declared.step.Step.TheVariants as step
-use Rattle.script_model.specs.Courses.{Course, but_opening, but_starts, course}
-use Rattle.script_model.specs.Events.{Event, Stepped}
+use Rattle.script_model.specs.Courses.{Course, behind_shut, but_opening, but_starts, course}
+use Rattle.script_model.specs.Events.{Event, Started, Connected, Sent, Heard, Ended, Opened, Found, Shut, Stepped}
 use Rattle.script_model.specs.Orders.{asked}
+
+-- a disk that is given back begins no command
+pub shut_begun : {D : Type 0} (disk : D) (es : List (Event D)) (k : Course D) → (behind_shut disk es k).begun ≡ k.begun
+shut_begun disk [] k = refl
+shut_begun disk (Found name (Some found) ∷ es) k = refl
+shut_begun disk (Found name None ∷ es) k = refl
+shut_begun disk (Stepped st ∷ es) k = refl
+shut_begun disk (Started session inc ok ∷ es) k = refl
+shut_begun disk (Connected inc ok ∷ es) k = refl
+shut_begun disk (Sent inc bytes ok ∷ es) k = refl
+shut_begun disk (Heard inc bytes ok ∷ es) k = refl
+shut_begun disk (Ended inc ∷ es) k = refl
+shut_begun disk (Opened name given ∷ es) k = refl
+shut_begun disk (Shut name other ∷ es) k = refl
 
 module _ {D : Type 0} (es after : List (Event D)) where
   pub asked_same : course after ≡ course es → asked after ≡ asked es

@@ -10,11 +10,13 @@ use Rattle.script_links.specs.Shown.{Shows}
 use Rattle.script_model.specs.declared.command.ScriptCommand.{ScriptCommand}
 use Rattle.script_model.specs.Bounds.{MOST_TURNS, Pace, pace}
 use Rattle.script_model.specs.Containers.{Given, given_by}
-use Rattle.script_model.specs.Errors.{IsLeftHeld, IsUnanswered, IsUnknown, IsUnopened, IsUnsettled, IsUnstarted, before_ends, is_asked}
+use Rattle.script_model.specs.Errors.{IsUnanswered, IsUnknown, IsUnopened, IsUnsettled, IsUnstarted, before_ends, is_asked}
 use Rattle.script_model.specs.Events.{Event, Started, Connected, Sent, Heard, Ended, Opened, Found, Shut, Stepped, running}
 use Rattle.script_model.specs.Orders.{orders}
 use Rattle.script_model.specs.Saved.{is_any_unsaved}
 use Rattle.script_texts.specs.Commands.{commands_read}
+use Rattle.script_run.specs.Holding.{IsStillHeld}
+use Rattle.script_run.proofs.Holding.{held_before}
 use Rattle.script_run.specs.Faulted.{IsFaultOf, IsHeldToTheEnd, RefusesScript, ShowsOf}
 
 -- ---- without the last ends
@@ -88,12 +90,15 @@ module _ {D : Type 0} where
   unsettled_still : (es : List (Event D)) → IsUnsettled es → IsUnsettled (before_ends es)
   unsettled_still es u = ⊎_elim (λ asked. inl (unanswered_still es asked)) (λ unsaved. inr (ap (λ (g : Given). is_any_unsaved g.now.frames) (recorded es) ∙ unsaved)) u
 
-  held_still : (es : List (Event D)) (commands : List ScriptCommand) → IsLeftHeld es commands → IsLeftHeld (before_ends es) commands
-  held_still es commands h = record {
-    ordered = ordered es ∙ h.ordered;
-    server = h.server;
-    runs = let now = h.runs in let before = ran h.server es in omega (arith, now, before);
-    held = h.held;
+  still_held : (es : List (Event D)) (commands : List ScriptCommand) → IsStillHeld es commands → IsStillHeld (before_ends es) commands
+  still_held es commands h = record {
+    left = record {
+      ordered = ordered es ∙ h.left.ordered;
+      server = h.left.server;
+      runs = let now = h.left.runs in let before = ran h.left.server es in omega (arith, now, before);
+      held = h.left.held;
+    };
+    held = held_before commands h.left.server es ∙ h.held;
   }
 
   unstarted_still : (inc : ℕ) (es : List (Event D)) → IsUnstarted inc es → IsUnstarted inc (before_ends es)
@@ -126,7 +131,7 @@ module _ {D : Type 0} where
   still disks input commands es (fault.Input why) read shows = absurd shows
   still disks input commands es (fault.Line n why) read shows = absurd shows
   still disks input commands es (fault.Link inc) read shows = unstarted_still inc es shows
-  still disks input commands es fault.Stalled read shows = ⊎_elim (λ u. inl (unsettled_still es u)) (λ h. inr (record { commands = commands; read = read; left = held_still es commands h })) shows
+  still disks input commands es fault.Stalled read shows = ⊎_elim (λ u. inl (unsettled_still es u)) (λ h. inr (record { commands = commands; read = read; left = still_held es commands h })) shows
   still disks input commands es (fault.File name why) read shows = unknown_still disks name.items why es shows
   still disks input commands es fault.NoMemory read shows = tt
   still disks input commands es fault.Unwritable read shows = tt

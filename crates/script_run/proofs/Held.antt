@@ -3,10 +3,10 @@ use Rattle.std.proofs.Common.{◌≡◌, ◌≤◌, ◌<◌, ◌+◌, ◌==◌, 
 use Rattle.std.proofs.lemmas.Bool.{eqb-true, eq-eqb}
 use Rattle.script_model.specs.declared.command.ScriptCommand.{ScriptCommand}
 use Rattle.script_model.specs.Bounds.{pace}
-use Rattle.script_model.specs.Errors.{behind_hold, is_held}
+use Rattle.script_model.specs.Errors.{behind_hold}
 use Rattle.script_model.specs.Events.{Event, running}
 use Rattle.std.specs.Prelude.{◌&&◌, ◌||◌, not}
-use Rattle.script_links.specs.Links.{AreLinked, HoldFor, IsLinkAt, is_any_held, links_of}
+use Rattle.script_links.specs.Links.{AreHeld, AreLinked, HoldFor, IsLinkAt, is_any_held, links_of}
 use Rattle.script_links.specs.Shown.{has_free}
 use Rattle.script_links.specs.declared.links.Link.{Link}
 use Rattle.script_links.proofs.Paces.{any_at}
@@ -48,30 +48,68 @@ cut_anew es inc ls place at anew = subst (λ (i : ℕ). 1 ≤ (pace i es).links)
 
 -- ---- what holds
 
-hold_weaker : (f g : ℕ → Bool) (ls : List Link) → ((s : ℕ) → f s ≡ true → g s ≡ true) → HoldFor f ls → HoldFor g ls
-hold_weaker f g [] weaker hold = tt
-hold_weaker f g (l ∷ ls) weaker hold = ((λ is. weaker l.inc (hold.0 is)), hold_weaker f g ls weaker hold.1)
-
--- a link that holds nothing comes behind the others
-hold_end : (f : ℕ → Bool) (ls : List Link) (l : Link) → l.held ≡ false → HoldFor f ls → HoldFor f (ls ++ l ∷ [])
-hold_end f [] l free hold = ((λ is. absurd (cc)), tt)
-hold_end f (x ∷ xs) l free hold = (hold.0, hold_end f xs l free hold.1)
-
-pub hold_with : (f : ℕ → Bool) (ls new : List Link) (l : Link) → l.held ≡ false → new ≡ ls ++ l ∷ [] → HoldFor f ls → HoldFor f new
-hold_with f ls new l free is hold = subst (λ (all : List Link). HoldFor f all) (sym is) (hold_end f ls l free hold)
-
 linked_here : (l : Link) (ls : List Link) → 1 ≤ links_of l.inc (l ∷ ls)
 linked_here l ls = linked_at l.inc (l ∷ ls) 0 l (omega arith) refl
 
+linked_too : (b : Bool) (n : ℕ) → 1 ≤ n → 1 ≤ n + (if b then 1 else 0)
+linked_too true n some = omega (arith, some)
+linked_too false n some = omega (arith, some)
+
+-- the same of servers that have links
+pub hold_same : (f g : ℕ → Bool) (ls : List Link) → ((s : ℕ) → 1 ≤ links_of s ls → f s ≡ g s) → HoldFor f ls → HoldFor g ls
+hold_same f g [] same hold = tt
+hold_same f g (l ∷ ls) same hold = (hold.0 ∙ same l.inc (linked_here l ls), hold_same f g ls (λ s some. same s (linked_too (l.inc == s) (links_of s ls) some)) hold.1)
+
+-- a link that holds nothing comes behind the others
+hold_end : (f : ℕ → Bool) (ls : List Link) (l : Link) → l.held ≡ false → f l.inc ≡ false → HoldFor f ls → HoldFor f (ls ++ l ∷ [])
+hold_end f [] l free none hold = (free ∙ sym none, tt)
+hold_end f (x ∷ xs) l free none hold = (hold.0, hold_end f xs l free none hold.1)
+
+none_first : (b : Bool) (n m : ℕ) → (n ≡ 0 → m ≡ 0) → n + (if b then 1 else 0) ≡ 0 → m + (if b then 1 else 0) ≡ 0
+none_first true n m first none = absurd (omega (arith, none))
+none_first false n m first none = let all : n ≡ 0 = omega (arith, none) in let some = first all in omega (arith, some)
+
+none_before : (s : ℕ) (ls : List Link) (l : Link) → links_of s (ls ++ l ∷ []) ≡ 0 → links_of s ls ≡ 0
+none_before s [] l none = refl
+none_before s (x ∷ xs) l none = none_first (x.inc == s) (links_of s (xs ++ l ∷ [])) (links_of s xs) (none_before s xs l) none
+
+-- a server that had no link gets one
+pub held_with : (f : ℕ → Bool) (ls new : List Link) (l : Link) (inc : ℕ) → l.held ≡ false → l.inc ≡ inc → links_of inc ls ≡ 0 → new ≡ ls ++ l ∷ [] → AreHeld f ls → AreHeld f new
+held_with f ls new l inc free server none is held = subst (λ (all : List Link). AreHeld f all) (sym is) (record {
+  each = hold_end f ls l free (ap f server ∙ held.none inc none) held.each;
+  none = λ s without. held.none s (none_before s ls l without);
+})
+
+pub held_same : (f : ℕ → Bool) (ls new : List Link) → new ≡ ls → AreHeld f ls → AreHeld f new
+held_same f ls new is held = subst (λ (all : List Link). AreHeld f all) (sym is) held
+
 held_here : (f : ℕ → Bool) (l : Link) (ls : List Link) (b : Bool) → l.held ≡ b → (b || is_any_held ls) ≡ true → HoldFor f (l ∷ ls) → (is_any_held ls ≡ true → (server : ℕ) × (1 ≤ links_of server ls) × (f server ≡ true))
     → (server : ℕ) × (1 ≤ links_of server (l ∷ ls)) × (f server ≡ true)
-held_here f l ls true held any hold later = (l.inc, linked_here l ls, hold.0 held)
+held_here f l ls true held any hold later = (l.inc, linked_here l ls, sym hold.0 ∙ held)
 held_here f l ls false held any hold later = let more = later any in let some = more.1 in (more.0, omega (arith, some), more.2)
 
 -- a server of which this is true, as one of its links is held
 pub some_held : (f : ℕ → Bool) (ls : List Link) → is_any_held ls ≡ true → HoldFor f ls → (server : ℕ) × (1 ≤ links_of server ls) × (f server ≡ true)
 some_held f [] is hold = absurd (cc)
 some_held f (l ∷ ls) is hold = held_here f l ls l.held refl is hold (λ any. some_held f ls any hold.1)
+
+-- none of these links is held
+free_first : (b c : Bool) → (b || c) ≡ false → b ≡ false
+free_first true c is = absurd (cc)
+free_first false c is = refl
+
+free_later : (b c : Bool) → (b || c) ≡ false → c ≡ false
+free_later true c is = absurd (cc)
+free_later false c is = is
+
+free_here : (f : ℕ → Bool) (l : Link) (s n : ℕ) (b : Bool) → (l.inc == s) ≡ b → l.held ≡ false → l.held ≡ f l.inc → 1 ≤ n + (if b then 1 else 0) → (1 ≤ n → f s ≡ false) → f s ≡ false
+free_here f l s n true is free held some later = ap f (sym (eqb-true l.inc s is)) ∙ sym held ∙ free
+free_here f l s n false is free held some later = later (omega (arith, some))
+
+pub none_held : (f : ℕ → Bool) (ls : List Link) (s : ℕ) → is_any_held ls ≡ false → HoldFor f ls → 1 ≤ links_of s ls → f s ≡ false
+none_held f [] s free hold some = absurd (omega (arith, some))
+none_held f (l ∷ ls) s free hold some =
+    free_here f l s (links_of s ls) (l.inc == s) refl (free_first l.held (is_any_held ls) free) hold.0 some (none_held f ls s (free_later l.held (is_any_held ls) free) hold.1)
 
 -- where no link is held, and none of a server is free, it has no link
 pub none_linked : (s : ℕ) (ls : List Link) → is_any_held ls ≡ false → has_free s ls ≡ false → links_of s ls ≡ 0
@@ -83,38 +121,11 @@ none_linked s (l ∷ ls) free none = step (l.inc == s) l.held (is_any_held ls) (
     step true false b c n free none rest = absurd (cc)
     step false false b c n free none rest = let zeros = rest free none in omega (arith, zeros)
 
--- ---- holding
+-- ---- holding and releasing
 
-this_holds : (b c : Bool) → b ≡ true → (if b then true else c) ≡ true
-this_holds true c is = refl
-this_holds false c is = absurd (cc)
-
-still_holds : (b c : Bool) → c ≡ true → (if b then true else c) ≡ true
-still_holds true c is = refl
-still_holds false c is = is
-
--- a server without a link is held
-pub hold_none : (f : ℕ → Bool) (inc : ℕ) (ls : List Link) → HoldFor f ls → HoldFor (λ s. if inc == s then true else f s) ls
-hold_none f inc ls hold = hold_weaker f (λ s. if inc == s then true else f s) ls (λ s is. still_holds (inc == s) (f s) is) hold
-
-pub hold_this : (f : ℕ → Bool) (inc : ℕ) (ls : List Link) (place : ℕ) (l : Link) → place < length ls → l.inc ≡ inc → HoldFor f ls → HoldFor (λ s. if inc == s then true else f s) (slice_set ls place l)
-hold_this f inc [] place l within same hold = absurd (omega (arith, within))
-hold_this f inc (x ∷ xs) zero l within same hold = ((λ is. this_holds (inc == l.inc) (f l.inc) (eq-eqb inc l.inc (sym same))), hold_none f inc xs hold.1)
-hold_this f inc (x ∷ xs) (suc place) l within same hold = ((λ is. still_holds (inc == x.inc) (f x.inc) (hold.0 is)), hold_this f inc xs place l (omega (arith, within)) same hold.1)
-
--- ---- releasing
-
-other_holds : (b c : Bool) → (b ≡ true → ⊥) → c ≡ true → (if b then false else c) ≡ true
-other_holds true c never is = absurd (never refl)
-other_holds false c never is = is
-
-none_less : (b : Bool) (n : ℕ) → n + (if b then 1 else 0) ≡ 0 → n ≡ 0
-none_less true n is = absurd (omega (arith, is))
-none_less false n is = omega (arith, is)
-
-some_here : (b : Bool) (n : ℕ) → b ≡ true → n + (if b then 1 else 0) ≡ 0 → ⊥
-some_here true n this is = omega (arith, is)
-some_here false n this is = absurd (cc)
+-- the same number, tested the other way round
+turned : (a b : ℕ) → (a == b) ≡ true → (b == a) ≡ true
+turned a b is = eq-eqb b a (sym (eqb-true a b is))
 
 none_besides : (b : Bool) (n : ℕ) → b ≡ true → n + (if b then 1 else 0) ≤ 1 → n ≡ 0
 none_besides true n this few = omega (arith, few)
@@ -128,26 +139,38 @@ one_alone : (b : Bool) (n : ℕ) → b ≡ true → n + (if b then 1 else 0) ≤
 one_alone true n this few some = omega (arith, few, some)
 one_alone false n this few some = absurd (cc)
 
--- the same number, tested the other way round
-turned : (a b : ℕ) → (a == b) ≡ true → (b == a) ≡ true
-turned a b is = eq-eqb b a (sym (eqb-true a b is))
+this_one : (b to held : Bool) → b ≡ true → to ≡ (if b then to else held)
+this_one true to held is = refl
+this_one false to held is = absurd (cc)
 
--- a server without a link is released
-pub release_none : (f : ℕ → Bool) (inc : ℕ) (ls : List Link) → links_of inc ls ≡ 0 → HoldFor f ls → HoldFor (λ s. if inc == s then false else f s) ls
-release_none f inc [] none hold = tt
-release_none f inc (x ∷ xs) none hold = (
-  (λ is. other_holds (inc == x.inc) (f x.inc) (λ same. some_here (x.inc == inc) (links_of inc xs) (turned inc x.inc same) none) (hold.0 is)),
-  release_none f inc xs (none_less (x.inc == inc) (links_of inc xs) none) hold.1,
+other_one : (b to held : Bool) → (b ≡ true → ⊥) → held ≡ (if b then to else held)
+other_one true to held never = absurd (never refl)
+other_one false to held never = refl
+
+not_linked : (inc s : ℕ) (ls : List Link) → links_of inc ls ≡ 0 → 1 ≤ links_of s ls → (inc == s) ≡ true → ⊥
+not_linked inc s ls none some is = let zeros : links_of s ls ≡ 0 = ap (λ (n : ℕ). links_of n ls) (sym (eqb-true inc s is)) ∙ none in omega (arith, some, zeros)
+
+-- a server without a link is held or released
+pub set_none : (f : ℕ → Bool) (inc : ℕ) (to : Bool) (ls : List Link) → links_of inc ls ≡ 0 → HoldFor f ls → HoldFor (λ s. if inc == s then to else f s) ls
+set_none f inc to ls none hold = hold_same f (λ s. if inc == s then to else f s) ls (λ s some. other_one (inc == s) to (f s) (not_linked inc s ls none some)) hold
+
+-- a server with one link
+set_one : (f : ℕ → Bool) (inc : ℕ) (to : Bool) (ls : List Link) (place : ℕ) (l d : Link) → place < length ls → (slice_index_or ls place d).inc ≡ inc → l.inc ≡ inc → l.held ≡ to → links_of inc ls ≤ 1 → HoldFor f ls
+    → HoldFor (λ s. if inc == s then to else f s) (slice_set ls place l)
+set_one f inc to [] place l d within was same is few hold = absurd (omega (arith, within))
+set_one f inc to (x ∷ xs) zero l d within was same is few hold = (
+  is ∙ this_one (inc == l.inc) to (f l.inc) (eq-eqb inc l.inc (sym same)),
+  set_none f inc to xs (none_besides (x.inc == inc) (links_of inc xs) (eq-eqb x.inc inc was) few) hold.1,
 )
-
-release_this : (f : ℕ → Bool) (inc : ℕ) (ls : List Link) (place : ℕ) (l d : Link) → place < length ls → (slice_index_or ls place d).inc ≡ inc → l.held ≡ false → links_of inc ls ≤ 1 → HoldFor f ls → HoldFor (λ s. if inc == s then false else f s) (slice_set ls place l)
-release_this f inc [] place l d within same free few hold = absurd (omega (arith, within))
-release_this f inc (x ∷ xs) zero l d within same free few hold = ((λ is. absurd (cc)), release_none f inc xs (none_besides (x.inc == inc) (links_of inc xs) (eq-eqb x.inc inc same) few) hold.1)
-release_this f inc (x ∷ xs) (suc place) l d within same free few hold =
+set_one f inc to (x ∷ xs) (suc place) l d within was same is few hold =
     let inside : place < length xs = omega (arith, within) in (
-      (λ is. other_holds (inc == x.inc) (f x.inc) (λ this. one_alone (x.inc == inc) (links_of inc xs) (turned inc x.inc this) few (linked_at inc xs place d inside same)) (hold.0 is)),
-      release_this f inc xs place l d inside same free (fewer (x.inc == inc) (links_of inc xs) few) hold.1,
+      hold.0 ∙ other_one (inc == x.inc) to (f x.inc) (λ this. one_alone (x.inc == inc) (links_of inc xs) (turned inc x.inc this) few (linked_at inc xs place d inside was)),
+      set_one f inc to xs place l d inside was same is (fewer (x.inc == inc) (links_of inc xs) few) hold.1,
     )
+
+pub hold_this : (f : ℕ → Bool) (inc : ℕ) (ls : List Link) (place : ℕ) (l : Link) → place < length ls → l ≡ slice_index_or ls place l → l.inc ≡ inc → links_of inc ls ≤ 1 → HoldFor f ls
+    → HoldFor (λ s. if inc == s then true else f s) (slice_set ls place (record l { held = true }))
+hold_this f inc ls place l within is same few hold = set_one f inc true ls place (record l { held = true }) l within (ap (λ (x : Link). x.inc) (sym is) ∙ same) same refl few hold
 
 pub let_go_holds : {D : Type 0} (f : ℕ → Bool) (es : List (Event D)) (ls new : List Link) (place inc : ℕ) (l : Link) → place < length ls → IsLinkAt ls place inc → ((s : ℕ) → running s es ≤ 1) → AreLinked es ls
     → new ≡ slice_set ls place (record (slice_index_or ls place l) { held = false; waiting = [] }) → HoldFor f ls → HoldFor (λ s. if inc == s then false else f s) new
@@ -156,17 +179,9 @@ let_go_holds f es ls new place inc l within at single linked set hold =
     let all = linked inc in
     let same : (slice_index_or ls place l).inc ≡ inc = ap (λ (x : Link). x.inc) (any_at ls place l at.link within ∙ sym at.stands) ∙ at.server in
     subst (λ (now : List Link). HoldFor (λ s. if inc == s then false else f s) now) (sym set)
-    (release_this f inc ls place (record (slice_index_or ls place l) { held = false; waiting = [] }) l within same refl (omega (arith, few, all)) hold)
+    (set_one f inc false ls place (record (slice_index_or ls place l) { held = false; waiting = [] }) l within same same refl (omega (arith, few, all)) hold)
 
 -- ---- commands
-
--- what is held behind one command more
-held_more : (s : ℕ) (cs : List ScriptCommand) (c : ScriptCommand) (held : Bool) → is_held s (cs ++ c ∷ []) held ≡ behind_hold c s (is_held s cs held)
-held_more s [] c held = refl
-held_more s (x ∷ xs) c held = held_more s xs c (behind_hold x s held)
-
-pub hold_more : (front : List ScriptCommand) (c : ScriptCommand) (ls : List Link) → HoldFor (λ s. behind_hold c s (is_held s front false)) ls → HoldFor (λ s. is_held s (front ++ c ∷ []) false) ls
-hold_more front c ls hold = hold_weaker (λ s. behind_hold c s (is_held s front false)) (λ s. is_held s (front ++ c ∷ []) false) ls (λ s is. held_more s front c false ∙ is) hold
 
 -- the command that it is
 pub as_command : (f : ℕ → Bool) (c is_it : ScriptCommand) (ls : List Link) → is_it ≡ c → HoldFor (λ s. behind_hold c s (f s)) ls → HoldFor (λ s. behind_hold is_it s (f s)) ls

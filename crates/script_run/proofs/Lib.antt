@@ -4,6 +4,7 @@ pub mod Carried
 pub mod Coursed
 pub mod Faulted
 pub mod Held
+pub mod Holding
 pub mod Lines
 pub mod Ordered
 pub mod Reading

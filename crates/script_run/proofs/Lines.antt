@@ -1,12 +1,9 @@
 -- What is printed of a command, at its beginning and at its end.
-use Rattle.std.proofs.Common.{◌≡◌, ◌≢◌, ◌≤◌, ◌==◌, ◌++◌, ⊎_elim, inl, inr, ℕ, zero, suc, Bool, true, false, List, [], ◌∷◌, if◌then◌else◌, Option, Some, None, Result, Ok, Err, IfOk, IfErr, OnOk, refl, sym, ap, ◌∙◌, subst, append-nil, append_assoc, arith}
-use Rattle.std.specs.Prelude.{◌&&◌}
+use Rattle.std.proofs.Common.{◌≡◌, ◌≢◌, ◌≤◌, ◌==◌, ◌++◌, ℕ, zero, suc, Bool, true, false, List, [], ◌∷◌, if◌then◌else◌, Option, Some, None, Result, Ok, Err, IfOk, OnOk, refl, sym, ap, ◌∙◌, subst, append-nil, arith}
 use Rattle.std.specs.Io.KnownBytes.{Appends}
 use Rattle.std.proofs.lemmas.Bool.{eqb-true, eq-eqb}
-use Rattle.container_core.specs.Opening.{looked_at}
 use Rattle.container_model.specs.Commands.{on_command}
-use Rattle.container_model.specs.Opens.{Given as Holds, IsReadAs, opened}
-use Rattle.container_model.specs.Record.{Record, Took, Refuses, counts_none}
+use Rattle.container_model.specs.Record.{Record, Refuses, counts_none}
 use Rattle.container_model.specs.declared.answer.Answer.{Answer}
 use Rattle.container_model.specs.declared.command.Command.{Command}
 use Rattle.container_model.specs.declared.command.Command.TheVariants as asks
@@ -16,11 +13,10 @@ use Rattle.container_screen.specs.Screen.{shown}
 use Rattle.store_model.specs.declared.disk.Disk.{Ghosts as Disks}
 use Rattle.script_container.proofs.Answered.{refused_with}
 use Rattle.script_container.specs.declared.fault.ScriptFault.{ScriptFault}
-use Rattle.script_container.specs.declared.fault.ScriptFault.TheVariants as ends
 use Rattle.script_model.specs.Answers.{further, made_by, told_by, told_line}
 use Rattle.script_model.specs.Bounds.{Pace, linking, pace}
 use Rattle.script_model.specs.Containers.{record_of}
-use Rattle.script_model.specs.Courses.{Course, Opening, but_opening, but_starts, course, is_start, is_unraised, told_of}
+use Rattle.script_model.specs.Courses.{Course, Opening, but_starts, course, is_start, is_unraised, told_of}
 use Rattle.script_model.specs.Events.{Event, Stepped, running}
 use Rattle.script_model.specs.Notices.{Tells, notices}
 use Rattle.script_model.specs.declared.answer.Told.{Told}
@@ -28,7 +24,8 @@ use Rattle.script_model.specs.declared.answer.Told.TheVariants as told
 use Rattle.script_model.specs.declared.command.ScriptCommand.{ScriptCommand}
 use Rattle.script_model.specs.declared.command.ScriptCommand.TheVariants as script
 use Rattle.script_model.specs.declared.step.Step.TheVariants as step
-use Rattle.script_run.specs.Printed.{HasLine, IfBegun, IsBeginning, IsBegunWith, IsCut, IsFirst, IsFirstOf, IsLine, IsOpenTold, IsShown, told_of_server}
+use Rattle.script_run.proofs.Holding.{both_later}
+use Rattle.script_run.specs.Printed.{HasLine, IfBegun, IsBeginning, IsBegunWith, IsCut, IsFirst, IsFirstOf, IsShown, told_of_server}
 
 -- ---- results
 
@@ -96,6 +93,9 @@ unequal false n m is apart = refl
 
 pub raised_so : (r : Record) → (r.session ≡ 0 → ⊥) → is_unraised r asks.Start ≡ false
 raised_so r some = unequal (r.session == 0) r.session 0 refl some
+
+pub none_raised : (r : Record) (c : Command) → is_unraised r c ≡ true → r.session ≡ 0
+none_raised r c is = eqb-true r.session 0 (both_later (is_start c) (r.session == 0) is)
 
 pub unraised_so : (r : Record) → r.session ≡ 0 → is_unraised r asks.Start ≡ true
 unraised_so r none = eq-eqb r.session 0 none

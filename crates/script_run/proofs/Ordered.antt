@@ -1,5 +1,5 @@
 -- What a script's container is given for a command, where a start without a session comes behind a Session.
-use Rattle.std.proofs.Common.{◌≡◌, ◌≢◌, ◌∙◌, ⊎_elim, inl, inr, ℕ, List, ◌∷◌, Result, Ok, Err, OnOk, refl, sym, ap, subst}
+use Rattle.std.proofs.Common.{◌≡◌, ◌≢◌, ◌∙◌, inl, inr, List, ◌∷◌, Result, OnOk, refl, sym, ap, subst}
 use Rattle.container_model.specs.Record.{Record}
 use Rattle.container_model.specs.declared.command.Command.{Command}
 use Rattle.container_model.specs.declared.command.Command.TheVariants as command

@@ -1,5 +1,5 @@
 -- What is told of a file that is to be opened.
-use Rattle.std.proofs.Common.{◌≡◌, ◌≢◌, ◌<◌, ◌⊎◌, ⊎_elim, inl, inr, ℕ, List, [], ◌∷◌, length, Option, Some, None, Result, Ok, Err, IfOk, IfErr, refl, sym, ap, ◌∙◌, subst}
+use Rattle.std.proofs.Common.{◌≡◌, ◌<◌, ◌⊎◌, ⊎_elim, inl, inr, ℕ, List, ◌∷◌, length, Option, Some, None, Result, Ok, Err, IfOk, refl, sym, ap, ◌∙◌, subst}
 use Rattle.container_core.specs.Opening.{looked_at}
 use Rattle.container_model.specs.Opens.{Given as Holds, IsReadAs, opened}
 use Rattle.container_documents.specs.Reading.{as_given}
@@ -8,7 +8,7 @@ use Rattle.container_model.specs.declared.fault.ContainerFault.{ContainerFault}
 use Rattle.container_model.specs.declared.fault.ContainerFault.TheVariants as fault
 use Rattle.document_model.specs.Documents.{Doc}
 use Rattle.store_model.specs.Journal.{restored}
-use Rattle.store_model.specs.Store.{OpenRefuses, StandsFor}
+use Rattle.store_model.specs.Store.{OpenRefuses}
 use Rattle.store_model.specs.declared.disk.Disk.{Ghosts as Disks}
 use Rattle.store_model.specs.declared.fault.StoreFault.{StoreFault}
 use Rattle.store_model.specs.declared.fault.StoreFault.TheVariants as store

@@ -1,5 +1,5 @@
 -- What is written of the commands that ended, one more at a time.
-use Rattle.std.proofs.Common.{◌≡◌, ◌≢◌, ◌≤◌, ◌+◌, ◌++◌, ◌⊎◌, ⊎_elim, inl, inr, ℕ, zero, suc, List, [], ◌∷◌, length, Option, Some, None, Result, Ok, Err, IfErr, IfOk, OnOk, refl, sym, ap, ◌∙◌, subst, append_assoc, append-nil, arith}
+use Rattle.std.proofs.Common.{◌≡◌, ◌≢◌, ◌+◌, ◌++◌, inl, inr, ℕ, zero, suc, List, [], ◌∷◌, length, Option, Some, None, Result, Ok, Err, IfErr, OnOk, refl, sym, ap, ◌∙◌, subst, append_assoc, append-nil, arith}
 use Rattle.std.specs.Prelude.{IfSome, slice_get}
 use Rattle.std.specs.Io.KnownBytes.{Appends}
 use Rattle.std.specs.Result.{IsErrAnd}
@@ -12,13 +12,14 @@ use Rattle.script_links.specs.declared.links.Link.{Link}
 use Rattle.script_model.specs.declared.command.ScriptCommand.{ScriptCommand}
 use Rattle.script_model.specs.declared.step.Step.{Step}
 use Rattle.script_model.specs.declared.step.Step.TheVariants as step
-use Rattle.script_model.specs.Courses.{Course, behind_shut, course}
+use Rattle.script_model.specs.Courses.{course}
 use Rattle.script_model.specs.Errors.{before_ends}
 use Rattle.script_model.specs.Events.{Event, Started, Connected, Sent, Heard, Ended, Opened, Found, Shut, Stepped}
 use Rattle.script_texts.specs.Commands.{commands_read}
-use Rattle.script_run.proofs.Carried.{SoFar}
+use Rattle.script_run.proofs.Carried.{SoFar, at_place}
+use Rattle.script_run.proofs.Coursed.{shut_begun}
 use Rattle.script_run.specs.Faulted.{RefusesScript, ShowsOf}
-use Rattle.script_run.specs.Printed.{HasAll, HasEarlier, HasLine, HasLines, HasSome, HasSomeOf, IsBehind, IsLine, Printed, PrintedBefore}
+use Rattle.script_run.specs.Printed.{HasAll, HasEarlier, HasLine, HasLines, HasSome, HasSomeOf, Printed, PrintedBefore}
 
 -- an error that commands end with: their text was read
 abbrev pub IsOfCommands : ScriptFault → Type 0
@@ -59,19 +60,6 @@ module _ {D : Type 0} (disks : Disks D) (commands : List ScriptCommand) (text : 
   abbrev PrintedAt : Option (ℕ × List (Event D)) → Type 0
   PrintedAt None = text ≡ []
   PrintedAt (Some b) = Printed disks commands b.0 b.1 text
-
-  shut_begun : (disk : D) (es : List (Event D)) (k : Course D) → (behind_shut disk es k).begun ≡ k.begun
-  shut_begun disk [] k = refl
-  shut_begun disk (Found name (Some found) ∷ es) k = refl
-  shut_begun disk (Found name None ∷ es) k = refl
-  shut_begun disk (Stepped st ∷ es) k = refl
-  shut_begun disk (Started session inc ok ∷ es) k = refl
-  shut_begun disk (Connected inc ok ∷ es) k = refl
-  shut_begun disk (Sent inc bytes ok ∷ es) k = refl
-  shut_begun disk (Heard inc bytes ok ∷ es) k = refl
-  shut_begun disk (Ended inc ∷ es) k = refl
-  shut_begun disk (Opened name given ∷ es) k = refl
-  shut_begun disk (Shut name other ∷ es) k = refl
 
   printed_now : (place : ℕ) (es : List (Event D)) → Printed disks commands place es text → PrintedBefore disks commands (Stepped (step.Begins place) ∷ es) text
   printed_now zero es has = has
@@ -133,12 +121,6 @@ module _ {D : Type 0} (disks : Disks D) (commands : List ScriptCommand) (text : 
       of_begun after (subst PrintedAt (sym (standing ∙ ap (λ (h : List (Event D)). (course h).begun) begins)) has)
 
 -- ---- one command more
-
-at_place : (front : List ScriptCommand) (c : ScriptCommand) (more : List ScriptCommand) (n : ℕ) → n ≡ length front → slice_get (front ++ c ∷ more) n ≡ Some c
-at_place [] c more zero is = refl
-at_place [] c more (suc n) is = absurd (omega (arith, is))
-at_place (x ∷ front) c more zero is = absurd (omega (arith, is))
-at_place (x ∷ front) c more (suc n) is = at_place front c more n (omega (arith, is))
 
 module _ {D : Type 0} (disks : Disks D) where
   pub lines_first : (commands : List ScriptCommand) (count : ℕ) (es : List (Event D)) (w : Option (List ℕ)) → count ≡ 0 → HasLines disks commands count es w w

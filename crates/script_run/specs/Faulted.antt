@@ -6,9 +6,10 @@ use Rattle.texts.specs.Lines.{RefusesText}
 use Rattle.script_container.specs.declared.fault.ScriptFault.{ScriptFault}
 use Rattle.script_container.specs.declared.fault.ScriptFault.TheVariants as fault
 use Rattle.script_model.specs.declared.command.ScriptCommand.{ScriptCommand}
-use Rattle.script_model.specs.Errors.{IsLeftHeld, IsUnknown, IsUnsettled, IsUnstarted, before_ends}
+use Rattle.script_model.specs.Errors.{IsUnknown, IsUnsettled, IsUnstarted, before_ends}
 use Rattle.script_model.specs.Events.{Event}
 use Rattle.script_texts.specs.Commands.{commands_read, line_read}
+use Rattle.script_run.specs.Holding.{IsStillHeld}
 
 -- A script isn't read for this error: where the bytes of the input are known, they may be refused for it.
 abbrev pub RefusesScript : Option (List ℕ) → ScriptFault → Type 0
@@ -26,16 +27,17 @@ abbrev pub ShowsOf : {D : Type 0} (disks : Disks D) → List ScriptCommand → L
 ShowsOf disks commands es (fault.Input why) = ⊥
 ShowsOf disks commands es (fault.Line n why) = ⊥
 ShowsOf disks commands es (fault.Link inc) = IsUnstarted inc es
-ShowsOf disks commands es fault.Stalled = IsUnsettled es ⊎ IsLeftHeld es commands
+ShowsOf disks commands es fault.Stalled = IsUnsettled es ⊎ IsStillHeld es commands
 ShowsOf disks commands es (fault.File name why) = IsUnknown disks es name.items why
 ShowsOf disks commands es fault.NoMemory = Unit {0}
 ShowsOf disks commands es fault.Unwritable = Unit {0}
 
--- All commands that the input spells began, one after another, and a server runs that they hold and don't release again.
+-- All commands that the input spells began, one after another, and a server runs that they hold and don't release again: it ran when it
+-- was held, and since then.
 pub record IsHeldToTheEnd {D : Type 0} (input : Option (List ℕ)) (es : List (Event D)) : Type 0 where
   pub commands : List ScriptCommand
   pub read : IfSome input (λ text. commands_read text ≡ Ok commands)
-  pub left : IsLeftHeld es commands
+  pub left : IsStillHeld es commands
 
 -- The error that a script over this input ended with, by its whole history. Where the input isn't read, or a line of it is refused,
 -- nothing was asked and nothing was given to the container; and where the bytes of the input are known, they may be refused for it.

@@ -2,5 +2,6 @@ pub mod Again
 pub mod Came
 pub mod Carried
 pub mod Faulted
+pub mod Holding
 pub mod Printed
 pub mod Starts

@@ -16,7 +16,7 @@ ghost use Rattle.script_model.specs.Origins.{AreNext, Passed, giving, passed};
 ghost use Rattle.script_model.specs.Saved.{is_any_unsaved};
 ghost use Rattle.script_model.specs.declared.command.ScriptCommand.TheVariants as script;
 ghost use Rattle.script_model.specs.declared.step.Step.{Step};
-ghost use Rattle.script_links.specs.Links.{AreLinked, AreServed, EachServed, HoldFor, IsLinkAt, beside, links_of};
+ghost use Rattle.script_links.specs.Links.{AreHeld, AreLinked, AreServed, EachServed, HoldFor, IsLinkAt, beside, links_of};
 ghost use Rattle.script_links.specs.Ready.{AreReady, MayLink, pace_beside};
 ghost use Rattle.script_links.specs.Shown.{AreQuiet, Shows};
 ghost use Rattle.script_links.specs.Told.{IsTold};
@@ -83,7 +83,7 @@ fn start<H: Host>(
     ensures noticed { notices (H.told host.new) ≡ notices (H.told host.old) }
     ensures tried { OnOk result ((course (H.told host.new)).unstarted ≡ without inc (course (H.told host.old)).unstarted) }
     ensures shown { IfErr result (λ fault. Shows ⟦<H::Disk as Disk>⟧ (H.told host.new) fault) }
-    ensures holding { (f : ℕ → Bool) → HoldFor f links.old.items → HoldFor f links.new.items }
+    ensures holding { (f : ℕ → Bool) → AreHeld f links.old.items → AreHeld f links.new.items }
 {
     let session = core.session();
     match place_of(links, inc) {
@@ -157,7 +157,7 @@ fn start_on<H: Host>(
     ensures noticed { notices (H.told host.new) ≡ notices (H.told host.old) }
     ensures tried { (incs : List ℕ) → AreIn (course (H.told host.old)).unstarted (with_start action.now incs) → OnOk result (AreIn (course (H.told host.new)).unstarted incs) }
     ensures shown { IfErr result (λ fault. Shows ⟦<H::Disk as Disk>⟧ (H.told host.new) fault) }
-    ensures holding { (f : ℕ → Bool) → HoldFor f links.old.items → HoldFor f links.new.items }
+    ensures holding { (f : ℕ → Bool) → AreHeld f links.old.items → AreHeld f links.new.items }
 {
     match action {
         Action::Start(inc) => start(alloc, host, core, links, *inc),
@@ -186,7 +186,7 @@ fn start_asked<H: Host>(
     ensures noticed { notices (H.told host.new) ≡ notices (H.told host.old) }
     ensures tried { OnOk result ((course (H.told host.new)).unstarted ≡ []) }
     ensures shown { IfErr result (λ fault. Shows ⟦<H::Disk as Disk>⟧ (H.told host.new) fault) }
-    ensures holding { (f : ℕ → Bool) → HoldFor f links.old.items → HoldFor f links.new.items }
+    ensures holding { (f : ℕ → Bool) → AreHeld f links.old.items → AreHeld f links.new.items }
 {
     if core.session() == 0 {
         return Ok(());
@@ -277,7 +277,7 @@ fn act<H: Host>(
     ensures tried { OnOk result ((course (H.told host.new)).unstarted ≡ []) }
     ensures seen { OnOk result (Tells (notices (H.told host.new)) noticed.new) }
     ensures shown { IfErr result (λ fault. Shows ⟦<H::Disk as Disk>⟧ (H.told host.new) fault) }
-    ensures holding { (f : ℕ → Bool) → HoldFor f links.old.items → HoldFor f links.new.items }
+    ensures holding { (f : ℕ → Bool) → AreHeld f links.old.items → HoldFor f links.new.items }
 {
     start_asked(alloc, host, core, links, answer)?;
     end_asked(alloc, host, core, links, answer, noticed)?;
@@ -309,7 +309,7 @@ fn give<H: Host>(
     ensures answered { IfOk result (λ t. t ≡ told_by (on_command core.old ordered)) }
     ensures seen { OnOk result (Tells (notices (H.told host.new)) noticed.new) }
     ensures shown { IfErr result (λ fault. Shows ⟦<H::Disk as Disk>⟧ (H.told host.new) fault) }
-    ensures holding { (f : ℕ → Bool) → HoldFor f links.old.items → HoldFor f links.new.items }
+    ensures holding { (f : ℕ → Bool) → AreHeld f links.old.items → HoldFor f links.new.items }
 {
     match command(alloc, host, core, ordered) {
         Ok(answer) => {
@@ -333,6 +333,37 @@ fn is_first_start(core: &ContainerCore, ordered: &Command) -> bool
     }
 }
 
+/// Has the session of a container raised that has none: its first frame's file is to be saved. No server is started by that, and
+/// none ended.
+fn raise<H: Host>(
+    alloc: Global,
+    host: &mut H,
+    core: &mut ContainerCore,
+    noticed: &mut Option<Told>,
+) -> Result<Told, ScriptFault>
+    requires told { IsTold ⟦<H::Disk as Disk>⟧ (H.told host.old) core.old }
+    requires none { core.old.session ≡ 0 }
+    requires idle { (course (H.told host.old)).unstarted ≡ [] }
+    requires seen { Tells (notices (H.told host.old)) noticed.old }
+    ensures told { IsTold ⟦<H::Disk as Disk>⟧ (H.told host.new) core.new }
+    ensures still { (s : ℕ) → running s (H.told host.new) ≡ running s (H.told host.old) }
+    ensures quiet { (s : ℕ) → passed s (H.told host.new) ≡ passed s (H.told host.old) }
+    ensures paced { (s : ℕ) → pace s (H.told host.new) ≡ pace s (H.told host.old) }
+    ensures ordered { but_starts (course (H.told host.new)) ≡ but_starts (course (Stepped (Step.Command asks.Session) ∷ H.told host.old)) }
+    ensures tried { OnOk result ((course (H.told host.new)).unstarted ≡ []) }
+    ensures answered { IfOk result (λ t. t ≡ told_by (on_command core.old asks.Session)) }
+    ensures seen { OnOk result (Tells (notices (H.told host.new)) noticed.new) }
+    ensures shown { IfErr result (λ fault. Shows ⟦<H::Disk as Disk>⟧ (H.told host.new) fault) }
+{
+    match command(alloc, host, core, Command::Session) {
+        Ok(answer) => {
+            save_all(alloc, host, core, &answer, noticed)?;
+            Ok(made_by(&answer))
+        }
+        Err(fault) => refusal(fault),
+    }
+}
+
 /// Starts a server in a container that has no session: first its session is raised. Gives what is told of the start, or, where
 /// there is no session then either, of what was to raise it.
 fn start_first<H: Host>(
@@ -345,6 +376,7 @@ fn start_first<H: Host>(
     requires told { IsTold ⟦<H::Disk as Disk>⟧ (H.told host.old) core.old }
     requires linked { AreLinked (H.told host.old) links.old.items }
     requires served { AreServed (H.told host.old) links.old.items }
+    requires none { core.old.session ≡ 0 }
     requires idle { (course (H.told host.old)).unstarted ≡ [] }
     requires seen { Tells (notices (H.told host.old)) noticed.old }
     ensures told { IsTold ⟦<H::Disk as Disk>⟧ (H.told host.new) core.new }
@@ -357,9 +389,9 @@ fn start_first<H: Host>(
     ensures first { IfOk result (λ t. ((course (H.told host.new)).commanded ≡ Some t) × ((course (H.told host.new)).unstarted ≡ [])) }
     ensures seen { OnOk result (Tells (notices (H.told host.new)) noticed.new) }
     ensures shown { IfErr result (λ fault. Shows ⟦<H::Disk as Disk>⟧ (H.told host.new) fault) }
-    ensures holding { (f : ℕ → Bool) → HoldFor f links.old.items → HoldFor f links.new.items }
+    ensures holding { (f : ℕ → Bool) → AreHeld f links.old.items → HoldFor f links.new.items }
 {
-    let raised = give(alloc, host, core, links, Command::Session, noticed)?;
+    let raised = raise(alloc, host, core, noticed)?;
     let lacks = core.session() == 0;
     let started = give(alloc, host, core, links, Command::Start, noticed)?;
     if lacks {
@@ -392,7 +424,7 @@ fn order<H: Host>(
     ensures first { IfOk result (λ t. ((course (H.told host.new)).commanded ≡ Some t) × ((course (H.told host.new)).unstarted ≡ [])) }
     ensures seen { OnOk result (Tells (notices (H.told host.new)) noticed.new) }
     ensures shown { IfErr result (λ fault. Shows ⟦<H::Disk as Disk>⟧ (H.told host.new) fault) }
-    ensures holding { (f : ℕ → Bool) → HoldFor f links.old.items → HoldFor f links.new.items }
+    ensures holding { (f : ℕ → Bool) → AreHeld f links.old.items → HoldFor f links.new.items }
 {
     if is_first_start(core, &ordered) {
         return start_first(alloc, host, core, links, noticed);
@@ -541,7 +573,7 @@ fn hold(links: &mut Vec<Link>, place: usize)
     requires { place < length links.old.items }
     ensures same { (s : ℕ) → links_of s links.new.items ≡ links_of s links.old.items }
     ensures served { (f : ℕ → Passed) → EachServed f links.old.items → EachServed f links.new.items }
-    ensures holding { (f : ℕ → Bool) (inc : ℕ) → IsLinkAt links.old.items place inc → HoldFor f links.old.items → HoldFor (λ s. behind_hold (script.Hold inc) s (f s)) links.new.items }
+    ensures holding { (f : ℕ → Bool) (inc : ℕ) → IsLinkAt links.old.items place inc → links_of inc links.old.items ≤ 1 → HoldFor f links.old.items → HoldFor (λ s. behind_hold (script.Hold inc) s (f s)) links.new.items }
 {
     links[place].held = true;
 }
@@ -613,7 +645,7 @@ fn hold_link(links: &mut Vec<Link>, inc: u32) -> Told
     ensures first { (n : ℕ) → n ≡ links_of inc links.old.items → result ≡ told_of_server n }
     ensures same { (s : ℕ) → links_of s links.new.items ≡ links_of s links.old.items }
     ensures served { (f : ℕ → Passed) → EachServed f links.old.items → EachServed f links.new.items }
-    ensures holding { (f : ℕ → Bool) → HoldFor f links.old.items → HoldFor (λ s. behind_hold (script.Hold inc) s (f s)) links.new.items }
+    ensures holding { (f : ℕ → Bool) → links_of inc links.old.items ≤ 1 → HoldFor f links.old.items → HoldFor (λ s. behind_hold (script.Hold inc) s (f s)) links.new.items }
 {
     let Some(place) = place_of(links, inc) else {
         return Told::Fault(ContainerFault::NoSuch);
@@ -667,7 +699,7 @@ fn begin<H: Host>(
     ensures first { IfOk result (λ t. IsBegunWith ⟦<H::Disk as Disk>⟧ command (H.told host.new) text.old.items text.new.items t) }
     ensures seen { OnOk result (Tells (notices (H.told host.new)) noticed.new) }
     ensures shown { IfErr result (λ fault. Shows ⟦<H::Disk as Disk>⟧ (H.told host.new) fault) }
-    ensures holding { (f : ℕ → Bool) → HoldFor f links.old.items → HoldFor (λ s. behind_hold command s (f s)) links.new.items }
+    ensures holding { (f : ℕ → Bool) → AreHeld f links.old.items → HoldFor (λ s. behind_hold command s (f s)) links.new.items }
 {
     match command {
         ScriptCommand::Container(ordered) => order(alloc, host, core, links, ordered, noticed),
@@ -706,7 +738,7 @@ pub(crate) fn carry_out<H: Host, W: Write>(
     ensures printed { OnOk result (HasLine ⟦<H::Disk as Disk>⟧ command (H.told host.new) (W.contents writer.old) (W.contents writer.new)) }
     ensures unwritten { IfErr result (λ fault. fault ≢ Unwritable → W.contents writer.new ≡ W.contents writer.old) }
     ensures shown { IfErr result (λ fault. Shows ⟦<H::Disk as Disk>⟧ (H.told host.new) fault) }
-    ensures holding { (f : ℕ → Bool) → HoldFor f links.old.items → HoldFor (λ s. behind_hold command s (f s)) links.new.items }
+    ensures holding { (f : ℕ → Bool) → AreHeld f links.old.items → HoldFor (λ s. behind_hold command s (f s)) links.new.items }
 {
     let mut noticed = None;
     let mut text = Vec::new(alloc);

@@ -12,9 +12,10 @@ ghost use Rattle.script_model.specs.Settled.{IsSettled};
 ghost use Rattle.script_model.specs.Turns.{AreTurns};
 ghost use Rattle.script_run.specs.Carried.{AreCarriedOut, MayHaveBegun};
 ghost use Rattle.script_run.specs.Faulted.{IsFaultOf, RefusesScript, ShowsOf};
+ghost use Rattle.script_run.specs.Holding.{AreReleased, AreReleasedOf};
 ghost use Rattle.script_run.specs.Printed.{HasAll, HasLines, HasSome, HasSomeOf};
 ghost use Rattle.script_texts.specs.Commands.{commands_read};
-ghost use Rattle.script_links.specs.Links.{AreLinked, AreServed, HoldFor, is_any_held};
+ghost use Rattle.script_links.specs.Links.{AreHeld, AreLinked, AreServed, is_any_held};
 ghost use Rattle.script_links.specs.Shown.{AreQuiet};
 ghost use Rattle.script_links.specs.Told.{IsTold};
 ghost use Rattle.std.specs.Prelude.{◌≡◌, ◌∷◌, ℕ, [], false, IfErr, IfOk, IfSome, Ok, OnOk, length};
@@ -89,8 +90,8 @@ fn carry_out_all<H: Host, W: Write>(
     requires told { IsTold ⟦<H::Disk as Disk>⟧ (H.told host.old) core.old }
     requires linked { AreLinked (H.told host.old) links.old.items }
     requires served { AreServed (H.told host.old) links.old.items }
-    requires none { orders (H.told host.old) ≡ [] }
-    requires free { HoldFor (λ _. false) links.old.items }
+    requires none { H.told host.old ≡ [] }
+    requires free { AreHeld (λ _. false) links.old.items }
     requires quiet { AreQuiet core.old.objects links.old.items }
     requires saved { is_any_unsaved core.old.frames ≡ false }
     ensures told { IsTold ⟦<H::Disk as Disk>⟧ (H.told host.new) core.new }
@@ -98,6 +99,7 @@ fn carry_out_all<H: Host, W: Write>(
     ensures ordered { OnOk result (orders (H.told host.new) ≡ behind_commands 0 commands.items []) }
     ensures begun { HaveBegun (H.told host.new) commands.items }
     ensures settled { OnOk result (IsSettled (H.told host.new)) }
+    ensures released { OnOk result (AreReleased (H.told host.new) commands.items) }
     ensures printed { OnOk result (HasLines ⟦<H::Disk as Disk>⟧ commands.items (length commands.items) (H.told host.new) (W.contents writer.old) (W.contents writer.new)) }
     ensures begun_printed { IfErr result (HasSome ⟦<H::Disk as Disk>⟧ commands.items (H.told host.new) (W.contents writer.old) (W.contents writer.new)) }
     ensures shown { IfErr result (λ fault. ShowsOf ⟦<H::Disk as Disk>⟧ commands.items (H.told host.new) fault) }
@@ -124,7 +126,8 @@ fn carry_out_all<H: Host, W: Write>(
 /// Else the first of these is told.
 ///
 /// Where it ends well, what was asked for is done (`settled`): no call is pending of a server that ran to the end, and no frame's file
-/// is to be committed, or in doubt. Of frames this holds where each command begins, too (`heard`).
+/// is to be committed, or in doubt. Of frames this holds where each command begins, too (`heard`). And no server that ran to the end is
+/// held (`released`); one that is held ends the script by `Stalled`.
 ///
 /// Refused: an input that isn't read or has more than 134,217,728 bytes; the first line that spells no command; and then, as
 /// commands are carried out: a server that isn't started (`Link`); what isn't answered in 1,000 turns, a file that is still to be
@@ -151,6 +154,7 @@ pub fn run_script<H: Host, R: Read, W: Write>(
     ensures carried { OnOk result (IfSome (R.remaining reader.old) (λ text. AreCarriedOut (H.told host.new) text)) }
     ensures begun { IfSome (R.remaining reader.old) (λ text. MayHaveBegun (H.told host.new) text) }
     ensures settled { OnOk result (IsSettled (before_ends (H.told host.new))) }
+    ensures released { OnOk result (IfSome (R.remaining reader.old) (λ text. AreReleasedOf (before_ends (H.told host.new)) text)) }
     ensures faulted { IfErr result (λ fault. IsFaultOf ⟦<H::Disk as Disk>⟧ (R.remaining reader.old) (H.told host.new) fault) }
     ensures printed { OnOk result (IfSome (R.remaining reader.old) (λ text. HasAll ⟦<H::Disk as Disk>⟧ (before_ends (H.told host.new)) text (W.contents writer.old) (W.contents writer.new))) }
     ensures begun_printed { IfErr result (λ fault. IfSome (R.remaining reader.old) (λ text. HasSomeOf ⟦<H::Disk as Disk>⟧ (before_ends (H.told host.new)) text (W.contents writer.old) (W.contents writer.new) fault)) }

@@ -2,7 +2,7 @@ use Rattle.std.proofs.Common.{◌≡◌, ◌∙◌, ℕ, [], Some, ap, refl, sub
 use Rattle.container_core.specs.Opening.{looked_at}
 use Rattle.container_model.specs.Record.{Record}
 use Rattle.script_links.specs.Ready.{AreReady}
-use Rattle.script_links.proofs.Paces.{all_rested, still_rested}
+use Rattle.script_links.proofs.Paces.{all_rested, single_linked, still_rested}
 use Rattle.script_links.proofs.Served.{on_ok}
 use Rattle.script_container.proofs.Noticed.{seen_still}
 use Rattle.script_container.proofs.Shown.{memory_shown}
@@ -51,19 +51,21 @@ pub returns-in-Container-clause-holding : goal.returns-in-Container-clause-holdi
 returns-in-Container-clause-holding g c = λ f hold. as_command f _ c.args.command c.order.new.links.items c.in-Container.is (c.order.ensures.holding f hold)
 
 pub returns-in-Cut-clause-holding : goal.returns-in-Cut-clause-holding
-returns-in-Cut-clause-holding g c = λ f hold. as_command f _ c.args.command c.cut_link.new.links.items c.in-Cut.is (c.cut_link.ensures.holding f hold)
+returns-in-Cut-clause-holding g c = λ f hold. as_command f _ c.args.command c.cut_link.new.links.items c.in-Cut.is (c.cut_link.ensures.holding f hold.each)
 
 pub returns-in-Hold-clause-holding : goal.returns-in-Hold-clause-holding
-returns-in-Hold-clause-holding g c = λ f hold. as_command f _ c.args.command c.hold_link.new.links.items c.in-Hold.is (c.hold_link.ensures.holding f hold)
+returns-in-Hold-clause-holding g c = λ f hold.
+    as_command f _ c.args.command c.hold_link.new.links.items c.in-Hold.is
+    (c.hold_link.ensures.holding f (single_linked (g.H.Host.told c.args.host.now) c.args.links.now.items c.in-Hold.inc c.requires.told.single c.requires.linked) hold.each)
 
 pub returns-in-Release-clause-holding : goal.returns-in-Release-clause-holding
-returns-in-Release-clause-holding g c = λ f hold. as_command f _ c.args.command c.release_link.new.links.items c.in-Release.is (c.release_link.ensures.holding f hold)
+returns-in-Release-clause-holding g c = λ f hold. as_command f _ c.args.command c.release_link.new.links.items c.in-Release.is (c.release_link.ensures.holding f hold.each)
 
 pub returns-in-Open-clause-holding : goal.returns-in-Open-clause-holding
-returns-in-Open-clause-holding g c = λ f hold. as_command f _ c.args.command c.args.links.now.items c.in-Open.is hold
+returns-in-Open-clause-holding g c = λ f hold. as_command f _ c.args.command c.args.links.now.items c.in-Open.is hold.each
 
 pub returns-in-Screen-clause-holding : goal.returns-in-Screen-clause-holding
-returns-in-Screen-clause-holding g c = λ f hold. as_command f _ c.args.command c.args.links.now.items c.in-Screen.is hold
+returns-in-Screen-clause-holding g c = λ f hold. as_command f _ c.args.command c.args.links.now.items c.in-Screen.is hold.each
 
 pub returns-in-Container-clause-ordered : goal.returns-in-Container-clause-ordered
 returns-in-Container-clause-ordered g c =

@@ -10,7 +10,7 @@ use Rattle.script_container.proofs.Noticed.{seen_still}
 use Rattle.script_container.proofs.Shown.{memory_shown, passed_on}
 use Rattle.script_links.proofs.Served.{on_ok}
 use Rattle.script_run.proofs.Coursed.{given_on}
-use Rattle.script_run.proofs.Lines.{answer_told, refusal_told, refused_on, refused_then}
+use Rattle.script_run.proofs.Lines.{refusal_told, refused_on, refused_then}
 use Rattle.script_run.proofs.Starting.{asked_for, none_for}
 use Rattle.script_run.proofs.commands.give.Goals as goal
 
@@ -52,3 +52,6 @@ returns-in-Err-clause-seen g c =
 
 pub returns-in-Err-clause-shown : goal.returns-in-Err-clause-shown
 returns-in-Err-clause-shown g c = memory_shown g.H.Disk.Disk c.refusal.result (g.H.Host.told c.command.new.host) c.refusal.ensures.lacking
+
+pub returns-in-Err-clause-holding : goal.returns-in-Err-clause-holding
+returns-in-Err-clause-holding g c = λ f hold. hold.each

@@ -3,13 +3,16 @@ use Rattle.script_model.specs.Containers.{record_of}
 use Rattle.script_model.specs.Orders.{asked, behind_given, orders}
 use Rattle.script_links.proofs.Served.{on_ok}
 use Rattle.script_run.proofs.Coursed.{asked_given}
-use Rattle.script_run.proofs.Lines.{begun_so, first_given}
+use Rattle.script_run.proofs.Lines.{begun_so, first_given, none_raised}
 use Rattle.script_run.proofs.Ordered.{alone_begun, given_alone, is_begun, is_given, readied_at}
 use Rattle.script_run.proofs.commands.order.Goals as goal
 
 pub give-requires-clause-readied : goal.give-requires-clause-readied
 give-requires-clause-readied g c =
     readied_at c.args.ordered c.args.core.now (record_of (g.H.Host.told c.args.host.now)) (asked (g.H.Host.told c.args.host.now)) c.requires.told.recorded (c.is_first_start.ensures.other (asked (g.H.Host.told c.args.host.now)) c.if-is_first_start.false)
+
+pub start_first-requires-clause-none : goal.start_first-requires-clause-none
+start_first-requires-clause-none g c = none_raised c.args.core.now c.args.ordered (sym c.is_first_start.ensures.exact ∙ c.if-is_first_start.true)
 
 pub returns-then-is_first_start-clause-ordered : goal.returns-then-is_first_start-clause-ordered
 returns-then-is_first_start-clause-ordered g c =

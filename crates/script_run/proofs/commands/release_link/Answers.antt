@@ -1,10 +1,10 @@
-use Rattle.std.proofs.Common.{◌≡◌, ◌∙◌, ◌<◌, ℕ, List, ap, length, sym, subst, rules}
+use Rattle.std.proofs.Common.{◌≡◌, ◌∙◌, ◌<◌, false, List, ap, length, sym, subst, rules}
 use Rattle.script_links.specs.Links.{IsLinkAt, links_of}
 use Rattle.script_links.specs.declared.links.Link.{Link}
 use Rattle.std.specs.Result.{IsErrAnd}
 use Rattle.script_container.proofs.Shown.{passed_on}
 use Rattle.script_model.specs.Events.{running}
-use Rattle.script_run.proofs.Held.{linked_there, release_none}
+use Rattle.script_run.proofs.Held.{linked_there, set_none}
 use Rattle.script_run.proofs.Lines.{told_none, told_some}
 use Rattle.script_run.proofs.Starting.{linked_runs}
 use Rattle.script_run.proofs.commands.release_link.Goals as goal
@@ -17,7 +17,7 @@ returns-in_err-release-clause-shown g c =
 pub returns-in_default-clause-holding : goal.returns-in_default-clause-holding
 returns-in_default-clause-holding g c =
     let none : links_of c.args.inc c.deref.result.now ≡ 0 = c.in_default.ensures.none in
-    λ f hold. release_none f c.args.inc c.args.links.now.items (ap (links_of c.args.inc) (sym c.deref.ensures.value) ∙ none) hold
+    λ f hold. set_none f c.args.inc false c.args.links.now.items (ap (links_of c.args.inc) (sym c.deref.ensures.value) ∙ none) hold
 
 pub returns-in_err-release-clause-holding : goal.returns-in_err-release-clause-holding
 returns-in_err-release-clause-holding g c = λ f hold. c.release.ensures.holding f c.args.inc (subst (λ (ls : List Link). IsLinkAt ls c.in-Some.place c.args.inc) c.deref.ensures.value c.in-Some.ensures.there) hold

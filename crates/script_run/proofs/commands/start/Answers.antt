@@ -3,7 +3,7 @@ use Rattle.script_links.specs.Links.{IsLinkAt, links_of}
 use Rattle.script_links.specs.declared.links.Link.{Link}
 use Rattle.script_links.proofs.Linked.{started_linked}
 use Rattle.script_links.proofs.Served.{started_served, unstarted_served}
-use Rattle.script_run.proofs.Held.{linked_there}
+use Rattle.script_run.proofs.Held.{held_same, held_with, linked_there}
 use Rattle.script_run.proofs.Starting.{linked_runs, runs_already}
 use Rattle.script_run.proofs.commands.start.Goals as goal
 
@@ -30,3 +30,15 @@ returns-in-Some-clause-tried g c =
     (linked_runs c.args.inc (g.H.Host.told c.args.host.now) c.args.links.now.items c.requires.linked
     (linked_there c.args.inc c.args.links.now.items c.in-Some.field-0 (subst (λ (ls : List Link). c.in-Some.field-0 < length ls) c.deref.ensures.value c.in-Some.ensures.within)
     (subst (λ (ls : List Link). IsLinkAt ls c.in-Some.field-0 c.args.inc) c.deref.ensures.value c.in-Some.ensures.there)))
+
+pub returns-in-Ok-clause-holding : goal.returns-in-Ok-clause-holding
+returns-in-Ok-clause-holding g c = λ f held.
+    let with_one : c.add.new.list.items ≡ c.args.links.now.items ++ c.new.result ∷ [] = search rules in
+    let none : links_of c.args.inc c.args.links.now.items ≡ 0 = ap (links_of c.args.inc) (sym c.deref.ensures.value) ∙ c.in-None.ensures.none in
+    held_with f c.args.links.now.items c.add.new.list.items c.new.result c.args.inc c.new.ensures.free c.new.ensures.server none with_one held
+
+pub returns-in-Err-NoMemory-clause-holding : goal.returns-in-Err-NoMemory-clause-holding
+returns-in-Err-NoMemory-clause-holding g c = λ f held. held_same f c.args.links.now.items c.reserve.new.self.items c.in_ok-reserve.ensures.items held
+
+pub returns-in-Err-Failed-clause-holding : goal.returns-in-Err-Failed-clause-holding
+returns-in-Err-Failed-clause-holding g c = λ f held. held_same f c.args.links.now.items c.reserve.new.self.items c.in_ok-reserve.ensures.items held

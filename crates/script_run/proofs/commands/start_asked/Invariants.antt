@@ -2,7 +2,7 @@ use Rattle.std.proofs.Common.{◌≡◌, Bool, ℕ, drop}
 use Rattle.script_model.specs.Bounds.{pace}
 use Rattle.script_model.specs.Courses.{but_starts, course, starts_in}
 use Rattle.script_model.specs.Notices.{notices}
-use Rattle.script_links.specs.Links.{AreLinked, AreServed, HoldFor}
+use Rattle.script_links.specs.Links.{AreHeld, AreLinked, AreServed}
 use Rattle.script_links.specs.Told.{IsTold}
 use Rattle.script_run.specs.Starts.{AreIn}
 use Rattle.script_run.proofs.commands.start_asked.Given as goal
@@ -13,7 +13,7 @@ invariant-loop-action g l = record {
   linked : AreLinked (g.H.Host.told l.host) l.links.items;
   served : AreServed (g.H.Host.told l.host) l.links.items;
   paced : (s : ℕ) → pace s (g.H.Host.told l.host) ≡ pace s (g.H.Host.told l.fn.host);
-  holding : (f : ℕ → Bool) → HoldFor f l.fn.links.items → HoldFor f l.links.items;
+  holding : (f : ℕ → Bool) → AreHeld f l.fn.links.items → AreHeld f l.links.items;
   ordered : but_starts (course (g.H.Host.told l.host)) ≡ but_starts (course (g.H.Host.told l.fn.host));
   noticed : notices (g.H.Host.told l.host) ≡ notices (g.H.Host.told l.fn.host);
   wanted : AreIn (course (g.H.Host.told l.host)).unstarted (starts_in (drop l.action-index l.answer.actions));

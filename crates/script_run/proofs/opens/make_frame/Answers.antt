@@ -1,4 +1,4 @@
-use Rattle.std.proofs.Common.{◌≡◌, ◌∙◌, ap, sym}
+use Rattle.std.proofs.Common.{◌≡◌, ◌∙◌, sym}
 use Rattle.script_model.specs.Courses.{Made, course}
 use Rattle.script_run.proofs.Lines.{refused_then}
 use Rattle.script_run.proofs.Reading.{made_so, opening_alone}

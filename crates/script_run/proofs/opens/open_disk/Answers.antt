@@ -1,4 +1,4 @@
-use Rattle.std.proofs.Common.{◌≡◌, ◌∷◌, ◌∙◌, [], List, ℕ, ap, refl, subst, sym}
+use Rattle.std.proofs.Common.{◌∷◌, ◌∙◌, [], List, ℕ, ap, refl, subst, sym}
 use Rattle.std.proofs.lemmas.Result.{IfOk-at_ok}
 use Rattle.script_model.specs.Events.{Shut}
 use Rattle.script_model.specs.Saved.{IsReadOf}

@@ -2,15 +2,32 @@ use Rattle.std.proofs.Common.{◌≡◌, ◌+◌, ◌∷◌, [], inr, ap, sym, �
 use Rattle.std.proofs.lemmas.List.{nil_from_length}
 use Rattle.std.specs.Vec.Iter.{into_iter_items}
 use Rattle.container_model.specs.Record.{Record}
+use Rattle.script_model.specs.Origins.{passed}
 use Rattle.script_model.specs.Saved.{is_any_unsaved}
 use Rattle.script_links.specs.Links.{is_any_held}
-use Rattle.script_run.proofs.Carried.{last_begun, left_held, so_far_more}
+use Rattle.script_links.proofs.Served.{same_served}
+use Rattle.script_run.proofs.Carried.{last_begun, left_held, so_far_first, so_far_more}
 use Rattle.script_run.proofs.Faulted.{handed_on}
 use Rattle.script_run.proofs.Held.{some_held}
+use Rattle.script_run.proofs.Holding.{released_by}
 use Rattle.script_run.proofs.Settled.{settled_by}
-use Rattle.script_run.proofs.Writing.{lines_all, lines_held, lines_left, lines_more}
+use Rattle.script_run.proofs.Writing.{lines_all, lines_first, lines_held, lines_left, lines_more}
 use Rattle.std.specs.Result.{IsErrAnd}
 use Rattle.script_run.proofs.script.carry_out_all.Goals as goal
+
+pub loop-place-init : goal.loop-place-init
+loop-place-init g c =
+    let count : c.into_iter-place-iterator.result.count ≡ 0 = search rules in
+    let rest : into_iter_items c.into_iter-place-iterator.result.iter ≡ c.args.commands.items = search rules in
+    record {
+      told = c.requires.told;
+      linked = c.requires.linked;
+      served = c.requires.served;
+      quiet = c.requires.quiet;
+      saved = c.requires.saved;
+      lines = lines_first g.H.Disk.Disk c.args.commands.items c.into_iter-place-iterator.result.count (g.H.Host.told c.args.host.now) (g.W.Write.contents c.args.writer.now) count;
+      so_far = so_far_first (g.H.Host.told c.args.host.now) c.args.links.now.items c.args.commands.items (into_iter_items c.into_iter-place-iterator.result.iter) c.into_iter-place-iterator.result.count count rest c.requires.none c.requires.free;
+    }
 
 pub loop-place-preserved : goal.loop-place-preserved
 loop-place-preserved g c =
@@ -27,7 +44,7 @@ loop-place-preserved g c =
           (into_iter_items c.next.new.self.iter) c.in-Some.command c.loop-place.place-iterator.count c.in-Some.place c.next.new.self.count (g.W.Write.contents c.args.writer.now) (g.W.Write.contents c.loop-place.writer) (g.W.Write.contents c.carry_out.new.writer)
           c.loop-place.invariant.so_far items at c.begins.ensures.noted c.carry_out.ensures.standing c.loop-place.invariant.lines counts c.in_ok-carry_out.ensures.printed;
       so_far = so_far_more (g.H.Host.told c.loop-place.host) (g.H.Host.told c.begins.new.host) (g.H.Host.told c.carry_out.new.host) c.loop-place.links.items c.carry_out.new.links.items c.args.commands.items (into_iter_items c.loop-place.place-iterator.iter)
-          (into_iter_items c.next.new.self.iter) c.in-Some.command c.loop-place.place-iterator.count c.in-Some.place c.next.new.self.count c.loop-place.invariant.so_far at counts items c.begins.ensures.ordered c.in_ok-carry_out.ensures.ordered c.carry_out.ensures.holding;
+          (into_iter_items c.next.new.self.iter) c.in-Some.command c.loop-place.place-iterator.count c.in-Some.place c.next.new.self.count c.loop-place.invariant.so_far at counts items c.begins.ensures.noted c.begins.ensures.ordered c.in_ok-carry_out.ensures.ordered c.carry_out.ensures.standing c.carry_out.ensures.linked c.carry_out.ensures.holding;
     }
 
 pub returns-in_err-carry_out-clause-begun : goal.returns-in_err-carry_out-clause-begun
@@ -55,6 +72,14 @@ pub returns-clause-settled : goal.returns-clause-settled
 returns-clause-settled g c =
     settled_by (g.H.Host.told c.loop-place.host) c.loop-place.core c.loop-place.links.items c.loop-place.invariant.told c.loop-place.invariant.linked c.loop-place.invariant.quiet c.loop-place.invariant.saved
     (ap is_any_held (sym c.deref.ensures.value) ∙ sym c.is_any_held.ensures ∙ c.if-is_any_held.false)
+
+pub returns-clause-released : goal.returns-clause-released
+returns-clause-released g c =
+    released_by c.args.commands.items (g.H.Host.told c.loop-place.host) c.loop-place.links.items c.loop-place.invariant.linked c.loop-place.invariant.so_far.holds (ap is_any_held (sym c.deref.ensures.value) ∙ sym c.is_any_held.ensures ∙ c.if-is_any_held.false)
+
+pub carry_out-requires-clause-served : goal.carry_out-requires-clause-served
+carry_out-requires-clause-served g c =
+    same_served (λ s. passed s (g.H.Host.told c.loop-place.host)) (λ s. passed s (g.H.Host.told c.begins.new.host)) c.loop-place.links.items c.begins.ensures.quiet c.loop-place.invariant.served
 
 pub carry_out-requires-clause-begins : goal.carry_out-requires-clause-begins
 carry_out-requires-clause-begins g c = record { place = c.in-Some.place; before = g.H.Host.told c.loop-place.host; last = c.begins.ensures.noted }

@@ -3,6 +3,7 @@ use Rattle.container_model.specs.Record.{Record}
 use Rattle.script_model.specs.Errors.{before_ends, is_asked}
 use Rattle.script_model.specs.Saved.{is_any_unsaved}
 use Rattle.script_run.proofs.Faulted.{ended_so, unread_so}
+use Rattle.script_run.proofs.Holding.{released_still}
 use Rattle.script_run.proofs.Settled.{settled_still}
 use Rattle.script_run.proofs.Writing.{all_ended, of_commands, some_ended, unread_none}
 use Rattle.script_run.proofs.script.run_script.Goals as goal
@@ -38,3 +39,8 @@ returns-clause-begun_printed g c =
     some_ended g.H.Disk.Disk c.carry_out_all-told.result (g.R.Read.remaining c.args.reader.now) c.in-Ok.commands.items (g.H.Host.told c.carry_out_all-told.new.host) (g.H.Host.told c.end_all.new.host) c.carry_out_all-told.new.core
     (g.W.Write.contents c.args.writer.now) (g.W.Write.contents c.carry_out_all-told.new.writer) c.in-Ok.ensures.read c.carry_out_all-told.ensures.told c.end_all.ensures.ends
     (of_commands g.H.Disk.Disk c.carry_out_all-told.result c.in-Ok.commands.items (g.H.Host.told c.carry_out_all-told.new.host) c.carry_out_all-told.ensures.shown) c.carry_out_all-told.ensures.begun_printed
+
+pub returns-clause-released : goal.returns-clause-released
+returns-clause-released g c =
+    released_still c.carry_out_all-told.result (g.R.Read.remaining c.args.reader.now) c.in-Ok.commands.items (g.H.Host.told c.carry_out_all-told.new.host) (g.H.Host.told c.end_all.new.host) c.carry_out_all-told.new.core c.in-Ok.ensures.read c.carry_out_all-told.ensures.told c.end_all.ensures.ends
+    c.carry_out_all-told.ensures.released
