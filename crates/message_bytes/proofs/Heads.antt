@@ -1,5 +1,5 @@
 -- What the bytes before a body show, part by part.
-use Rattle.std.proofs.Common.{◌≡◌, ◌≢◌, ℕ, ◌-◌, ◌≤◌, ◌<◌, List, [], ◌∷◌, ◌++◌, length, take, drop, get_or, Some, None, refl, sym, ap, subst, ◌∙◌, arith}
+use Rattle.std.proofs.Common.{◌≡◌, ◌≢◌, ℕ, ◌-◌, ◌≤◌, ◌<◌, List, [], ◌∷◌, ◌++◌, ◌+◌, length, take, drop, get_or, Some, None, refl, sym, ap, subst, ◌∙◌, arith}
 use Rattle.std.proofs.lemmas.Bool.{ne_eqb}
 use Rattle.std.proofs.lemmas.List.{append-nil, drop-drop, take_all, length-drop}
 use Rattle.message_model.specs.declared.codes.Kind.{Kind}
@@ -50,12 +50,20 @@ empty : (r : List ℕ) → length r < 1 → r ≡ []
 empty [] h = refl
 empty (x ∷ r) h = absurd (omega (arith, h))
 
-without : (xs : List ℕ) → shown xs ≡ shown (xs ++ [])
+-- bytes show what they show before no more
+pub without : (xs : List ℕ) → shown xs ≡ shown (xs ++ [])
 without xs = ap shown (sym (append-nil xs))
 
+-- a list behind so many items has as many fewer
+fewer : (n : ℕ) (xs : List ℕ) → length xs ≤ n + length (behind n xs)
+fewer n xs = let e : length (behind n xs) ≡ length xs - n = ap length (rest_is n xs) ∙ length-drop n xs in omega (arith, e)
+
 -- bytes that end behind the first four
-pub ends_magic : (xs : List ℕ) → 4 ≤ length xs → IsMagic xs → length (behind 4 xs) < 1 → shown xs ≡ None
-ends_magic xs long m h = without xs ∙ after_magic xs [] long m ∙ ap (λ (r : List ℕ). shown_version (r ++ [])) (empty (behind 4 xs) h)
+pub ends_magic : (xs : List ℕ) → 4 ≤ length xs → IsMagic xs → length (behind 4 xs) < 1 → (length xs < 10) × (shown xs ≡ None)
+ends_magic xs long m h = (
+  omega (arith, fewer 4 xs, h),
+  without xs ∙ after_magic xs [] long m ∙ ap (λ (r : List ℕ). shown_version (r ++ [])) (empty (behind 4 xs) h),
+)
 
 -- another version
 pub shows_version : (xs more : List ℕ) → 4 ≤ length xs → IsMagic xs → 1 ≤ length (behind 4 xs) → get_or (behind 4 xs) 0 0 ≢ 2 → shown (xs ++ more) ≡ Some BadVersion
@@ -65,8 +73,13 @@ to_kind : (xs more : List ℕ) → 4 ≤ length xs → IsMagic xs → 1 ≤ leng
 to_kind xs more long m one v = after_magic xs more long m ∙ after_version (behind 4 xs) more one v
 
 -- bytes that end behind the version
-pub ends_version : (xs : List ℕ) → 4 ≤ length xs → IsMagic xs → 1 ≤ length (behind 4 xs) → get_or (behind 4 xs) 0 0 ≡ 2 → length (behind 1 (behind 4 xs)) < 1 → shown xs ≡ None
-ends_version xs long m one v h = without xs ∙ to_kind xs [] long m one v ∙ ap (λ (r : List ℕ). shown_kind (r ++ [])) (empty (behind 1 (behind 4 xs)) h)
+pub ends_version : (xs : List ℕ) → 4 ≤ length xs → IsMagic xs → 1 ≤ length (behind 4 xs) → get_or (behind 4 xs) 0 0 ≡ 2 → length (behind 1 (behind 4 xs)) < 1
+    → (length xs < 10) × (shown xs ≡ None)
+ends_version xs long m one v h = (
+  omega (arith, fewer 4 xs, fewer 1 (behind 4 xs), h),
+  without xs ∙ to_kind xs [] long m one v
+      ∙ ap (λ (r : List ℕ). shown_kind (r ++ [])) (empty (behind 1 (behind 4 xs)) h),
+)
 
 -- another kind
 pub shows_kind : (xs more : List ℕ) → 4 ≤ length xs → IsMagic xs → 1 ≤ length (behind 4 xs) → get_or (behind 4 xs) 0 0 ≡ 2 → 1 ≤ length (behind 1 (behind 4 xs))
@@ -96,8 +109,11 @@ drop_behind xs = rest_is 1 (behind 4 xs) ∙ ap (drop 1) (rest_is 4 xs) ∙ drop
 
 pub shows_length : (h : Head) (k : Kind) (xs : List ℕ) → 4 ≤ length xs → IsMagic xs → 1 ≤ length (behind 4 xs) → get_or (behind 4 xs) 0 0 ≡ 2 → 1 ≤ length (behind 1 (behind 4 xs))
     → Some k ≡ kind_of (get_or (behind 1 (behind 4 xs)) 0 0) → LengthIs h k (behind 1 (behind 1 (behind 4 xs))) → HeadIs h xs
-shows_length Short k xs long m one v two kn h =
-    without xs ∙ to_kind xs [] long m one v ∙ after_kind (behind 1 (behind 4 xs)) [] k two kn ∙ ap shown_length (append-nil (behind 1 (behind 1 (behind 4 xs)))) ∙ h
+shows_length Short k xs long m one v two kn h = (
+  omega (arith, fewer 4 xs, fewer 1 (behind 4 xs), fewer 1 (behind 1 (behind 4 xs)), h.0),
+  without xs ∙ to_kind xs [] long m one v ∙ after_kind (behind 1 (behind 4 xs)) [] k two kn
+      ∙ ap shown_length (append-nil (behind 1 (behind 1 (behind 4 xs)))) ∙ h.1,
+)
 shows_length (Bad fault) k xs long m one v two kn h =
     (λ e. (let t : TooLong ≡ BadField = sym h.0 ∙ e in cc), λ more. to_kind xs more long m one v ∙ after_kind (behind 1 (behind 4 xs)) more k two kn ∙ h.1 more)
 shows_length (Body j len) k xs long m one v two kn h =

@@ -16,13 +16,13 @@ use Rattle.message_model.specs.Frames.{IsFrame, MOST_BODY, Reads, number_in, sho
 use Rattle.message_model.specs.Spelling.{spell, joined}
 
 abbrev pub HeadIs : Head → List ℕ → Type 0
-HeadIs Short bytes = shown bytes ≡ None
+HeadIs Short bytes = (length bytes < 10) × (shown bytes ≡ None)
 HeadIs (Bad fault) bytes = (fault ≢ BadField) × ((more : List ℕ) → shown (bytes ++ more) ≡ Some fault)
 HeadIs (Body kind len) bytes = IsHead kind len bytes
 
 -- the four bytes of a length, behind the rest of a head
 abbrev pub LengthIs : Head → Kind → List ℕ → Type 0
-LengthIs Short kind bytes = shown_length bytes ≡ None
+LengthIs Short kind bytes = (length bytes < 4) × (shown_length bytes ≡ None)
 LengthIs (Bad fault) kind bytes = (fault ≡ TooLong) × ((more : List ℕ) → shown_length (bytes ++ more) ≡ Some fault)
 LengthIs (Body k len) kind bytes = (k ≡ kind) × (4 ≤ length bytes) × (number_in (take 4 bytes) ≡ len) × (len ≤ MOST_BODY)
 

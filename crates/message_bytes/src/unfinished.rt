@@ -55,8 +55,9 @@ pub(crate) fn body_of(alloc: Global, bytes: &[u8]) -> Result<Body, AllocError>
 {
     let (kind, len) = match head_of(bytes) {
         Head::Body(kind, len) => (kind, len),
-        // So many bytes that show no fault have a head.
-        _ => return Err(AllocError),
+        // So many bytes have a head, and they show no fault.
+        Head::Short => unreachable!(),
+        Head::Bad(_) => unreachable!(),
     };
     let (_, behind) = bytes.split_at(HEAD_LEN);
     Body::open(alloc, kind, len, behind)
