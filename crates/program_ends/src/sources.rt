@@ -4,6 +4,7 @@ use crate::ends::refuse;
 use crate::journals::tell_unfinished;
 use fault_lines::report::Report;
 use std::fs;
+use std::fs::OpenFile;
 use std::process::ExitCode;
 use std::rt::Runtime;
 
@@ -16,5 +17,13 @@ pub fn open<R: Runtime + AllocGlobal>(rt: &R, path: &str) -> Result<R::File, Exi
             Ok(source)
         }
         Err(_) => Err(refuse(rt, &Report::File(path, "Unreadable"))),
+    }
+}
+
+/// Whether a file tells how long it is, so that it needn't be held whole: what isn't needed of it is passed over.
+pub fn is_sought<F: OpenFile>(source: &F) -> bool {
+    match source.metadata() {
+        Ok(about) => about.is_file() && about.len() > 0,
+        Err(_) => false,
     }
 }

@@ -4,21 +4,13 @@ use crate::source::{FileSource, read_source};
 use fault_lines::report::Report;
 use file_places::source::Sought;
 use program_ends::ends::refuse;
-use program_ends::sources::open;
+use program_ends::sources::{is_sought, open};
 use std::alloc::Global;
 use std::fs::OpenFile;
 use std::io::{Read, Seek};
 use std::process::ExitCode;
 use std::rt::Runtime;
 use texts::input::InputFault;
-
-/// Whether a file tells how long it is, so that it needn't be held whole: what isn't needed of it is passed over.
-fn is_sought<F: OpenFile>(file: &F) -> bool {
-    match file.metadata() {
-        Ok(about) => about.is_file() && about.len() > 0,
-        Err(_) => false,
-    }
-}
 
 /// What gives the bytes of an open file. One that doesn't tell how long it is, as a pipe, is read to its end.
 fn source_of<F: OpenFile + Read + Seek>(
