@@ -1,7 +1,10 @@
 -- What is checked are the bytes of the input, and what is told of them.
-use Rattle.std.proofs.Common.{◌≡◌, ◌≢◌, ◌∙◌, ℕ, List, Option, Some, None, IfSome, IfOk, Ok, Err, Result, true, arith, drop, length, refl, subst, take}
+use Rattle.std.proofs.Common.{◌≡◌, ◌≢◌, ◌∙◌, ℕ, List, Option, Some, None, IfSome, arith, drop, length, refl, subst, take}
 use Rattle.std.proofs.lemmas.List.{take_all}
-use Rattle.std.specs.Result.{is_ok}
+use Rattle.file_commands.proofs.Listed.{some_map}
+use Rattle.file_model.specs.Alike.{Alike}
+use Rattle.stream_io.proofs.ReadingAlike.{alike_read}
+use Rattle.stream_io.specs.Reads.{MayRefuseRead}
 use Rattle.stream_io.specs.declared.fault.ReadFault.{ReadFault}
 use Rattle.stream_io.specs.declared.fault.ReadFault.TheVariants as read
 use Rattle.fault_texts.specs.declared.telling.Form.{Form}
@@ -29,10 +32,19 @@ told_fault file form (read.Chain fault) old new some h = h
 told_fault file form (read.Directory fault) old new some h = h
 told_fault file form read.NoMemory old new some h = absurd (some refl)
 
--- what holds of what is Ok
-pub ok_gives : {A E : Type 0} (P : A → Type 0) (Q : Type 0) (r : Result A E) → is_ok r ≡ true → IfOk r P → ((a : A) → P a → Q) → Q
-ok_gives P Q (Ok a) is h f = f a h
-ok_gives P Q (Err e) is h f = absurd (cc is)
+-- ---- what was read of a file is told of the file
+pub some_none : {A : Type 0} {x : A} → ◌≡◌ {A = Option A} (Some x) None → ⊥
+some_none p = cc
+
+pub told_alike : (known : Option (List ℕ)) (b : List ℕ) (v : Option ReadFault) → IfSome known (λ a. Alike a b)
+    → IfSome v (MayRefuseRead b) → IfSome v (λ f. IfSome known (λ a. MayRefuseRead a f))
+told_alike known b None h r = tt
+told_alike known b (Some f) h r = some_map known (λ a. Alike a b) (λ a. MayRefuseRead a f) (λ a s. alike_read a b f s r) h
+
+-- what holds of all bytes holds of those that are known
+pub some_all : (known : Option (List ℕ)) (P : List ℕ → Type 0) → ((a : List ℕ) → P a) → IfSome known P
+some_all None P f = tt
+some_all (Some a) P f = f a
 
 -- ---- where a text isn't written
 pub unwritten_told : (file : List ℕ) (form : Form) (fault : ListFault) (old new : Option (List ℕ)) → IsUnwritten fault old new → Tells file form fault old new

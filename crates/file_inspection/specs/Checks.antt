@@ -15,6 +15,10 @@ use Rattle.file_commands.specs.declared.fault.ListFault.{ListFault}
 use Rattle.file_commands.specs.declared.fault.ListFault.TheVariants as list
 
 -- ---- what is told
+-- the bytes, no more than are taken, denote a tree
+abbrev pub IsTaken : List ℕ → Type 0
+IsTaken file = (t : Tree) × ∥ Denotes file t ∥₁ × (length file ≤ most)
+
 -- the bytes, no more than are taken, denote a tree, and that was written
 pub record IsSound (file : List ℕ) (form : Form) (old new : Option (List ℕ)) : Type 0 where
   pub t : Tree

@@ -5,10 +5,10 @@ ghost use Rattle.fault_texts.specs.Json.{sound_text};
 ghost use Rattle.std.specs.Io.KnownBytes.{Appends};
 ghost use Rattle.stream_io.specs.Reads.{MayRefuseRead};
 ghost use Rattle.stream_io.specs.declared.fault.ReadFault.TheVariants.{NoMemory};
-ghost use Rattle.std.specs.Prelude.{◌≡◌, ◌≢◌, IfErr, IfSome, OnOk, ◌≤◌, length};
-ghost use Rattle.texts.specs.Input.{most};
+ghost use Rattle.std.specs.Prelude.{◌≢◌, IfErr, IfSome, OnOk};
 
-use crate::whole::{is_sound, read_whole};
+use crate::judging::judge;
+use crate::whole::read_whole;
 use fault_texts::spot::find_spot;
 use fault_texts::telling::{Form, sound_text, told_text};
 use file_commands::fault::ListFault;
@@ -16,7 +16,6 @@ use file_places::source::Source;
 use std::alloc::Global;
 use std::io::Write;
 use stream_io::fault::ReadFault;
-use stream_io::read::read_outline;
 use texts::output::write_all;
 
 /// Writes that a file is sound where it holds a tree: of such a file only what its listing needs is read. Where it
@@ -35,37 +34,11 @@ pub fn check_file<S: Source, W: Write>(
     ensures refused { IfErr result (λ fault. IfSome (S.bytes source.old) (λ file. MayRefuseCheck file fault)) }
     ensures told { IfErr result (λ fault. IfSome (S.bytes source.old) (λ file. Tells file form.entry fault (W.contents writer.old) (W.contents writer.new))) }
 {
-    let sound = match is_sound(alloc, source) {
-        Ok(sound) => sound,
-        Err(fault) => return Err(ListFault::Input(fault)),
-    };
-    if sound {
-        return write_sound(alloc, form, writer);
+    match judge(alloc, source) {
+        Ok(None) => write_sound(alloc, form, writer),
+        Ok(Some(fault)) => Err(tell(alloc, source, form, fault, writer)),
+        Err(fault) => Err(ListFault::Input(fault)),
     }
-    let file = match read_whole(alloc, source) {
-        Ok(file) => file,
-        Err(fault) => return Err(ListFault::Input(fault)),
-    };
-    check_bytes(alloc, &file, form, writer)
-}
-
-/// The same of a file's bytes.
-fn check_bytes<W: Write>(
-    alloc: Global,
-    file: &[u8],
-    form: Form<'_>,
-    writer: &mut W,
-) -> Result<(), ListFault>
-    requires few { length file.now ≤ most }
-    ensures sound { OnOk result (IsSound file.now form.entry (W.contents writer.old) (W.contents writer.new)) }
-    ensures refused { IfErr result (MayRefuseCheck file.now) }
-    ensures told { IfErr result (λ fault. Tells file.now form.entry fault (W.contents writer.old) (W.contents writer.new)) }
-{
-    let fault = match read_outline(alloc, file) {
-        Ok(_) => return write_sound(alloc, form, writer),
-        Err(fault) => fault,
-    };
-    Err(tell(alloc, file, form, fault, writer))
 }
 
 /// Writes that a file is sound.
@@ -82,26 +55,45 @@ fn write_sound<W: Write>(alloc: Global, form: Form<'_>, writer: &mut W) -> Resul
     }
 }
 
-/// Writes the fault for which a file was refused, and gives what the check ends with. Want of memory is no fault of the file,
-/// and nothing is written then.
-fn tell<W: Write>(
+/// Writes the fault for which a file was refused, and gives what the check ends with. Want of memory is no fault of the
+/// file, and nothing is written then.
+fn tell<S: Source, W: Write>(
     alloc: Global,
-    file: &[u8],
+    source: &mut S,
     form: Form<'_>,
     fault: ReadFault,
     writer: &mut W,
 ) -> ListFault
-    ensures told { Tells file.now form.entry result (W.contents writer.old) (W.contents writer.new) }
-    ensures ends { MayRefuseRead file.now fault → MayRefuseCheck file.now result }
+    ensures told { IfSome (S.bytes source.old) (λ file. Tells file form.entry result (W.contents writer.old) (W.contents writer.new)) }
+    ensures ends { IfSome (S.bytes source.old) (λ file. MayRefuseRead file fault → MayRefuseCheck file result) }
 {
     match fault {
         ReadFault::NoMemory => ListFault::Read(ReadFault::NoMemory),
-        _ => tell_fault(alloc, file, form, fault, writer),
+        _ => tell_fault(alloc, source, form, fault, writer),
     }
 }
 
-/// The same of a fault of the file.
-fn tell_fault<W: Write>(
+/// The same of a fault of the file, which is read whole.
+fn tell_fault<S: Source, W: Write>(
+    alloc: Global,
+    source: &mut S,
+    form: Form<'_>,
+    fault: ReadFault,
+    writer: &mut W,
+) -> ListFault
+    requires its_own { fault ≢ NoMemory }
+    ensures told { IfSome (S.bytes source.old) (λ file. Tells file form.entry result (W.contents writer.old) (W.contents writer.new)) }
+    ensures ends { IfSome (S.bytes source.old) (λ file. MayRefuseRead file fault → MayRefuseCheck file result) }
+{
+    let file = match read_whole(alloc, source) {
+        Ok(file) => file,
+        Err(fault) => return ListFault::Input(fault),
+    };
+    tell_spot(alloc, &file, form, fault, writer)
+}
+
+/// Writes a fault of these bytes, and where it is.
+fn tell_spot<W: Write>(
     alloc: Global,
     file: &[u8],
     form: Form<'_>,

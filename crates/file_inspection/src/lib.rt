@@ -4,6 +4,7 @@
 pub mod checking;
 pub mod fault;
 pub mod getting;
+mod judging;
 pub mod many;
 pub mod mapping;
 pub mod report;
