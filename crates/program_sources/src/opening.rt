@@ -13,7 +13,7 @@ use std::rt::Runtime;
 use texts::input::InputFault;
 
 /// What gives the bytes of an open file. One that doesn't tell how long it is, as a pipe, is read to its end.
-fn source_of<F: OpenFile + Read + Seek>(
+fn source_of<F: OpenFile + Read + Seek + Drop>(
     alloc: Global,
     mut file: F,
 ) -> Result<FileSource<F>, InputFault> {
