@@ -6,7 +6,7 @@ use fault_places::finding::find_place;
 use fault_places::place::{FaultPlace, Link};
 use fault_places::ways::end_of;
 use fault_texts::telling::Form;
-use file_checks::checking::{check_file, check_source};
+use file_inspection::checking::check_file;
 use file_making::making::make_file;
 use std::alloc::Global;
 use std::process::Abort;
@@ -26,20 +26,11 @@ fn change(file: &mut [u8], at: usize, to: u8) {
     }
 }
 
-/// Whether a check of a file writes this, and refuses it where it isn't sound.
-fn writes(alloc: Global, file: &[u8], is_sound: bool, want: &[u8]) -> bool {
+/// Whether a check of a file writes this in a form, and refuses it where it isn't sound.
+fn writes(alloc: Global, file: &[u8], form: Form<'_>, is_sound: bool, want: &[u8]) -> bool {
     let mut source = file;
     let mut text = Vec::new(alloc);
-    check_file(alloc, &mut source, Form::Line, &mut text).is_ok() == is_sound
-        && text.as_slice() == want
-}
-
-/// The same by places.
-fn writes_by_places(alloc: Global, file: &[u8], is_sound: bool, want: &[u8]) -> bool {
-    let mut source = file;
-    let mut text = Vec::new(alloc);
-    check_source(alloc, &mut source, Form::Json, &mut text).is_ok() == is_sound
-        && text.as_slice() == want
+    check_file(alloc, &mut source, form, &mut text).is_ok() == is_sound && text.as_slice() == want
 }
 
 /// Whether a link leads from a sector, or from where a chain begins, to a number.
@@ -69,25 +60,31 @@ fn comes_back(alloc: Global, file: &[u8], n: u32) -> bool {
 fn a_file_is_checked(rt: HostRuntime) {
     let mut file = file_of(&rt, rt.alloc());
     assert!(rt;
-        writes(rt.alloc(), &file, true, b"ok\n".as_slice()),
+        writes(rt.alloc(), &file, Form::Line, true, b"ok\n".as_slice()),
         "a sound file"
     );
     assert!(rt;
-        writes_by_places(rt.alloc(), &file, true, b"{\"ok\":true}\n".as_slice()),
-        "a sound file by places"
+        writes(
+            rt.alloc(),
+            &file,
+            Form::Json,
+            true,
+            b"{\"ok\":true}\n".as_slice()
+        ),
+        "a sound file, as JSON"
     );
     change(&mut file, 48, 99);
     assert!(rt; begins_outside(rt.alloc(), &file, 99), "the place");
     let want = b"OutOfFile in the directory, which begins at sector 99, at byte 48\n".as_slice();
     assert!(rt;
-        writes(rt.alloc(), &file, false, want),
+        writes(rt.alloc(), &file, Form::Line, false, want),
         "a directory outside the file"
     );
     let want =
         b"{\"ok\":false,\"fault\":\"OutOfFile\",\"part\":\"directory\",\"sector\":null,\"to\":99,\"entry\":null,\"path\":null,\"byte\":48,\"other\":null}\n".as_slice();
     assert!(rt;
-        writes_by_places(rt.alloc(), &file, false, want),
-        "a directory outside the file, by places"
+        writes(rt.alloc(), &file, Form::Json, false, want),
+        "a directory outside the file, as JSON"
     );
 }
 
@@ -96,14 +93,20 @@ fn an_entry_is_told(rt: HostRuntime) {
     let mut file = file_of(&rt, rt.alloc());
     change(&mut file, 1216, 2);
     let want = b"NameEmpty in entry 1, at byte 1152\n".as_slice();
-    assert!(rt; writes(rt.alloc(), &file, false, want), "a name");
+    assert!(rt;
+        writes(rt.alloc(), &file, Form::Line, false, want),
+        "a name"
+    );
     change(&mut file, 1216, 4);
     change(&mut file, 1220, 1);
     change(&mut file, 1221, 0);
     change(&mut file, 1222, 0);
     change(&mut file, 1223, 0);
     let want = b"TreeCycle in entry 0, at byte 1024\n".as_slice();
-    assert!(rt; writes(rt.alloc(), &file, false, want), "links in a circle");
+    assert!(rt;
+        writes(rt.alloc(), &file, Form::Line, false, want),
+        "links in a circle"
+    );
 }
 
 #[test]
@@ -117,13 +120,13 @@ fn a_stream_is_told(rt: HostRuntime) {
     let want =
         b"Cycle in the stream of entry 1, A, whose mini sector 0 leads to 0, at byte 1536\n".as_slice();
     assert!(rt;
-        writes(rt.alloc(), &file, false, want),
+        writes(rt.alloc(), &file, Form::Line, false, want),
         "a chain in a circle"
     );
     let want =
         b"{\"ok\":false,\"fault\":\"Cycle\",\"part\":\"short_stream\",\"sector\":0,\"to\":0,\"entry\":1,\"path\":\"A\",\"byte\":1536,\"other\":null}\n".as_slice();
     assert!(rt;
-        writes_by_places(rt.alloc(), &file, false, want),
-        "a chain in a circle, by places"
+        writes(rt.alloc(), &file, Form::Json, false, want),
+        "a chain in a circle, as JSON"
     );
 }

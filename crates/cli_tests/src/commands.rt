@@ -6,12 +6,13 @@ use container_cli::fault::SimulateFault;
 use container_cli::simulation::{read_moments, write_told};
 use file_cleaning::cleaning::clean_file;
 use file_cleaning::fault::CleanFault;
-use file_commands::commands::list_file;
 use file_commands::fault::ListFault;
-use file_listings::fault::GetFault;
-use file_listings::getting::get_file;
+use file_commands::listing::list_file;
+use file_inspection::fault::GetFault;
+use file_inspection::getting::get_stream;
 use file_making::fault::MakeFault;
 use file_making::making::make_file;
+use file_places::source::Source;
 use std::alloc::{AllocError, Global};
 use std::io::{Read, Write};
 use texts::path::Path;
@@ -40,76 +41,79 @@ pub(crate) fn make<R: Read, W: Write>(
     }
 }
 
-fn listed<R: Read, W: Write>(
+fn listed<S: Source, W: Write>(
     alloc: Global,
-    reader: &mut R,
+    source: &mut S,
     writer: &mut W,
 ) -> Result<(), ListFault> {
-    list_file(alloc, reader, writer)
+    list_file(alloc, source, writer)
 }
 
-pub(crate) fn list<R: Read, W: Write>(
+pub(crate) fn list<S: Source, W: Write>(
     alloc: Global,
-    reader: &mut R,
+    source: &mut S,
     writer: &mut W,
 ) -> Result<String, AllocError> {
-    match listed(alloc, reader, writer) {
+    match listed(alloc, source, writer) {
         Ok(()) => String::from_str(alloc, "listed"),
         Err(fault) => printed(alloc, fault.report("a.ole")),
     }
 }
 
-fn got<R: Read, W: Write>(
+fn got<S: Source, W: Write>(
     alloc: Global,
-    reader: &mut R,
+    source: &mut S,
     path: &[Name],
     writer: &mut W,
 ) -> Result<(), GetFault> {
-    get_file(alloc, reader, path, writer)
+    get_stream(alloc, source, path, writer)
 }
 
-fn get_at<R: Read, W: Write>(
+fn get_at<S: Source, W: Write>(
     alloc: Global,
-    reader: &mut R,
+    source: &mut S,
     path: &[Name],
     writer: &mut W,
 ) -> Result<String, AllocError> {
-    match got(alloc, reader, path, writer) {
+    match got(alloc, source, path, writer) {
         Ok(()) => String::from_str(alloc, "written"),
         Err(fault) => printed(alloc, fault.report("a.ole")),
     }
 }
 
 /// The stream at a path that a word spells; a word that spells none is the root's.
-pub(crate) fn get<R: Read, W: Write>(
+pub(crate) fn get<S: Source, W: Write>(
     alloc: Global,
-    reader: &mut R,
+    source: &mut S,
     word: &str,
     writer: &mut W,
 ) -> Result<String, AllocError> {
     match Path::parse(alloc, word.as_bytes())? {
         Some(path) => match path.names() {
-            Ok(names) => get_at(alloc, reader, names, writer),
+            Ok(names) => get_at(alloc, source, names, writer),
             Err(fault) => String::from_str(alloc, fault.name()),
         },
-        None => get_at(alloc, reader, &[], writer),
+        None => get_at(alloc, source, &[], writer),
     }
 }
 
-fn cleaned<R: Read, W: Write>(
+fn cleaned<S: Source, W: Write>(
     alloc: Global,
-    reader: &mut R,
+    source: &mut S,
     writer: &mut W,
 ) -> Result<usize, CleanFault> {
-    clean_file(alloc, reader, writer)
+    match clean_file(alloc, source, writer) {
+        Ok((count, _)) => Ok(count),
+        Err(fault) => Err(fault),
+    }
 }
 
-pub(crate) fn clean<R: Read, W: Write>(
+pub(crate) fn clean<S: Source, W: Write>(
     alloc: Global,
-    reader: &mut R,
+    source: &mut S,
     writer: &mut W,
 ) -> Result<String, AllocError> {
-    match cleaned(alloc, reader, writer) {
+    match cleaned(alloc, source, writer) {
         Ok(count) => count.to_string(alloc),
         Err(fault) => printed(alloc, fault.report("a.ole", "b.ole")),
     }

@@ -1,9 +1,10 @@
-//! Readers and writers that fail.
+//! Readers, sources and writers that fail.
 
+use file_places::source::Source;
 use std::io;
 use std::io::{ErrorKind, Read, Write};
 
-/// A reader that gives a byte at a time, and then fails.
+/// A reader that gives a byte at a time, and then fails; or a source that gives its length, and no byte.
 #[derive(Drop)]
 pub struct Failing<'a> {
     pub rest: &'a [u8],
@@ -19,6 +20,16 @@ impl<'a> Read for Failing<'a> {
             }
             _ => Err(io::Error::from(ErrorKind::Other)),
         }
+    }
+}
+
+impl<'a> Source for Failing<'a> {
+    fn size(&mut self) -> io::Result<u64> {
+        Ok(self.rest.len() as u64)
+    }
+
+    fn read_at(&mut self, _at: u64, _buf: &mut [u8]) -> io::Result<()> {
+        Err(io::Error::from(ErrorKind::Other))
     }
 }
 

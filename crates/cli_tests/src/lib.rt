@@ -1,5 +1,5 @@
-//! Tests of the commands over readers and writers that fail, which the built program can't show. All else of them is shown by
-//! the cases of `tests/cli`.
+//! Tests of the commands over readers, sources and writers that fail, which the built program can't show. All else of
+//! them is shown by the cases of `tests/cli`.
 #![tactic(auto)]
 
 #[cfg(test)]

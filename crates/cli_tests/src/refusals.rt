@@ -4,6 +4,7 @@
 
 use crate::commands::{clean, get, list, make, simulate};
 use crate::ends::{Failing, Full};
+use file_places::source::Source;
 use std::alloc::{AllocError, Global};
 use std::io::{Read, Write};
 use std::process::Abort;
@@ -57,7 +58,7 @@ fn input<'a>(command: &str, file: &'a [u8]) -> &'a [u8] {
 }
 
 /// What is told of a command.
-fn told<R: Read, W: Write>(
+fn told<R: Read + Source, W: Write>(
     alloc: Global,
     command: &str,
     reader: &mut R,

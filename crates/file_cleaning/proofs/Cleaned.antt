@@ -1,5 +1,5 @@
 -- A file that was written of the tree of another.
-use Rattle.std.proofs.Common.{◌≡◌, ◌≢◌, ◌∙◌, ℕ, List, Option, Some, None, IfSome, length, refl, ap, subst, sym}
+use Rattle.std.proofs.Common.{◌≡◌, ◌≢◌, ◌≤◌, ◌∙◌, ℕ, List, Option, Some, None, IfSome, length, refl, ap, subst, sym}
 use Rattle.std.proofs.Math.Logic.{∥∥₁_elim, ∥∥₁_map, ∥∥₁_prop}
 use Rattle.std.specs.Io.KnownBytes.{Appends}
 use Rattle.storage_tree.specs.Tree.{Tree}
@@ -20,6 +20,7 @@ use Rattle.file_moving.specs.declared.moving.MoveFault.{MoveFault}
 use Rattle.file_moving.specs.declared.moving.MoveFault.TheVariants as move
 use Rattle.file_moving.specs.declared.reading.Opened.{Opened}
 use Rattle.stream_seeking.specs.declared.fault.CopyFault.TheVariants as copy
+use Rattle.texts.specs.Input.{most}
 use Rattle.texts.specs.declared.input.InputFault.TheVariants as input
 use Rattle.file_cleaning.proofs.Settled.{appended, has_file, one_writable, same_number}
 use Rattle.file_cleaning.specs.Faults.{of_move_fault, of_source_fault}
@@ -32,14 +33,16 @@ IsOpened file opened = (t : Tree) × ∥ IsOpenedOf file t opened ∥₁
 fits_too : (file : List ℕ) (t : Tree) (opened : Opened) → ∥ IsOpenedOf file t opened ∥₁ → writable (blank_of opened.outline) ≡ writable t
 fits_too file t opened is = one_writable (blank_of opened.outline) t (∥∥₁_map is (λ x. outline-blank (outline_view opened.outline) ∙ x.placed.outlined))
 
-cleans : (file : List ℕ) (opened : Opened) (old new : Option (List ℕ)) (count : ℕ) → IsOpened file opened
+cleans : (file : List ℕ) (opened : Opened) (old new : Option (List ℕ)) (count : ℕ)
+    → length file ≤ most → IsOpened file opened
     → ((t : Tree) → IsOpenedOf file t opened → WritesFile t old new count) → Cleans file old new count
-cleans file opened old new count q w =
+cleans file opened old new count few q w =
     let t : Tree = q.0 in
     let denotes : ∥ Denotes file t ∥₁ = ∥∥₁_map q.1 (λ x. x.placed.denotes) in
     record {
       t = t;
       denotes = denotes;
+      few = few;
       fits = has_file t (∥∥₁_map q.1 (λ x. (w t x).fits));
       clean = file_of t;
       same = ∥∥₁_elim q.1 ∥∥₁_prop (λ x. subst (λ (f : List ℕ). ∥ Denotes f t ∥₁) (w t x).laid_out ((w t x).denotes (∥∥₁_map denotes (λ d. d.is_tree))));
@@ -49,9 +52,11 @@ cleans file opened old new count q w =
     }
 
 pub known_cleans : (known : Option (List ℕ)) (opened : Opened) (old new : Option (List ℕ)) (count : ℕ)
-    → IfSome known (λ file. IsOpened file opened) → IfSome known (λ file. (t : Tree) → IsOpenedOf file t opened → WritesFile t old new count) → IfSome known (λ file. Cleans file old new count)
-known_cleans None opened old new count d w = tt
-known_cleans (Some file) opened old new count d w = cleans file opened old new count d w
+    → IfSome known (λ file. length file ≤ most) → IfSome known (λ file. IsOpened file opened)
+    → IfSome known (λ file. (t : Tree) → IsOpenedOf file t opened → WritesFile t old new count)
+    → IfSome known (λ file. Cleans file old new count)
+known_cleans None opened old new count few d w = tt
+known_cleans (Some file) opened old new count few d w = cleans file opened old new count few d w
 
 -- ---- why it isn't written
 source_fault : (file : List ℕ) (fault : SourceFault) → MayRefuseSource file fault → MayRefuseClean file (of_source_fault fault)

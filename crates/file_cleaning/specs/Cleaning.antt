@@ -1,20 +1,21 @@
 -- What is written of the tree of a file, and when nothing is.
-use Rattle.std.specs.Prelude.{◌≡◌, ◌≢◌, ℕ, Bool, true, false, List, Option, Ok, length}
+use Rattle.std.specs.Prelude.{◌≡◌, ◌≢◌, ◌≤◌, ℕ, Bool, true, false, List, Option, Ok, length}
 use Rattle.std.specs.Io.KnownBytes.{Appends}
 use Rattle.storage_tree.specs.Tree.{Tree}
 use Rattle.file_model.specs.Denotes.{Denotes}
 use Rattle.file_model.specs.Refusals.{writable, Refuses}
 use Rattle.file_writer.specs.Laid.{IsLaidOut}
-use Rattle.texts.specs.Input.{MayRefuseInput}
+use Rattle.texts.specs.Input.{MayRefuseInput, most}
 use Rattle.texts.specs.declared.input.InputFault.TheVariants.{TooBig}
 use Rattle.stream_io.specs.Reads.{MayRefuseRead}
 use Rattle.file_cleaning.specs.declared.fault.CleanFault.{CleanFault}
 use Rattle.file_cleaning.specs.declared.fault.CleanFault.TheVariants.{Cut, Input, Read, Write, Unwritable}
 
--- a file of the tree that the given one denotes was written, of so many bytes
+-- a file of the tree that the given one denotes was written, of so many bytes; the given one has no more than are taken
 pub record Cleans (file : List ℕ) (old new : Option (List ℕ)) (count : ℕ) : Type 0 where
   pub t : Tree
   pub denotes : ∥ Denotes file t ∥₁
+  pub few : length file ≤ most
   pub fits : writable t ≡ Ok tt
   pub clean : List ℕ
   pub same : ∥ Denotes clean t ∥₁

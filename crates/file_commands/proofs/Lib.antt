@@ -1,5 +1,2 @@
-pub mod Pushed
-pub mod ReadRefused
 pub mod Listed
 pub mod Placed
-pub mod Formed

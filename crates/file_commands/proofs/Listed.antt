@@ -1,47 +1,66 @@
 -- What is listed of a file, and why it isn't.
-use Rattle.std.proofs.Common.{◌≡◌, ◌∙◌, ℕ, List, Option, Some, None, Result, Ok, Err, IfErr, IfSome, OnOk, ap, subst, sym}
+use Rattle.std.proofs.Common.{◌≡◌, ◌≤◌, ◌∙◌, ℕ, List, Option, Some, None, Result, Ok, Err, IfErr, IfSome, OnOk, ap, length, subst, sym}
+use Rattle.std.proofs.Math.Logic.{∥∥₁_map}
 use Rattle.std.specs.Io.KnownBytes.{Appends}
-use Rattle.cfb_header.specs.Header.{HeaderValue}
+use Rattle.cfb_header.specs.Header.{HeaderValue, header_read}
 use Rattle.cfb_header.specs.declared.fault.ChainFault.{ChainFault}
 use Rattle.cfb_header.proofs.Headers.{read_whole}
 use Rattle.storage_tree.specs.Tree.{Tree}
 use Rattle.file_model.specs.Alike.{Alike}
 use Rattle.file_model.specs.Denotes.{Denotes}
-use Rattle.file_model.specs.Outline.{Outline, outline_of}
-use Rattle.file_model.proofs.AlikeFiles.{alike_back, alike_denotes}
+use Rattle.file_outline.specs.declared.outline.Outline.{Outline}
 use Rattle.file_places.specs.Filled.{MayRefusePlaces}
 use Rattle.file_places.specs.declared.fault.PlacesFault.{PlacesFault}
 use Rattle.file_places.specs.declared.fault.PlacesFault.TheVariants.{Unreadable, TooBig, NoMemory, Header}
-use Rattle.stream_io.specs.Reads.{chain_fault}
+use Rattle.listing_forms.specs.Lines.{listed}
+use Rattle.listing_forms.specs.Listings.{told}
+use Rattle.listing_forms.specs.declared.listing.Listing.{Listing}
+use Rattle.listing_forms.specs.declared.listing.Listing.TheVariants.{Lines}
+use Rattle.outline_entries.specs.Places.{IsPlaced}
+use Rattle.stream_io.specs.Reads.{MayRefuseFile, MayRefuseRead, chain_fault}
+use Rattle.stream_io.specs.declared.fault.ReadFault.{ReadFault}
+use Rattle.stream_io.specs.declared.fault.ReadFault.TheVariants as read
+use Rattle.stream_io.proofs.ReadingAlike.{alike_read}
+use Rattle.stream_io.proofs.ReadingTold.{walk_refused}
 use Rattle.stream_io.proofs.ReadingRefused.{file_header}
+use Rattle.texts.specs.Input.{most}
 use Rattle.file_commands.specs.Faults.{of_places_fault}
-use Rattle.file_commands.specs.Listing.{listed}
-use Rattle.file_commands.specs.Run.{IsOfWriting, Lists, MayRefuseList}
+use Rattle.file_commands.specs.Lists.{IsOfWriting, Lists, ListsAs, MayRefuseList}
 use Rattle.file_commands.specs.declared.fault.ListFault.{ListFault}
 use Rattle.file_commands.specs.declared.fault.ListFault.TheVariants as list
+use Rattle.file_commands.proofs.Placed.{placed_alike}
 
--- a tree that a file denotes, of a given outline
-abbrev pub IsOutlined : List ℕ → Outline → Type 0
-IsOutlined file o = (t : Tree) × ∥ Denotes file t ∥₁ × (o ≡ outline_of t)
+-- ---- what was written of a file of which some blocks were read
+pub lists_as : (form : Listing) (a b : List ℕ) (o : Outline) (old new : Option (List ℕ)) → Alike a b → length a ≤ most
+    → (t : Tree) × IsPlaced b t o → Appends old new (told form o) → ListsAs form a old new
+lists_as form a b o old new h few p w =
+    let q : (t : Tree) × IsPlaced a t o = placed_alike a b o h p in
+    record { t = q.0; o = o; placed = ∣ q.1 ∣₁; outlined = q.1.outlined; few = few; written = w }
 
-pub lists : (file : List ℕ) (o : Outline) (old new : Option (List ℕ)) → IsOutlined file o → Appends old new (listed o) → Lists file old new
-lists file o old new p w = record { t = p.0; denotes = p.1; written = subst (λ x. Appends old new (listed x)) p.2 w }
+denoted : (a b : List ℕ) (o : Outline) → Alike a b → (t : Tree) × IsPlaced b t o → (t : Tree) × ∥ Denotes a t ∥₁
+denoted a b o h p = let q : (t : Tree) × IsPlaced a t o = placed_alike a b o h p in (q.0, ∣ q.1.denotes ∣₁)
 
-pub not_written : (file : List ℕ) (o : Outline) (fault : ListFault) → IsOutlined file o → IsOfWriting fault → MayRefuseList file fault
-not_written file o (list.Input fault) p r = absurd r
-not_written file o (list.Read fault) p r = absurd r
-not_written file o list.Unwritable p r = (p.0, p.1)
-not_written file o list.NoMemory p r = (p.0, p.1)
+pub not_written : (a b : List ℕ) (o : Outline) (fault : ListFault) → Alike a b → (t : Tree) × IsPlaced b t o
+    → IsOfWriting fault → MayRefuseList a fault
+not_written a b o (list.Input fault) h p r = absurd r
+not_written a b o (list.Read fault) h p r = absurd r
+not_written a b o list.Unwritable h p r = denoted a b o h p
+not_written a b o list.NoMemory h p r = denoted a b o h p
 
--- ---- a file of which only some blocks are read
-pub outlined_alike : (a b : List ℕ) (o : Outline) → Alike a b → (t : Tree) × Denotes b t × (o ≡ outline_of t) → IsOutlined a o
-outlined_alike a b o h p =
-    let q : (t : Tree) × Denotes a t × (outline_of t ≡ outline_of p.0) = alike_denotes b a (alike_back a b h) p.0 p.1 in (q.0, ∣ q.1 ∣₁, p.2 ∙ sym q.2)
+-- the lines of an outline of the tree are the tree's
+pub in_lines : (file : List ℕ) (old new : Option (List ℕ)) → ListsAs Lines file old new → Lists file old new
+in_lines file old new l = record {
+  t = l.t;
+  denotes = ∥∥₁_map l.placed (λ p. p.denotes);
+  few = l.few;
+  written = subst (λ x. Appends old new (listed x)) l.outlined l.written;
+}
 
+-- ---- why its blocks aren't read
 same_fault : {e f : ChainFault} → ◌≡◌ {A = Result HeaderValue ChainFault} (Err e) (Err f) → e ≡ f
 same_fault p = cc
 
-pub no_fault : {h : HeaderValue} {e : ChainFault} → ◌≡◌ {A = Result HeaderValue ChainFault} (Ok h) (Err e) → ⊥
+no_fault : {h : HeaderValue} {e : ChainFault} → ◌≡◌ {A = Result HeaderValue ChainFault} (Ok h) (Err e) → ⊥
 no_fault p = cc
 
 pub places_refused : (a : List ℕ) (fault : PlacesFault) → MayRefusePlaces a fault → MayRefuseList a (of_places_fault fault)
@@ -58,6 +77,20 @@ places_refused a (Header fault) r = record {
 pub some_map : (known : Option (List ℕ)) (P Q : List ℕ → Type 0) → ((a : List ℕ) → P a → Q a) → IfSome known P → IfSome known Q
 some_map None P Q f h = tt
 some_map (Some a) P Q f h = f a h
+
+pub some_both : (known : Option (List ℕ)) (P Q R : List ℕ → Type 0) → ((a : List ℕ) → P a → Q a → R a)
+    → IfSome known P → IfSome known Q → IfSome known R
+some_both None P Q R f h i = tt
+some_both (Some a) P Q R f h i = f a h i
+
+-- what is told of the blocks that were read is told of the file
+pub read_alike : {A : Type 0} (known : Option (List ℕ)) (b : List ℕ) (h : HeaderValue) (r : Result A ReadFault)
+    (fault : ReadFault) → IfSome known (λ a. Alike a b) → header_read b ≡ Ok h → r ≡ Err fault
+    → ((t : Tree) → Denotes b t → IfErr r (λ e. e ≡ read.NoMemory)) → IfErr r (MayRefuseFile b)
+    → IfSome known (λ a. MayRefuseRead a fault)
+read_alike known b h r fault alike header is reads told =
+    some_map known (λ a. Alike a b) (λ a. MayRefuseRead a fault)
+    (λ a s. alike_read a b fault s (walk_refused b h r fault header is reads told)) alike
 
 -- ---- what is answered
 pub ok_map : {A E : Type 0} (r : Result A E) (P Q : Type 0) → (P → Q) → OnOk r P → OnOk r Q

@@ -1,126 +1,83 @@
-//! Listings of outlines.
+//! Listing files.
 
-ghost use Rattle.file_commands.specs.Listing.{below, child_lines, listed, root_line, storage_line, storage_lines, stream_line};
-ghost use Rattle.text_model.specs.Spelled.{name_text};
-ghost use Rattle.std.specs.Fmt.{decimal};
-ghost use Rattle.std.specs.Prelude.{◌≡◌, ◌<◌, ◌++◌, ◌∷◌, [], IfOk, OnOk};
-ghost use Rattle.file_outline.specs.View.{outline_view, part_view};
+ghost use Rattle.file_commands.specs.Lists.{IsOfWriting, Lists, ListsAs, MayRefuseList};
+ghost use Rattle.listing_forms.specs.Listings.{told};
+ghost use Rattle.std.specs.Io.KnownBytes.{Appends};
+ghost use Rattle.std.specs.Prelude.{◌≡◌, ◌≢◌, IfErr, IfSome, OnOk};
 
-use cfb_names::name::Name;
-use file_outline::outline::{Outline, Part};
-use std::alloc::{AllocError, Global};
-use stored_values::class_id::ClassId;
-use texts::writing::{push_class, push_name, push_numbered};
+use crate::fault::ListFault;
+use file_outline::outline::Outline;
+use file_places::reading::read_catalog;
+use file_places::source::Source;
+use listing_forms::listing::Listing;
+use std::alloc::Global;
+use std::io::Write;
+use stream_io::read::read_placed;
+use texts::output::write_all;
 
-/// How many bytes a line usually has: room for so many is taken at once for each child of the root.
-const USUAL_LINE: usize = 24;
-
-/// The listing of an outline.
-pub fn list(alloc: Global, outline: &Outline) -> Result<Vec<u8>, AllocError>
-    ensures { IfOk result (λ text. text.items ≡ listed (outline_view outline.now)) }
-{
-    let mut text = Vec::with_capacity(alloc, outline.parts.len().saturating_mul(USUAL_LINE))?;
-    push_root(&mut text, &outline.class)?;
-    push_below(alloc, &mut text, &[], outline)?;
-    Ok(text)
-}
-
-/// Writes the root's line.
-fn push_root(text: &mut Vec<u8>, class: &ClassId) -> Result<(), AllocError>
-    ensures { OnOk result (text.new.items ≡ text.old.items ++ root_line class.now) }
-{
-    text.extend_from_slice(b"root ".as_slice())?;
-    push_class(text, class)?;
-    text.push(b'\n')?;
-    Ok(())
-}
-
-/// Writes a storage's line.
-fn push_storage(text: &mut Vec<u8>, path: &[u8], class: &ClassId) -> Result<(), AllocError>
-    ensures { OnOk result (text.new.items ≡ text.old.items ++ storage_line path.now class.now) }
-{
-    text.extend_from_slice(b"storage ".as_slice())?;
-    text.extend_from_slice(path)?;
-    text.push(b' ')?;
-    push_class(text, class)?;
-    text.push(b'\n')?;
-    Ok(())
-}
-
-/// Writes a stream's line. Its path is written where it stands, so that no buffer is taken for it.
-fn push_stream(
+/// Writes the listing of the tree that a compound file holds, in lines.
+///
+/// Refused: as `list_as`.
+pub fn list_file<S: Source, W: Write>(
     alloc: Global,
-    text: &mut Vec<u8>,
-    within: &[u8],
-    name: &Name,
-    size: usize,
-) -> Result<(), AllocError>
-    ensures { OnOk result (text.new.items ≡ text.old.items ++ stream_line (within.now ++ name_text name.now) size) }
+    source: &mut S,
+    writer: &mut W,
+) -> Result<(), ListFault>
+    ensures listed { OnOk result (IfSome (S.bytes source.old) (λ file. Lists file (W.contents writer.old) (W.contents writer.new))) }
+    ensures refused { IfErr result (λ fault. IfSome (S.bytes source.old) (λ file. MayRefuseList file fault)) }
+    ensures unwritten { IfErr result (λ fault. fault ≢ ListFault.Unwritable → writer.new ≡ writer.old) }
 {
-    text.extend_from_slice(b"stream ".as_slice())?;
-    text.extend_from_slice(within)?;
-    push_name(text, name.as_bytes())?;
-    push_numbered(alloc, text, " ", size)?;
-    text.push(b'\n')?;
-    Ok(())
+    match list_as(alloc, Listing::Lines, source, writer) {
+        Ok(()) => Ok(()),
+        Err(fault) => Err(fault),
+    }
 }
 
-/// The text of a name's path.
-fn path_text(alloc: Global, within: &[u8], name: &Name) -> Result<Vec<u8>, AllocError>
-    ensures { IfOk result (λ path. path.items ≡ within.now ++ name_text name.now) }
-{
-    let mut path = Vec::from_slice(alloc, within)?;
-    push_name(&mut path, name.as_bytes())?;
-    Ok(path)
-}
-
-/// Writes the lines of what stands below a storage.
-#[cycle(listing)]
-fn push_below(
+/// Writes the listing of the tree that a compound file holds, as it is asked for. Only what the listing needs is read
+/// of the file.
+///
+/// Refused: a file that isn't read, has more than 134,217,728 bytes or denotes no tree; `NoMemory`. Nothing is written
+/// then. `Unwritable` where a write fails.
+pub fn list_as<S: Source, W: Write>(
     alloc: Global,
-    text: &mut Vec<u8>,
-    within: &[u8],
+    listing: Listing,
+    source: &mut S,
+    writer: &mut W,
+) -> Result<(), ListFault>
+    ensures listed { OnOk result (IfSome (S.bytes source.old) (λ file. ListsAs listing file (W.contents writer.old) (W.contents writer.new))) }
+    ensures refused { IfErr result (λ fault. IfSome (S.bytes source.old) (λ file. MayRefuseList file fault)) }
+    ensures unwritten { IfErr result (λ fault. fault ≢ ListFault.Unwritable → writer.new ≡ writer.old) }
+{
+    let catalog = match read_catalog(alloc, source) {
+        Ok(catalog) => catalog,
+        Err(fault) => return Err(ListFault::from(fault)),
+    };
+    let outline = match read_placed(alloc, &catalog.header, &catalog.file) {
+        Ok(outline) => outline,
+        Err(fault) => return Err(ListFault::Read(fault)),
+    };
+    write_listing(alloc, listing, &outline, writer)
+}
+
+/// Writes the listing of an outline.
+///
+/// Refused: `NoMemory`, where nothing is written, and `Unwritable` where a write fails.
+fn write_listing<W: Write>(
+    alloc: Global,
+    listing: Listing,
     outline: &Outline,
-) -> Result<(), AllocError>
-    ensures { OnOk result (text.new.items ≡ text.old.items ++ below within.now (outline_view outline.now)) }
+    writer: &mut W,
+) -> Result<(), ListFault>
+    ensures written { OnOk result (Appends (W.contents writer.old) (W.contents writer.new) (told listing outline.now)) }
+    ensures refused { IfErr result IsOfWriting }
+    ensures unwritten { IfErr result (λ fault. fault ≢ ListFault.Unwritable → writer.new ≡ writer.old) }
 {
-    for part in &outline.parts {
-        push_part(alloc, text, within, &part.0, &part.1)?;
+    let text = match listing.text(alloc, outline) {
+        Ok(text) => text,
+        Err(_) => return Err(ListFault::NoMemory),
+    };
+    match write_all(writer, &text) {
+        Ok(()) => Ok(()),
+        Err(_) => Err(ListFault::Unwritable),
     }
-    Ok(())
-}
-
-/// Writes the lines of a child and of what stands below it.
-#[cycle(listing)]
-fn push_part(
-    alloc: Global,
-    text: &mut Vec<u8>,
-    within: &[u8],
-    name: &Name,
-    part: &Part,
-) -> Result<(), AllocError>
-    ensures { OnOk result (text.new.items ≡ text.old.items ++ child_lines within.now name.now (part_view part.now)) }
-{
-    match part {
-        Part::Stream(place) => push_stream(alloc, text, within, name, place.size as usize),
-        Part::Storage(inner) => {
-            let path = path_text(alloc, within, name)?;
-            push_inner(alloc, text, path, inner)
-        }
-    }
-}
-
-/// Writes the line of a storage and the lines of what stands below it.
-#[cycle(listing)]
-fn push_inner(
-    alloc: Global,
-    text: &mut Vec<u8>,
-    mut path: Vec<u8>,
-    inner: &Outline,
-) -> Result<(), AllocError>
-    ensures { OnOk result (text.new.items ≡ text.old.items ++ storage_lines path.items (outline_view inner.now)) }
-{
-    push_storage(text, &path, &inner.class)?;
-    path.push(b'/')?;
-    push_below(alloc, text, &path, inner)
 }

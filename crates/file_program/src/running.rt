@@ -1,22 +1,21 @@
 //! The commands over the files of a system.
 
-use cfb_names::name::Name;
 use fault_texts::telling::Form as CheckForm;
-use file_checks::checking::{check_file, check_source};
-use file_checks::many::{Checker, check_all};
-use file_cleaning::cleaning::{clean_file, clean_opened};
-use file_cleaning::fault::CleanFault;
-use file_commands::asking::{Listing, list_file_in, list_source_in};
+use file_cleaning::cleaning::clean_file;
 use file_commands::fault::ListFault;
-use file_listings::fault::GetFault;
-use file_listings::getting::{get_file, get_source};
-use file_listings::mapping::map_file;
-use file_places::source::Sought;
+use file_commands::listing::list_as;
+use file_inspection::checking::check_file;
+use file_inspection::fault::GetFault;
+use file_inspection::getting::get_stream;
+use file_inspection::many::{Checker, check_all};
+use file_inspection::mapping::map_file;
+use listing_forms::listing::Listing;
 use program_ends::ends::{REFUSED, give_up, keep, refuse, refuse_path};
 use program_ends::journals::refuse_unfinished;
 use program_ends::making::count_made;
 use program_ends::new_file::NewFile;
-use program_ends::sources::{is_sought, open};
+use program_sources::opening::open_source;
+use program_sources::source::FileSource;
 use std::fs::File;
 use std::io;
 use std::process::ExitCode;
@@ -34,27 +33,13 @@ fn end<R: Runtime>(rt: &R, path: &str, told: Result<(), ListFault>) -> ExitCode 
 
 /// Lists a file on standard output.
 pub fn list<R: Runtime + AllocGlobal>(rt: &R, path: &str, listing: Listing) -> ExitCode {
-    match open(rt, path) {
-        Ok(source) => end(rt, path, list_open(rt, source, listing)),
+    match open_source(rt, path) {
+        Ok(mut source) => end(
+            rt,
+            path,
+            list_as(rt.alloc(), listing, &mut source, &mut io::writer(rt)),
+        ),
         Err(code) => code,
-    }
-}
-
-/// Lists an open file. Of one that tells how long it is, only what the listing needs is read.
-fn list_open<R: Runtime + AllocGlobal>(
-    rt: &R,
-    mut source: R::File,
-    listing: Listing,
-) -> Result<(), ListFault> {
-    if is_sought(&source) {
-        list_source_in(
-            rt.alloc(),
-            listing,
-            &mut Sought::new(source),
-            &mut io::writer(rt),
-        )
-    } else {
-        list_file_in(rt.alloc(), listing, &mut source, &mut io::writer(rt))
     }
 }
 
@@ -78,8 +63,12 @@ fn check_one<R: Runtime + AllocGlobal>(rt: &R, path: &str, is_json: bool) -> Exi
     } else {
         CheckForm::Line
     };
-    match open(rt, path) {
-        Ok(source) => end(rt, path, check_open(rt, source, form)),
+    match open_source(rt, path) {
+        Ok(mut source) => end(
+            rt,
+            path,
+            check_file(rt.alloc(), &mut source, form, &mut io::writer(rt)),
+        ),
         Err(code) => code,
     }
 }
@@ -98,8 +87,12 @@ impl<'a, R: Runtime + AllocGlobal> Checker for SystemChecker<'a, R> {
         } else {
             CheckForm::LineOf(name)
         };
-        match open(self.rt, name) {
-            Ok(source) => is_sound(self.rt, name, check_open(self.rt, source, form)),
+        match open_source(self.rt, name) {
+            Ok(mut source) => is_sound(
+                self.rt,
+                name,
+                check_file(self.rt.alloc(), &mut source, form, &mut io::writer(self.rt)),
+            ),
             Err(_) => false,
         }
     }
@@ -116,27 +109,9 @@ fn is_sound<R: Runtime>(rt: &R, path: &str, told: Result<(), ListFault>) -> bool
     }
 }
 
-/// Checks an open file. Of one that tells how long it is, and holds a tree, only what its listing needs is read.
-fn check_open<R: Runtime + AllocGlobal>(
-    rt: &R,
-    mut source: R::File,
-    form: CheckForm<'_>,
-) -> Result<(), ListFault> {
-    if is_sought(&source) {
-        check_source(
-            rt.alloc(),
-            &mut Sought::new(source),
-            form,
-            &mut io::writer(rt),
-        )
-    } else {
-        check_file(rt.alloc(), &mut source, form, &mut io::writer(rt))
-    }
-}
-
 /// Writes the map of a file to standard output.
 pub fn map<R: Runtime + AllocGlobal>(rt: &R, path: &str) -> ExitCode {
-    match open(rt, path) {
+    match open_source(rt, path) {
         Ok(mut source) => end(
             rt,
             path,
@@ -166,8 +141,12 @@ fn get_spelled<R: Runtime + AllocGlobal>(
         Ok(names) => names,
         Err(fault) => return refuse_path(rt, word, fault.name()),
     };
-    match open(rt, path) {
-        Ok(source) => end_get(rt, path, get_open(rt, source, names)),
+    match open_source(rt, path) {
+        Ok(mut source) => end_get(
+            rt,
+            path,
+            get_stream(rt.alloc(), &mut source, names, &mut io::writer(rt)),
+        ),
         Err(code) => code,
     }
 }
@@ -180,31 +159,13 @@ fn end_get<R: Runtime>(rt: &R, path: &str, got: Result<(), GetFault>) -> ExitCod
     }
 }
 
-/// Writes the stream at a path of an open file. Of one that tells how long it is, only what is needed is read.
-fn get_open<R: Runtime + AllocGlobal>(
-    rt: &R,
-    mut source: R::File,
-    names: &[Name],
-) -> Result<(), GetFault> {
-    if is_sought(&source) {
-        get_source(
-            rt.alloc(),
-            &mut Sought::new(source),
-            names,
-            &mut io::writer(rt),
-        )
-    } else {
-        get_file(rt.alloc(), &mut source, names, &mut io::writer(rt))
-    }
-}
-
 /// Writes the tree of a file to another, or to the same, unless a save of the one that is replaced was cut off.
 pub fn clean<R: Runtime<File = File> + AllocGlobal>(rt: &R, path: &str, out: &str) -> ExitCode {
     if let Err(code) = refuse_unfinished(rt, out) {
         return code;
     }
-    match open(rt, path) {
-        Ok(source) => clean_into(rt, path, source, out),
+    match open_source(rt, path) {
+        Ok(mut source) => clean_into(rt, path, &mut source, out),
         Err(code) => code,
     }
 }
@@ -213,28 +174,15 @@ pub fn clean<R: Runtime<File = File> + AllocGlobal>(rt: &R, path: &str, out: &st
 fn clean_into<R: Runtime<File = File> + AllocGlobal>(
     rt: &R,
     path: &str,
-    source: R::File,
+    source: &mut FileSource<File>,
     out: &str,
 ) -> ExitCode {
     let mut new = NewFile::new(rt, out);
-    match clean_open(rt, source, &mut new) {
+    match count_made(clean_file(rt.alloc(), source, &mut new)) {
         Ok(count) => keep(rt, new, out, count),
         Err(fault) => match give_up(rt, new, out) {
             Some(code) => code,
             None => refuse(rt, &fault.report(path, out)),
         },
-    }
-}
-
-/// Writes the tree of an open file to another. One that tells how long it is isn't held whole.
-fn clean_open<R: Runtime<File = File> + AllocGlobal>(
-    rt: &R,
-    mut source: R::File,
-    new: &mut NewFile<'_, R>,
-) -> Result<usize, CleanFault> {
-    if is_sought(&source) {
-        count_made(clean_opened(rt.alloc(), &mut Sought::new(source), new))
-    } else {
-        clean_file(rt.alloc(), &mut source, new)
     }
 }

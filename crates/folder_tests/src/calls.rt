@@ -5,8 +5,7 @@ use library_calls::calls::{clean, fault_name, get, lines, list, make, make_line}
 use library_calls::checking::check;
 use library_calls::editing::{edit, edit_line};
 use library_calls::numbers::{BAD_PATH, DONE, NO_ROOM};
-use listing_forms::json_form::Json;
-use listing_forms::long_form::Long;
+use listing_forms::listing::Listing;
 use std::alloc::Global;
 
 /// Which call is made.
@@ -24,8 +23,8 @@ enum Call {
 fn called(alloc: Global, call: Call, input: &[u8], out: &mut [u8], needed: &mut usize) -> u32 {
     match call {
         Call::Lines => lines(alloc, input, out, needed),
-        Call::Json => list::<Json>(alloc, input, out, needed),
-        Call::Long => list::<Long>(alloc, input, out, needed),
+        Call::Json => list(alloc, Listing::Json, input, out, needed),
+        Call::Long => list(alloc, Listing::Long, input, out, needed),
         Call::Make => make(alloc, input, out, needed),
         Call::Clean => clean(alloc, input, out, needed),
         Call::Get => get(alloc, input, b"A".as_slice(), out, needed),

@@ -1,8 +1,9 @@
 //! Listings as they are asked for.
 
 use crate::calls::{JSON, LINES, LONG};
-use file_commands::asking::{Listing, list_file_in, list_source_in};
+use file_commands::listing::list_as;
 use file_making::making::make_file;
+use listing_forms::listing::Listing;
 use std::alloc::Global;
 use std::process::Abort;
 
@@ -13,28 +14,14 @@ fn one_stream(rt: &impl Abort, alloc: Global) -> Vec<u8> {
     file
 }
 
-/// Whether this is written of a file that is read whole.
-fn is_listed_whole(alloc: Global, listing: Listing, file: &[u8], want: &[u8]) -> bool {
-    let mut reader = file;
-    let mut text = Vec::new(alloc);
-    match list_file_in(alloc, listing, &mut reader, &mut text) {
-        Ok(()) => text.as_slice() == want,
-        Err(_) => false,
-    }
-}
-
-/// Whether this is written of a file that is sought in.
-fn is_listed_sought(alloc: Global, listing: Listing, file: &[u8], want: &[u8]) -> bool {
+/// Whether this is written of a file.
+fn is_listed(alloc: Global, listing: Listing, file: &[u8], want: &[u8]) -> bool {
     let mut source = file;
     let mut text = Vec::new(alloc);
-    match list_source_in(alloc, listing, &mut source, &mut text) {
+    match list_as(alloc, listing, &mut source, &mut text) {
         Ok(()) => text.as_slice() == want,
         Err(_) => false,
     }
-}
-
-fn is_listed(alloc: Global, listing: Listing, file: &[u8], want: &[u8]) -> bool {
-    is_listed_whole(alloc, listing, file, want) && is_listed_sought(alloc, listing, file, want)
 }
 
 #[test]

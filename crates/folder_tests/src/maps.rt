@@ -1,7 +1,7 @@
 //! A file's map.
 
 use crate::trips::file_of;
-use file_listings::mapping::map_file;
+use file_inspection::mapping::map_file;
 use std::alloc::Global;
 
 /// Streams of 5,000 and of 2 bytes, and two storages.

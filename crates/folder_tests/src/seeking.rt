@@ -1,10 +1,10 @@
 //! Streams that are read where they lie in a file.
 
 use cfb_names::name::{Name, named};
-use file_cleaning::cleaning::clean_source;
+use file_cleaning::cleaning::clean_file;
 use file_cleaning::fault::CleanFault;
-use file_listings::fault::GetFault;
-use file_listings::getting::get_source;
+use file_inspection::fault::GetFault;
+use file_inspection::getting::get_stream;
 use file_making::making::make_file;
 use file_places::source::Source;
 use std::alloc::Global;
@@ -77,7 +77,7 @@ fn got(
     out: &mut Vec<u8>,
 ) -> Result<(), GetFault> {
     let mut source = Few { bytes: file, calls };
-    get_source(alloc, &mut source, path, out)
+    get_stream(alloc, &mut source, path, out)
 }
 
 /// Whether so many calls give a stream of so many bytes.
@@ -178,8 +178,8 @@ fn what_is_no_stream_is_not_read(rt: HostRuntime) {
 fn is_cleaned(alloc: Global, file: &[u8], calls: usize) -> bool {
     let mut source = Few { bytes: file, calls };
     let mut out = Vec::new(alloc);
-    match clean_source(alloc, &mut source, &mut out) {
-        Ok(count) => count == out.len() && out.as_slice() == file,
+    match clean_file(alloc, &mut source, &mut out) {
+        Ok((count, _)) => count == out.len() && out.as_slice() == file,
         Err(_) => false,
     }
 }
@@ -188,7 +188,7 @@ fn is_cleaned(alloc: Global, file: &[u8], calls: usize) -> bool {
 fn is_left(alloc: Global, file: &[u8], calls: usize) -> bool {
     let mut source = Few { bytes: file, calls };
     let mut out = Vec::new(alloc);
-    match clean_source(alloc, &mut source, &mut out) {
+    match clean_file(alloc, &mut source, &mut out) {
         Err(CleanFault::Input(InputFault::Unreadable)) => out.is_empty(),
         _ => false,
     }
@@ -198,7 +198,7 @@ fn is_left(alloc: Global, file: &[u8], calls: usize) -> bool {
 fn is_broken_off(alloc: Global, file: &[u8], calls: usize, empty: bool) -> bool {
     let mut source = Few { bytes: file, calls };
     let mut out = Vec::new(alloc);
-    match clean_source(alloc, &mut source, &mut out) {
+    match clean_file(alloc, &mut source, &mut out) {
         Err(CleanFault::Cut(InputFault::Unreadable)) => {
             out.is_empty() == empty && file.starts_with(&out)
         }

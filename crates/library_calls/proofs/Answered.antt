@@ -1,11 +1,17 @@
 -- What calls answer, told otherwise.
-use Rattle.std.proofs.Common.{◌≡◌, ℕ, List, Result, Ok, Err, IfErr, inl, inr, refl, subst}
+use Rattle.std.proofs.Common.{◌≡◌, ◌∙◌, ℕ, List, Result, Ok, Err, IfErr, ap, inl, inr, refl, subst}
+use Rattle.std.proofs.Math.Decide.{ℕ_discrete}
+use Rattle.std.proofs.Math.Logic.{∥∥₁_elim, ∥∥₁_map}
+use mathlib.Core.List.{List-discrete}
 use Rattle.cfb_header.specs.Header.{header_read}
 use Rattle.cfb_header.specs.declared.fault.ChainFault.{ChainFault}
 use Rattle.storage_tree.specs.Kept.{Kept}
 use Rattle.storage_tree.specs.Tree.{Tree}
 use Rattle.storage_tree.specs.declared.tree.Tree.{Tree as BuiltTree}
 use Rattle.file_model.specs.Denotes.{Denotes}
+use Rattle.listing_forms.specs.Lines.{listed, listing}
+use Rattle.listing_forms.specs.Listings.{told}
+use Rattle.listing_forms.specs.declared.listing.Listing.TheVariants.{Lines}
 use Rattle.tree_descriptions.specs.Description.{described}
 use Rattle.library_calls.specs.Answers.{Answers, AnswersAt}
 use Rattle.file_model.specs.declared.fault.WriteFault.TheVariants.{TooBig}
@@ -17,8 +23,11 @@ use Rattle.tree_descriptions.proofs.Room.{too_large}
 use Rattle.tree_descriptions.specs.Texts.{Describes}
 use Rattle.tree_descriptions.specs.declared.building.Described.{Described}
 use Rattle.tree_descriptions.specs.declared.building.Described.TheVariants.{Outline}
-use Rattle.library_calls.specs.Calls.{IsCleanOf, IsFileOf, IsMadeOf, IsRefusedClean, IsRefusedMake, IsUnread, IsUnwritten}
+use Rattle.library_calls.specs.Calls.{IsCleanOf, IsFileOf, IsListed, IsListedAs, IsMadeOf, IsRefusedClean, IsRefusedMake, IsUnread, IsUnwritten}
 use Rattle.library_calls.specs.Numbers.{read_number}
+
+⊥_prop : (a b : ⊥) → a ≡ b
+⊥_prop a b = absurd a
 
 -- a file that isn't read
 pub unread : {A : Type 0} (file : List ℕ) (r : Result A ReadFault) (fault : ReadFault) (number : ℕ) → r ≡ Err fault → number ≡ read_number fault
@@ -27,6 +36,16 @@ pub unread : {A : Type 0} (file : List ℕ) (r : Result A ReadFault) (fault : Re
     → IfErr r (MayRefuseFile file)
     → IsUnread file number
 unread file r fault number is told header reads refused = inr (fault, told, read_refused file r fault is header reads refused)
+
+-- the lines of an outline that is the tree's are the tree's
+settled : (xs ys : List ℕ) → Dec (xs ≡ ys) → ∥ xs ≡ ys ∥₁ → xs ≡ ys
+settled xs ys (yes p) h = p
+settled xs ys (no n) h = absurd (∥∥₁_elim h ⊥_prop n)
+
+pub in_lines : (file bytes : List ℕ) → IsListedAs (told Lines) file bytes → IsListed file bytes
+in_lines file bytes l =
+    let is : ∥ bytes ≡ listing l.0 ∥₁ = ∥∥₁_map l.2 (λ p. l.3 ∙ ap listed p.outlined) in
+    (l.0, ∥∥₁_map l.2 (λ p. p.denotes), settled bytes (listing l.0) (List-discrete ℕ_discrete bytes (listing l.0)) is)
 
 -- a described tree whose streams have more bytes than a file
 pub outlined : (text : List ℕ) (d : Described) (t : BuiltTree) → d ≡ Outline t → Describes text d → IsRefusedMake text 0 3

@@ -20,7 +20,7 @@ use Rattle.tree_descriptions.specs.Description.{RefusesDescription, described}
 use Rattle.tree_descriptions.specs.declared.fault.LineFault.{LineFault}
 use Rattle.tree_descriptions.specs.declared.fault.TextFault.{TextFault}
 use Rattle.tree_descriptions.specs.declared.fault.TextFault.TheVariants.{Input, Line}
-use Rattle.file_commands.specs.Listing.{listing}
+use Rattle.listing_forms.specs.Lines.{listing}
 use Rattle.file_making.specs.Run.{IsMade}
 use Rattle.library_calls.specs.Numbers.{directory_number, line_number, read_number, tree_number, write_number}
 

@@ -7,6 +7,7 @@ ghost use Rattle.library_calls.specs.Numbers.{number_name};
 ghost use Rattle.library_calls.specs.Calls.{IsCleanOf, IsFileOf, IsGot, IsGotBy, IsListed, IsListedAs, IsMadeOf, IsRefusedBy, IsRefusedClean, IsRefusedGet, IsRefusedList, IsRefusedMake, IsRefusedText, IsUnread, IsUnwritten, text_line};
 ghost use Rattle.file_model.specs.Denotes.{Denotes};
 ghost use Rattle.file_model.specs.Outline.{outline_of};
+ghost use Rattle.listing_forms.specs.Listings.{told};
 ghost use Rattle.file_outline.specs.View.{outline_view};
 ghost use Rattle.outline_entries.specs.Places.{IsPlaced};
 ghost use Rattle.std.specs.Prelude.{◌≡◌, ◌<◌, IfErr, IfOk, List, length, ℕ};
@@ -21,11 +22,10 @@ use crate::numbers::{
 };
 use crate::placing::put;
 use cfb_names::name::Name;
-use file_commands::listing::list as list_lines;
 use file_outline::outline::Outline;
 use file_queries::queries::read_stream;
 use file_writer::write::write_file;
-use listing_forms::form::Form;
+use listing_forms::listing::Listing;
 use std::alloc::Global;
 use storage_tree::tree::Tree as BuiltTree;
 use stream_io::fault::StreamFault;
@@ -53,19 +53,19 @@ fn outline_of(alloc: Global, file: &[u8]) -> Result<Outline, u32>
     }
 }
 
-/// The listing of a file in a form.
+/// The listing of a file, as it is asked for.
 ///
 /// Refused: `TOO_BIG` where the file has more than 134,217,728 bytes; as `read_outline`; `NO_MEMORY`. One that denotes a tree is refused
 /// for these two alone.
-pub fn list<F: Form>(alloc: Global, file: &[u8], out: &mut [u8], needed: &mut usize) -> u32
-    ensures { Answers (IsListedAs F.told file.now) (IsRefusedList file.now) result out.old out.new needed.new }
+pub fn list(alloc: Global, listing: Listing, file: &[u8], out: &mut [u8], needed: &mut usize) -> u32
+    ensures { Answers (IsListedAs (told listing) file.now) (IsRefusedList file.now) result out.old out.new needed.new }
 {
     *needed = 0;
     let outline = match outline_of(alloc, file) {
         Ok(outline) => outline,
         Err(number) => return number,
     };
-    match F::text(alloc, &outline) {
+    match listing.text(alloc, &outline) {
         Ok(text) => put(&text, out, needed),
         Err(_) => NO_MEMORY,
     }
@@ -77,15 +77,7 @@ pub fn list<F: Form>(alloc: Global, file: &[u8], out: &mut [u8], needed: &mut us
 pub fn lines(alloc: Global, file: &[u8], out: &mut [u8], needed: &mut usize) -> u32
     ensures { Answers (IsListed file.now) (IsRefusedList file.now) result out.old out.new needed.new }
 {
-    *needed = 0;
-    let outlined = match outline_of(alloc, file) {
-        Ok(outline) => outline,
-        Err(number) => return number,
-    };
-    match list_lines(alloc, &outlined) {
-        Ok(listing) => put(&listing, out, needed),
-        Err(_) => NO_MEMORY,
-    }
+    list(alloc, Listing::Lines, file, out, needed)
 }
 
 /// The file of the tree that a description describes.

@@ -1,6 +1,5 @@
 -- Rows that are written one after another.
 use Rattle.std.proofs.Common.{◌≡◌, ◌<◌, ◌+◌, ◌-◌, ◌++◌, ◌∷◌, [], ◌∙◌, ℕ, List, length, get_or, drop, replicate, refl, sym, ap}
-use Rattle.std.proofs.lemmas.List.{drop_more}
 use Rattle.std.specs.Prelude.{codes}
 use Rattle.std.specs.Fmt.{decimal}
 use Rattle.file_model.specs.Outline as model
@@ -10,12 +9,10 @@ use Rattle.file_outline.specs.declared.outline.Outline as raw
 use Rattle.file_outline.specs.declared.outline.Outline.{fold_out-Outline}
 use Rattle.file_outline.specs.declared.outline.Part.{Part}
 use Rattle.listing_forms.specs.Long.{below_rows, child_rows, each_row, heading, long_listed, right_text, storage_row, storage_rows}
-use Rattle.listing_forms.proofs.Told.{behind}
+use Rattle.listing_forms.specs.Lines.{class_of}
+use Rattle.listing_forms.proofs.Told.{behind, one_more}
 
 -- the class of what an outline tells
-abbrev class_of : Outline → List ℕ
-class_of (outline class state ps) = class
-
 pub class_out : (o : raw.Outline) → o.class ≡ class_of (outline_view o)
 class_out o = ap class_of (sym (fold_out-Outline model.Part model.Outline part_step outline_step o))
 
@@ -39,13 +36,9 @@ each-part within name (nested o) ps = refl
 -- one more child
 pub child_rowed : (within before after whole : List ℕ) (items parts : List (List ℕ × Part)) (k : ℕ) (p : List ℕ × Part) → items ≡ parts → k < length items → get_or items k p ≡ p
     → after ≡ before ++ child_rows within p.0 (part_view p.1) → before ++ each_row within (parts_view (drop k parts)) ≡ whole → after ++ each_row within (parts_view (drop (k + 1) parts)) ≡ whole
-child_rowed within before after whole items parts k p same some here written so =
-    let cut : drop k items ≡ p ∷ drop (k + 1) items = drop_more items k p some ∙ ap (λ x. x ∷ drop (k + 1) items) here in
-    behind before after (child_rows within p.0 (part_view p.1)) (each_row within (parts_view (drop (k + 1) parts))) written
-    ∙ ap (λ x. before ++ x) (sym (each-part within p.0 (part_view p.1) (parts_view (drop (k + 1) parts))))
-    ∙ ap (λ xs. before ++ each_row within (parts_view (p ∷ drop (k + 1) xs))) (sym same)
-    ∙ ap (λ xs. before ++ each_row within (parts_view xs)) (sym cut)
-    ∙ ap (λ xs. before ++ each_row within (parts_view (drop k xs))) same ∙ so
+child_rowed within =
+    one_more (λ xs. each_row within (parts_view xs)) (λ p. child_rows within p.0 (part_view p.1))
+    (λ p xs. each-part within p.0 (part_view p.1) (parts_view xs))
 
 -- a storage's row, and those of what stands below it
 pub storage_below : (o : Outline) (t mid after kind path word slashed named : List ℕ) → kind ≡ codes "storage" → named ≡ class_of o → mid ≡ t ++ storage_row kind word named → word ≡ path → slashed ≡ path ++ 47 ∷ []

@@ -25,6 +25,21 @@ six t u v w x y z a b c d e f p q r s m n =
 four : {A : Type 0} (t u v w x a b c d : List A) → u ≡ t ++ a → v ≡ u ++ b → w ≡ v ++ c → x ≡ w ++ d → x ≡ t ++ (a ++ (b ++ (c ++ d)))
 four t u v w x a b c d p q r s = s ∙ behind v w c d r ∙ behind u v b (c ++ d) q ∙ behind t u a (b ++ (c ++ d)) p
 
+-- one more of a list, of whose elements something is told one after another
+pub one_more : {X A : Type 0} (told : List X → List A) (piece : X → List A)
+    → ((p : X) (xs : List X) → told (p ∷ xs) ≡ piece p ++ told xs)
+    → (before after whole : List A) (items parts : List X) (k : ℕ) (p : X)
+    → items ≡ parts → k < length items → get_or items k p ≡ p
+    → after ≡ before ++ piece p → before ++ told (drop k parts) ≡ whole → after ++ told (drop (k + 1) parts) ≡ whole
+one_more told piece first before after whole items parts k p same some here written so =
+    let cut : drop k items ≡ p ∷ drop (k + 1) items =
+    drop_more items k p some ∙ ap (λ x. x ∷ drop (k + 1) items) here in
+    behind before after (piece p) (told (drop (k + 1) parts)) written
+    ∙ ap (λ x. before ++ x) (sym (first p (drop (k + 1) parts)))
+    ∙ ap (λ xs. before ++ told (p ∷ drop (k + 1) xs)) (sym same)
+    ∙ ap (λ xs. before ++ told xs) (sym cut)
+    ∙ ap (λ xs. before ++ told (drop k xs)) same ∙ so
+
 -- what a call that was done promises
 pub done : {A E : Type 0} (r : Result A E) (x : A) (P : Type 0) → r ≡ Ok x → OnOk r P → P
 done (Ok y) x P is h = h
@@ -37,13 +52,9 @@ each-part within name (nested o) ps = refl
 -- one more child
 pub child_told : (within : List ℕ) (before after whole : List Token) (items parts : List (List ℕ × Part)) (k : ℕ) (p : List ℕ × Part) → items ≡ parts → k < length items → get_or items k p ≡ p
     → after ≡ before ++ child_tokens within p.0 (part_placed p.1) → before ++ each_tokens within (parts_placed (drop k parts)) ≡ whole → after ++ each_tokens within (parts_placed (drop (k + 1) parts)) ≡ whole
-child_told within before after whole items parts k p same some here written so =
-    let cut : drop k items ≡ p ∷ drop (k + 1) items = drop_more items k p some ∙ ap (λ x. x ∷ drop (k + 1) items) here in
-    behind before after (child_tokens within p.0 (part_placed p.1)) (each_tokens within (parts_placed (drop (k + 1) parts))) written
-    ∙ ap (λ x. before ++ x) (sym (each-part within p.0 (part_placed p.1) (parts_placed (drop (k + 1) parts))))
-    ∙ ap (λ xs. before ++ each_tokens within (parts_placed (p ∷ drop (k + 1) xs))) (sym same)
-    ∙ ap (λ xs. before ++ each_tokens within (parts_placed xs)) (sym cut)
-    ∙ ap (λ xs. before ++ each_tokens within (parts_placed (drop k xs))) same ∙ so
+child_told within =
+    one_more (λ xs. each_tokens within (parts_placed xs)) (λ p. child_tokens within p.0 (part_placed p.1))
+    (λ p xs. each-part within p.0 (part_placed p.1) (parts_placed xs))
 
 abbrev class_of : Placed → List ℕ
 class_of (placed class state ps) = class

@@ -3,3 +3,5 @@ pub mod Json
 pub mod Classes
 pub mod Streams
 pub mod Long
+pub mod Lines
+pub mod Listings

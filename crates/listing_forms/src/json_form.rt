@@ -1,12 +1,11 @@
 //! Listings as JSON (RFC 8259).
 
-ghost use Rattle.listing_forms.specs.Json.{below_tokens, child_tokens, first_member, inner_tokens, json_tokens, number_member, storage_tokens, stream_tokens, text_member};
+ghost use Rattle.listing_forms.specs.Json.{below_tokens, child_tokens, first_member, inner_tokens, json_listed, json_tokens, number_member, storage_tokens, stream_tokens, text_member};
 ghost use Rattle.listing_forms.specs.Placed.{part_placed, placed_view};
 ghost use Rattle.std.specs.Fmt.{decimal};
-ghost use Rattle.std.specs.Prelude.{◌≡◌, ◌++◌, codes, OnOk, string_bytes};
+ghost use Rattle.std.specs.Prelude.{◌≡◌, ◌++◌, codes, IfOk, OnOk, string_bytes};
 ghost use Rattle.text_model.specs.Spelled.{class_text};
 
-use crate::form::Form;
 use crate::paths::path_text;
 use cfb_names::name::Name;
 use file_outline::outline::{Outline, Part, Place};
@@ -16,21 +15,14 @@ use stored_values::class_id::ClassId;
 use uuid::Uuid;
 
 /// One JSON value: an array of objects, one for the root and then one for each storage and stream, in the order of `list`.
-pub struct Json;
-
-impl Form for Json {
-    ghost use Rattle.listing_forms.specs.Json.{json_listed};
-    ghost use Rattle.listing_forms.specs.Placed.{placed_view};
-
-    ghost told = { λ o. json_listed (placed_view o) };
-
-    fn text(alloc: Global, outline: &Outline) -> Result<Vec<u8>, AllocError> {
-        let mut writer = Writer::new(Vec::new(alloc));
-        write_array(alloc, &mut writer, outline)?;
-        let mut text = writer.into_inner();
-        text.push(b'\n')?;
-        Ok(text)
-    }
+pub(crate) fn value(alloc: Global, outline: &Outline) -> Result<Vec<u8>, AllocError>
+    ensures { IfOk result (λ text. text.items ≡ json_listed (placed_view outline.now)) }
+{
+    let mut writer = Writer::new(Vec::new(alloc));
+    write_array(alloc, &mut writer, outline)?;
+    let mut text = writer.into_inner();
+    text.push(b'\n')?;
+    Ok(text)
 }
 
 /// Writes the whole array.

@@ -1,10 +1,11 @@
-//! How the outline of a compound file is told in other forms than lines: as one JSON value for programs, and in columns for
-//! eyes.
+//! How the outline of a compound file is told: in lines, as one JSON value for programs, and in columns for eyes.
 #![tactic(auto)]
 
 mod class_names;
-pub mod form;
-pub mod json_form;
-pub mod long_form;
+mod json_form;
+pub mod laws;
+mod lines_form;
+pub mod listing;
+mod long_form;
 mod paths;
 mod stream_names;

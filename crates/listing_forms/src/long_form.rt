@@ -7,7 +7,7 @@ ghost use Rattle.std.specs.Prelude.{◌≡◌, ◌++◌, IfOk, OnOk};
 ghost use Rattle.text_model.specs.Spelled.{class_text, name_text};
 
 use crate::class_names::class_name;
-use crate::form::Form;
+use crate::paths::path_bytes;
 use crate::stream_names::stream_meaning;
 use cfb_names::name::Name;
 use file_outline::outline::{Outline, Part};
@@ -20,22 +20,8 @@ use uuid::Uuid;
 const COLUMNS: usize = 10;
 
 /// A row for the root and then one for each storage and stream, in the order of `list`: what it is, a stream's size, its
-/// path, and in brackets what its class id or its name tells.
-pub struct Long;
-
-impl Form for Long {
-    ghost use Rattle.file_outline.specs.View.{outline_view};
-    ghost use Rattle.listing_forms.specs.Long.{long_listed};
-
-    ghost told = { λ o. long_listed (outline_view o) };
-
-    fn text(alloc: Global, outline: &Outline) -> Result<Vec<u8>, AllocError> {
-        rows(alloc, outline)
-    }
-}
-
-/// All rows of an outline, below the heads of the columns.
-fn rows(alloc: Global, outline: &Outline) -> Result<Vec<u8>, AllocError>
+/// path, and in brackets what its class id or its name tells. They stand below the heads of the columns.
+pub(crate) fn rows(alloc: Global, outline: &Outline) -> Result<Vec<u8>, AllocError>
     ensures { IfOk result (λ text. text.items ≡ long_listed (outline_view outline.now)) }
 {
     let mut text = Vec::from_slice(alloc, b"kind         size  path\n".as_slice())?;
@@ -119,15 +105,6 @@ fn push_stream(
     Ok(())
 }
 
-/// The text of a name's path.
-fn row_path(alloc: Global, within: &[u8], name: &Name) -> Result<Vec<u8>, AllocError>
-    ensures { IfOk result (λ path. path.items ≡ within.now ++ name_text name.now) }
-{
-    let mut path = Vec::from_slice(alloc, within)?;
-    push_name(&mut path, name.as_bytes())?;
-    Ok(path)
-}
-
 /// Writes the rows of what stands below a storage.
 #[cycle(rowing)]
 fn push_below(
@@ -155,7 +132,7 @@ fn push_part(
 ) -> Result<(), AllocError>
     ensures { OnOk result (text.new.items ≡ text.old.items ++ child_rows within.now name.now (part_view part.now)) }
 {
-    let path = row_path(alloc, within, name)?;
+    let path = path_bytes(alloc, within, name)?;
     match part {
         Part::Stream(place) => push_stream(alloc, text, &path, name.as_bytes(), place.size),
         Part::Storage(inner) => push_inner(alloc, text, path, inner),

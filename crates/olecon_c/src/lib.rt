@@ -13,7 +13,7 @@ ghost use Rattle.std.specs.Prelude.{◌≡◌, length, ℕ};
 
 use fault_texts::telling::Form;
 use library_calls::{calls, checking, editing};
-use listing_forms::json_form::Json;
+use listing_forms::listing::Listing;
 use std::alloc::Global;
 
 /// The listing of a file in lines.
@@ -34,7 +34,7 @@ pub extern "C" fn olecon_list_json(
 ) -> u32
     ensures { Answers (IsListedAs (λ o. json_listed (placed_view o)) file.now) (IsRefusedList file.now) result out.old out.new needed.new }
 {
-    calls::list::<Json>(alloc, file, out, needed)
+    calls::list(alloc, Listing::Json, file, out, needed)
 }
 
 /// The bytes of the stream at a path of a file.

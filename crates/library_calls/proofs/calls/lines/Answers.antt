@@ -1,8 +1,12 @@
-use Rattle.std.proofs.Common.{◌∙◌, ap, inl}
-use Rattle.file_commands.specs.Listing.{listed}
+use Rattle.std.proofs.Common.{ℕ, List}
+use Rattle.listing_forms.specs.Listings.{told}
+use Rattle.listing_forms.specs.declared.listing.Listing.TheVariants.{Lines}
+use Rattle.library_calls.specs.Calls.{IsListed, IsListedAs, IsRefusedList}
+use Rattle.library_calls.proofs.Answered.{answers_of, in_lines}
 use Rattle.library_calls.proofs.calls.lines.Goals as goal
 
-pub returns-in-Ok-list_lines : goal.returns-in-Ok-list_lines
-returns-in-Ok-list_lines c =
-    let outlined = c.in-Ok.ensures.outlined in
-    inl (c.deref.result.now, (outlined.0, outlined.1, c.deref.ensures.value ∙ c.in-Ok-list_lines.ensures ∙ ap listed outlined.2), c.put.ensures.put, c.put.ensures.needed)
+pub returns : goal.returns
+returns c =
+    let file : List ℕ = c.args.file.now in
+    answers_of c.list.result c.args.out.now c.list.new.out c.list.new.needed (IsListedAs (told Lines) file) (IsListed file)
+    (IsRefusedList file) (IsRefusedList file) (in_lines file) (λ fault. fault) c.list.ensures

@@ -1,6 +1,0 @@
-//! Checking compound files.
-#![tactic(auto)]
-
-pub mod checking;
-pub mod many;
-mod seeking;

@@ -1,0 +1,4 @@
+pub mod Checked
+pub mod Gotten
+pub mod Input
+pub mod Mapped

@@ -1,2 +1,0 @@
-pub mod Mapped
-pub mod Gotten

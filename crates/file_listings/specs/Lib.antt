@@ -1,4 +1,0 @@
-pub mod Getting
-pub mod Gets
-pub mod Maps
-pub mod Reports
