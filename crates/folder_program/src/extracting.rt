@@ -2,15 +2,18 @@
 
 use crate::disk_folder::{DiskFolder, path_in};
 use crate::progress::Watched;
+use file_places::source::Sought;
 use folder_commands::chosen::TreePath;
-use folder_commands::extracting::extract_file;
+use folder_commands::extracting::extract_source;
 use folder_commands::fault::{ExtractFault, Stop};
+use folder_commands::folder::Folder;
 use program_ends::ends::{refuse, refuse_path};
-use program_ends::journals::tell_unfinished;
+use program_ends::sources::{is_sought, open};
 use std::alloc::AllocError;
-use std::fs::{self, File};
+use std::fs::File;
 use std::process::ExitCode;
 use std::rt::Runtime;
+use texts::input::{InputFault, read_all};
 use texts::path::Path;
 use texts::report::{Report, STANDARD};
 
@@ -28,18 +31,35 @@ pub fn extract<R: Runtime<File = File> + AllocGlobal>(
         Ok(paths) => paths,
         Err(code) => return code,
     };
-    let Ok(mut source) = fs::open(rt, path) else {
-        return refuse(rt, &Report::File(path, "Unreadable"));
+    let source = match open(rt, path) {
+        Ok(source) => source,
+        Err(code) => return code,
     };
-    if let Err(code) = tell_unfinished(rt, path) {
-        return code;
-    }
     let mut made = Watched::new(rt, DiskFolder::new(rt, folder, is_forced), is_watched);
-    let done = extract_file(rt.alloc(), &mut source, &paths, &mut made);
+    let done = extract_open(rt, source, &paths, &mut made);
     made.end();
     match done {
         Ok(count) => tell(rt, count, ExitCode::SUCCESS),
         Err(stop) => stopped(rt, path, folder, words, &stop),
+    }
+}
+
+/// Makes a folder of an open file. One that tells how long it is isn't held whole, and what doesn't, as a pipe, is read first.
+fn extract_open<R: Runtime + AllocGlobal, F: Folder>(
+    rt: &R,
+    mut source: R::File,
+    paths: &[TreePath],
+    folder: &mut F,
+) -> Result<usize, Stop> {
+    if is_sought(&source) {
+        return extract_source(rt.alloc(), &mut Sought::new(source), paths, folder);
+    }
+    match read_all(rt.alloc(), &mut source) {
+        Ok(bytes) => extract_source(rt.alloc(), &mut bytes.as_slice(), paths, folder),
+        Err(fault) => Err(Stop {
+            made: 0,
+            fault: ExtractFault::Input(fault),
+        }),
     }
 }
 
@@ -120,6 +140,11 @@ fn stopped<R: Runtime + AllocGlobal>(
             rt,
             stop.made,
             refuse_in(rt, folder, at.as_bytes(), fault.name()),
+        ),
+        ExtractFault::Cut => tell(
+            rt,
+            stop.made,
+            refuse(rt, &Report::File(path, InputFault::Unreadable.name())),
         ),
     }
 }

@@ -4,7 +4,7 @@ use crate::memory::Memory;
 use cfb_names::name::named;
 use file_making::making::make_file;
 use folder_commands::chosen::TreePath;
-use folder_commands::extracting::extract_file;
+use folder_commands::extracting::extract_source;
 use folder_commands::fault::ExtractFault;
 use folder_packing::packing::pack_found;
 use std::alloc::Global;
@@ -24,7 +24,7 @@ pub(crate) fn file_of(rt: &impl Abort, alloc: Global) -> Vec<u8> {
 fn extracted(rt: &impl Abort, alloc: Global, file: &[u8]) -> Memory {
     let mut folder = Memory::new(alloc, 10);
     let mut source = file;
-    let count = extract_file(alloc, &mut source, &[], &mut folder).ok();
+    let count = extract_source(alloc, &mut source, &[], &mut folder).ok();
     assert!(rt; count == Some(6), "six entries");
     folder
 }
@@ -46,7 +46,7 @@ fn packed(rt: &impl Abort, alloc: Global, folder: Memory) -> Vec<u8> {
 fn stops(alloc: Global, file: &[u8], room: usize, path: &[u8]) -> bool {
     let mut folder = Memory::new(alloc, room);
     let mut source = file;
-    match extract_file(alloc, &mut source, &[], &mut folder) {
+    match extract_source(alloc, &mut source, &[], &mut folder) {
         Ok(_) => false,
         Err(stop) => match &stop.fault {
             ExtractFault::Entry(at, _) => stop.made == room && at.as_bytes() == path,
@@ -84,7 +84,7 @@ fn chosen(rt: &impl Abort, alloc: Global, file: &[u8], name: &[u8]) -> Result<us
     let mut folder = Memory::new(alloc, 10);
     let mut source = file;
     let paths = [path_of(rt, alloc, name)];
-    match extract_file(alloc, &mut source, &paths, &mut folder) {
+    match extract_source(alloc, &mut source, &paths, &mut folder) {
         Ok(count) => Ok(count),
         Err(stop) => match &stop.fault {
             ExtractFault::Missing(number, _) => Err(*number),
