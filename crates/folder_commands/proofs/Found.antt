@@ -1,8 +1,8 @@
 -- What stands at paths, found among the parts of an outline.
-use Rattle.std.proofs.Common.{◌≡◌, ◌<◌, ◌+◌, ◌++◌, ◌∙◌, ◌∷◌, [], ℕ, List, Result, Ok, Err, Some, None, ap, get_or, length, subst, sym, take}
+use Rattle.std.proofs.Common.{◌≡◌, ◌<◌, ◌+◌, ◌++◌, ◌∙◌, ◌∷◌, [], ℕ, zero, suc, List, Result, Ok, Err, Some, None, ap, arith, get_or, length, refl, subst, sym, take}
 use Rattle.std.proofs.lemmas.List.{take_more}
 use Rattle.std.specs.List.{AllByRecursion}
-use Rattle.std.specs.Prelude.{IsOk}
+use Rattle.std.specs.Prelude.{IsOk, slice_get}
 use Rattle.cfb_names.specs.Names.{key}
 use Rattle.storage_tree.specs.Change.{Seen, inner, find, found, look, on_ok}
 use Rattle.storage_tree.specs.Tree.{Children, Tree, tree}
@@ -27,7 +27,7 @@ stands_none path name rest t class state cs p q h =
 
 -- ---- what is told of it
 pub is_there : (told : Result (Unit {0}) TreeFault) (r : Result Seen TreeFault) (u : Unit {0}) → told ≡ Ok u → told ≡ standing r → IsOk r
-is_there told (Ok s) u is same = tt
+is_there told (Ok s) u is same = refl
 is_there told (Err e) u is same = absurd (apart e u (sym same ∙ is))
   where
     apart : (e : TreeFault) (u : Unit {0}) → ◌≡◌ {A = Result (Unit {0}) TreeFault} (Err e) (Ok u) → ⊥
@@ -53,3 +53,9 @@ pub stand_next : (t : Tree) (paths : List (List (List ℕ))) (k : ℕ) (path : L
 stand_next t paths k path less here stands all =
     subst (λ ps. AllStand ps t) (sym (take_more paths k path less ∙ ap (λ x. take k paths ++ x ∷ []) here))
     (all_last (λ p. IsOk (look p (inner t))) (take k paths) path all stands)
+
+-- what stands at a place of a list
+pub at_place : (paths : List (List (List ℕ))) (n : ℕ) (path : List (List ℕ)) → n < length paths → get_or paths n path ≡ path → slice_get paths n ≡ Some path
+at_place [] n path less here = absurd (omega (arith, less))
+at_place (p ∷ ps) zero path less here = ap (λ (x : List (List ℕ)). Some x) here
+at_place (p ∷ ps) (suc n) path less here = at_place ps n path (omega (arith, less)) here

@@ -1,5 +1,5 @@
 -- What is made of what paths choose of an outline's parts, one after another.
-use Rattle.std.proofs.Common.{◌≡◌, ◌<◌, ◌+◌, ◌++◌, ◌∷◌, [], ◌∙◌, ℕ, List, OnOk, Result, arith, eqb, false, refl, sym, ap, subst, append_assoc, get_or, length, take, true}
+use Rattle.std.proofs.Common.{◌≡◌, ◌<◌, ◌+◌, ◌++◌, ◌∷◌, [], ◌∙◌, ℕ, Err, Global, IfOk, List, Ok, OnOk, Result, Vec, arith, eqb, false, refl, sym, ap, subst, append_assoc, get_or, length, take, true}
 use Rattle.std.proofs.lemmas.Bool.Decides.{nat_tests}
 use Rattle.std.proofs.lemmas.List.{append-nil, flat_map_more, take_more}
 use Rattle.std.specs.List.{flat_map}
@@ -12,6 +12,8 @@ use Rattle.file_outline.specs.declared.outline.Outline.{Outline}
 use Rattle.file_outline.specs.declared.outline.Part.{Part}
 use Rattle.file_outline.specs.declared.outline.Place.{Place}
 use Rattle.file_outline.proofs.Outlines.{shown-out}
+use Rattle.folder_commands.specs.Planned.{entries_of}
+use Rattle.folder_commands.specs.declared.planning.Planned.{Planned}
 use Rattle.folder_commands.specs.Chosen.{asked, chosen, chosen_of, chosen_plan, left_of, one, picked_plan, step, where_any}
 
 pub where_none : {A : Type 0} (paths : List (List (List ℕ))) (a b : A) → eqb (length paths) 0 ≡ true → b ≡ where_any paths a b
@@ -33,7 +35,7 @@ one_more path paths k n (inner t) cs =
 
 -- a part of which nothing is made, and one of which all that is left is
 pub none_added : (path : List ℕ) (left : List (List (List ℕ))) (c : List ℕ × Seen) (before : List Entry) → eqb (length left) 0 ≡ true → before ≡ before ++ chosen_plan path left c
-none_added path left c before none = sym (append-nil before) ∙ ap (λ es. before ++ es) (where_none left (picked_plan path left c) [] none)
+none_added path left c before empty = sym (append-nil before) ∙ ap (λ es. before ++ es) (where_none left (picked_plan path left c) [] empty)
 
 pub picked_added : (path : List ℕ) (left : List (List (List ℕ))) (c : List ℕ × Seen) (before after : List Entry) → eqb (length left) 0 ≡ false
     → after ≡ before ++ picked_plan path left c → after ≡ before ++ chosen_plan path left c
@@ -57,8 +59,8 @@ module _ (content : Place → List ℕ) (path : List ℕ) (paths : List (List (L
   pub storage_added : (copy : List ℕ) (o : Outline) (items rest : List (List ℕ × Part)) (before first after : List Entry) → copy ≡ path
       → first ≡ before ++ folder copy o.class o.state ∷ [] → items ≡ o.parts.items → rest ≡ [] → after ++ made_of rest ≡ first ++ made_of items
       → after ≡ before ++ folder_plan path (chosen paths (shown content o))
-  storage_added copy o items rest before first after same made are none below =
-      sym (append-nil after) ∙ ap (λ xs. after ++ made_of xs) (sym none) ∙ below
+  storage_added copy o items rest before first after same made are done below =
+      sym (append-nil after) ∙ ap (λ xs. after ++ made_of xs) (sym done) ∙ below
       ∙ ap (λ t. t ++ made_of items) (made ∙ ap (λ p. before ++ folder p o.class o.state ∷ []) same)
       ∙ append_assoc before (folder path o.class o.state ∷ []) (made_of items)
       ∙ ap (λ xs. before ++ (folder path o.class o.state ∷ made_of xs)) are
@@ -89,8 +91,12 @@ mutual
   each_chosen (stream k n b cs) = ap (stream k n b) (each_chosen cs)
   each_chosen (storage k n t cs) = λ i. storage k n (all_chosen t i) (each_chosen cs i)
 
-pub all_asked : (paths : List (List (List ℕ))) (t : Tree) → eqb (length paths) 0 ≡ true → chosen ([] ∷ []) t ≡ asked paths t
-all_asked paths t none = all_chosen t ∙ where_none paths (chosen paths t) t none
+all_asked : (paths : List (List (List ℕ))) (t : Tree) → eqb (length paths) 0 ≡ true → chosen ([] ∷ []) t ≡ asked paths t
+all_asked paths t empty = all_chosen t ∙ where_none paths (chosen paths t) t empty
 
-pub some_asked : (paths : List (List (List ℕ))) (t : Tree) → eqb (length paths) 0 ≡ false → chosen paths t ≡ asked paths t
-some_asked paths t some = where_some paths (chosen paths t) t some
+pub planned_all : {E : Type 0} (paths : List (List (List ℕ))) (o : Outline) (told : Result (Vec Planned Global) E) (all : List (List ℕ)) → eqb (length paths) 0 ≡ true → all ≡ []
+    → IfOk told (λ planned. (content : Place → List ℕ) → entries_of content planned.items ≡ plan (chosen (all ∷ []) (shown content o)))
+    → IfOk told (λ planned. (content : Place → List ℕ) → entries_of content planned.items ≡ plan (asked paths (shown content o)))
+planned_all paths o (Ok planned) all empty root h =
+    λ content. h content ∙ ap plan (ap (λ path. chosen (path ∷ []) (shown content o)) root ∙ all_asked paths (shown content o) empty)
+planned_all paths o (Err e) all empty root h = h

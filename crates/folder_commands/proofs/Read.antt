@@ -31,11 +31,13 @@ module _ (a : List ℕ) (tables : Tables) (place : Place) where
       ap (λ b. length (by_test b)) test ∙ length-take place.size bytes ∙ ap (min place.size) (minis_long (mini_bytes a tables) tables.mini_fat.items place) ∙ omega arith
 
   -- what was sent without the zeros behind it
-  pub short_read : (sent waiting slice whole read : List ℕ) → place.size < CUTOFF → Sends (Some []) (Some sent) [] waiting (padded 64 (read_by a tables place))
+  pub short_read : (old waited sent waiting slice whole read : List ℕ) → old ≡ [] → waited ≡ [] → place.size < CUTOFF
+      → Sends (Some old) (Some sent) waited waiting (padded 64 (read_by a tables place))
       → slice ≡ waiting → Appends (Some sent) (Some whole) slice → read ≡ take place.size whole → read ≡ read_by a tables place
-  short_read sent waiting slice whole read short sends same finished cut =
+  short_read old waited sent waiting slice whole read empty none short sends same finished cut =
       let all : whole ≡ padded 64 (read_by a tables place) =
-      finished ∙ ap (λ xs. sent ++ xs) same ∙ ap (λ xs. xs ++ waiting) sends.written ∙ sends.all in
+      finished ∙ ap (λ xs. sent ++ xs) same ∙ ap (λ xs. xs ++ waiting) (sends.written ∙ ap (λ xs. xs ++ sends.gone) empty)
+      ∙ sends.all ∙ ap (λ xs. xs ++ padded 64 (read_by a tables place)) none in
       cut ∙ ap (take place.size) all ∙ front (read_by a tables place) _ place.size (short_long short)
 
   -- what lies where a long one does

@@ -81,6 +81,16 @@ unplanned paths None opened old new fault is why = tt
 unplanned paths (Some file) opened old new fault is why =
     unplanned_at paths file (told file opened) old new fault (denoted file opened is) (why (content file opened))
 
+pub no_memory : (paths : List (List (List ℕ))) (known : Option (List ℕ)) (opened : Opened) (old new : Option (List Entry))
+    → IfSome known (λ file. IsOpened file opened) → IfSome known (λ file. MayStop paths file old new 0 NoMemory)
+no_memory paths None opened old new is = tt
+no_memory paths (Some file) opened old new is = (told file opened, denoted file opened is)
+
+pub as_told : (paths : List (List (List ℕ))) (known : Option (List ℕ)) (old new : Option (List Entry)) (made count : ℕ) (fault same : ExtractFault) → made ≡ count → fault ≡ same
+    → IfSome known (λ file. MayStop paths file old new count same) → IfSome known (λ file. MayStop paths file old new made fault)
+as_told paths known old new made count fault same counts is h =
+    subst (λ n. IfSome known (λ file. MayStop paths file old new n fault)) (sym counts) (subst (λ f. IfSome known (λ file. MayStop paths file old new count f)) (sym is) h)
+
 -- ---- all of it was made
 pub extracts : (paths : List (List (List ℕ))) (known : Option (List ℕ)) (opened : Opened) (planned slice : List Planned) (old new : Option (List Entry)) (count : ℕ)
     → IfSome known (λ file. IsOpened file opened) → ((content : Place → List ℕ) → AllStand paths (shown content opened.outline))

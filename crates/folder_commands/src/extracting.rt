@@ -49,14 +49,7 @@ pub fn extract_source<S: Source, F: Folder>(
         Ok(window) => window,
         Err(_) => return Err(unmade(ExtractFault::NoMemory)),
     };
-    match make_all(
-        alloc,
-        source,
-        &opened.tables,
-        &mut window,
-        &planned,
-        folder,
-    ) {
+    match make_all(alloc, source, &opened.tables, &mut window, &planned, folder) {
         Ok(()) => Ok(planned.len()),
         Err((made, fault)) => Err(Stop {
             made,

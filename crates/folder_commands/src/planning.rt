@@ -79,13 +79,7 @@ fn plan_chosen(
     ensures { IfOk result (λ planned. (content : place.Place → List ℕ) → entries_of content planned.items ≡ plan (chosen paths.now (shown content outline.now))) }
 {
     let mut planned = Vec::new(alloc);
-    push_storage(
-        alloc,
-        &mut planned,
-        &FolderPath::top(alloc),
-        outline,
-        paths,
-    )?;
+    push_storage(alloc, &mut planned, &FolderPath::top(alloc), outline, paths)?;
     Ok(planned)
 }
 
@@ -145,11 +139,7 @@ fn push_picked(
 }
 
 /// Adds what is to be made at a path.
-fn push_planned(
-    planned: &mut Vec<Planned>,
-    path: FolderPath,
-    what: What,
-) -> Result<(), AllocError>
+fn push_planned(planned: &mut Vec<Planned>, path: FolderPath, what: What) -> Result<(), AllocError>
     ensures { OnOk result ((content : place.Place → List ℕ) → entries_of content planned.new.items ≡ entries_of content planned.old.items ++ entry_at content path what ∷ []) }
 {
     planned.push(Planned { path, what })?;

@@ -46,8 +46,9 @@ fn read_short<S: Source>(
         place,
     )?;
     // What was sent ends with zeros up to whole mini sectors.
-    if finish(&mut bytes, &waiting).is_err() {
-        return Err(CopyFault::NoMemory);
+    match finish(&mut bytes, &waiting) {
+        Ok(()) => {}
+        Err(_) => return Err(CopyFault::NoMemory),
     }
     bytes.truncate(place.size as usize);
     Ok(bytes)
