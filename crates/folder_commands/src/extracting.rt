@@ -18,23 +18,25 @@ use file_places::source::Source;
 use std::alloc::Global;
 use stream_moving::window::Window;
 
-/// Makes a folder of what paths ask for of the tree that a compound file holds: a folder for each storage, and a file for each
-/// stream, under their names as a folder can hold them. Asked for is what is on or below one of the paths; without a path, all. Gives
-/// how many were made, the folder itself among them. Of the file what tells of the tree is read first; each stream is copied from where
-/// it lies, a piece of at most 65,536 bytes at a time.
+/// Makes a folder of what paths ask for of the tree that a compound file holds: a folder for each storage, and a file
+/// for each stream, under their names as a folder can hold them. Asked for is what is on or below one of the paths;
+/// without a path, all. Gives how many were made, the folder itself among them. Of the file what tells of the tree is
+/// read first; each stream is copied from where it lies, a piece of at most 65,536 bytes at a time.
 ///
-/// Refused: a file that isn't read, has more than 134,217,728 bytes or denotes no tree, and the first path at which nothing stands,
-/// where nothing is made; the first folder or file that can't be made, or `Cut` where the file isn't read further for it: then those
-/// before it, in the order in which the tree is listed, were made.
+/// Refused: a file that isn't read, has more than 134,217,728 bytes or denotes no tree, and the first path at which
+/// nothing stands, where nothing is made; the first folder or file that can't be made, or `Cut` where the file isn't
+/// read further for it: then those before it, in the order in which the tree is listed, were made.
 pub fn extract_source<S: Source, F: Folder>(
     alloc: Global,
     source: &mut S,
     paths: &[TreePath],
     folder: &mut F,
 ) -> Result<usize, Stop>
-    ensures extracted { IfOk result (λ count. IfSome (S.bytes source.old) (λ file. Extracts paths.now file (F.made folder.old) (F.made folder.new) count)) }
+    ensures extracted { IfOk result (λ count. IfSome (S.bytes source.old) (λ file. Extracts paths.now file
+        (F.made folder.old) (F.made folder.new) count)) }
     ensures few { OnOk result (IfSome (S.bytes source.old) (λ file. length file ≤ most)) }
-    ensures stopped { IfErr result (λ stop. IfSome (S.bytes source.old) (λ file. MayStop paths.now file (F.made folder.old) (F.made folder.new) stop.made stop.fault)) }
+    ensures stopped { IfErr result (λ stop. IfSome (S.bytes source.old) (λ file. MayStop paths.now file
+        (F.made folder.old) (F.made folder.new) stop.made stop.fault)) }
     ensures unmade { IfErr result (λ stop. IsLate stop.fault ⊎ ((stop.made ≡ 0) × (folder.new ≡ folder.old))) }
 {
     let opened = match open(alloc, source) {

@@ -14,8 +14,11 @@ use storage_tree::fault::TreeFault;
 
 /// The part of a name.
 fn part_of<'o>(outline: &'o Outline, name: &Name) -> Option<&'o Part>
-    ensures found { IfSome result (λ part. (content : place.Place → List ℕ) → (spelled : List ℕ) × (find (key name.now) (shown_parts content outline.now.parts.items) ≡ Some (spelled, shown_part content part.now))) }
-    ensures none { IfNone result ((content : place.Place → List ℕ) → find (key name.now) (shown_parts content outline.now.parts.items) ≡ None) }
+    ensures found { IfSome result (λ part. (content : place.Place → List ℕ)
+        → (spelled : List ℕ) × (find (key name.now) (shown_parts content outline.now.parts.items)
+        ≡ Some (spelled, shown_part content part.now))) }
+    ensures none { IfNone result ((content : place.Place → List ℕ)
+        → find (key name.now) (shown_parts content outline.now.parts.items) ≡ None) }
 {
     let wanted = key(name);
     for part in &outline.parts {
@@ -63,7 +66,8 @@ fn find_in(part: &Part, path: &[Name]) -> Result<(), TreeFault>
 /// Refused: the first path at which nothing stands, by its number and as `find_at` refuses it.
 pub(crate) fn find_all(outline: &Outline, paths: &[TreePath]) -> Result<(), (usize, TreeFault)>
     ensures found { OnOk result ((content : place.Place → List ℕ) → AllStand paths.now (shown content outline.now)) }
-    ensures missing { IfErr result (λ refused. (content : place.Place → List ℕ) → IsMissing paths.now (shown content outline.now) refused.0 refused.1) }
+    ensures missing { IfErr result (λ refused. (content : place.Place → List ℕ)
+        → IsMissing paths.now (shown content outline.now) refused.0 refused.1) }
 {
     for (number, path) in paths.iter().enumerate() {
         match find_at(outline, path.names()) {

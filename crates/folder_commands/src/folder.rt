@@ -52,7 +52,8 @@ pub trait Folder {
 
     /// Makes a folder for a storage of this class id and these state bits. The one that it stands in is there.
     ///
-    /// Refused: `Exists` where something stands there; `Unwritable`; `NoMemory`. What is known to be made stays as it was then.
+    /// Refused: `Exists` where something stands there; `Unwritable`; `NoMemory`. What is known to be made stays as it
+    /// was then.
     fn make_folder(
         &mut self,
         path: &FolderPath,
@@ -62,8 +63,8 @@ pub trait Folder {
         ensures made { OnOk result (Adds (made self.old) (made self.new) (folder path.now class.now state ∷ [])) }
         ensures unmade { OnErr result (made self.new ≡ made self.old) };
 
-    /// Makes a file of the bytes of a stream, which are copied from a source that has so many bytes. The folder that it stands in
-    /// is there.
+    /// Makes a file of the bytes of a stream, which are copied from a source that has so many bytes. The folder that it
+    /// stands in is there.
     ///
     /// Refused: likewise, and `Unreadable` where the source isn't read. A file that isn't whole doesn't stay.
     fn make_file<S: Source>(
@@ -73,7 +74,8 @@ pub trait Folder {
         len: usize,
         stream: &Stream,
     ) -> Result<(), FolderFault>
-        ensures made { OnOk result (IfSome (S.bytes source.old) (λ a. length a ≡ len → Adds (made self.old) (made self.new) (file path.now (bytes_in a stream.now) ∷ []))) }
+        ensures made { OnOk result (IfSome (S.bytes source.old) (λ a. length a ≡ len
+            → Adds (made self.old) (made self.new) (file path.now (bytes_in a stream.now) ∷ []))) }
         ensures unmade { OnErr result (made self.new ≡ made self.old) }
         ensures kept { S.bytes source.new ≡ S.bytes source.old };
 }

@@ -38,8 +38,10 @@ fn make_stream<S: Source, F: Folder>(
     folder: &mut F,
 ) -> Result<(), FolderFault>
     requires whole { (m : ℕ) × (length tables.now.mini_fat.items ≡ 4 * m) }
-    ensures made { OnOk result ((a : List ℕ) → S.bytes source.old ≡ Some a → length a ≡ tables.now.len → IsWindow a tables.now window.old
-        → Adds (F.made folder.old) (F.made folder.new) (file path.now (read_by a tables.now place) ∷ []) × IsWindow a tables.now window.new) }
+    ensures made { OnOk result ((a : List ℕ) → S.bytes source.old ≡ Some a → length a ≡ tables.now.len
+        → IsWindow a tables.now window.old
+        → Adds (F.made folder.old) (F.made folder.new) (file path.now (read_by a tables.now place) ∷ [])
+        × IsWindow a tables.now window.new) }
     ensures unmade { OnErr result (F.made folder.new ≡ F.made folder.old) }
     ensures kept { S.bytes source.new ≡ S.bytes source.old }
 {
@@ -60,8 +62,10 @@ fn make_entry<S: Source, F: Folder>(
     folder: &mut F,
 ) -> Result<(), FolderFault>
     requires whole { (m : ℕ) × (length tables.now.mini_fat.items ≡ 4 * m) }
-    ensures made { OnOk result ((a : List ℕ) → S.bytes source.old ≡ Some a → length a ≡ tables.now.len → IsWindow a tables.now window.old
-        → Adds (F.made folder.old) (F.made folder.new) (entry_at (read_by a tables.now) planned.now.path planned.now.what ∷ []) × IsWindow a tables.now window.new) }
+    ensures made { OnOk result ((a : List ℕ) → S.bytes source.old ≡ Some a → length a ≡ tables.now.len
+        → IsWindow a tables.now window.old
+        → Adds (F.made folder.old) (F.made folder.new)
+        (entry_at (read_by a tables.now) planned.now.path planned.now.what ∷ []) × IsWindow a tables.now window.new) }
     ensures unmade { OnErr result (F.made folder.new ≡ F.made folder.old) }
     ensures kept { S.bytes source.new ≡ S.bytes source.old }
 {
@@ -79,7 +83,8 @@ fn make_entry<S: Source, F: Folder>(
     }
 }
 
-/// Makes all that is planned, in turn. Of the mini stream a window is held, which moves on as streams ask for what it hasn't.
+/// Makes all that is planned, in turn. Of the mini stream a window is held, which moves on as streams ask for what it
+/// hasn't.
 ///
 /// Refused: the first entry that isn't made, with how many were made before it.
 pub(crate) fn make_all<S: Source, F: Folder>(
@@ -91,9 +96,11 @@ pub(crate) fn make_all<S: Source, F: Folder>(
     folder: &mut F,
 ) -> Result<(), (usize, FolderFault)>
     requires whole { (m : ℕ) × (length tables.now.mini_fat.items ≡ 4 * m) }
-    ensures all { OnOk result ((a : List ℕ) → S.bytes source.old ≡ Some a → length a ≡ tables.now.len → IsWindow a tables.now window.old
+    ensures all { OnOk result ((a : List ℕ) → S.bytes source.old ≡ Some a → length a ≡ tables.now.len
+        → IsWindow a tables.now window.old
         → Adds (F.made folder.old) (F.made folder.new) (entries_of (read_by a tables.now) planned.now)) }
-    ensures some { IfErr result (λ stop. (stop.0 < length planned.now) × ((a : List ℕ) → S.bytes source.old ≡ Some a → length a ≡ tables.now.len → IsWindow a tables.now window.old
+    ensures some { IfErr result (λ stop. (stop.0 < length planned.now) × ((a : List ℕ) → S.bytes source.old ≡ Some a
+        → length a ≡ tables.now.len → IsWindow a tables.now window.old
         → Adds (F.made folder.old) (F.made folder.new) (take stop.0 (entries_of (read_by a tables.now) planned.now)))) }
 {
     for (count, next) in planned.iter().enumerate() {

@@ -33,8 +33,9 @@ pub(crate) enum What {
     Stream(Place),
 }
 
-/// What is to be made of what paths ask for of an outline: the folder itself, and a folder for each storage and a file for each
-/// stream that is on or below one of them, in the order in which they are listed, so each behind the folder that it stands in.
+/// What is to be made of what paths ask for of an outline: the folder itself, and a folder for each storage and a file
+/// for each stream that is on or below one of them, in the order in which they are listed, so each behind the folder
+/// that it stands in.
 ///
 /// Refused: `Missing` for the first path at which nothing stands; `NoMemory`.
 pub(crate) fn plan_asked(
@@ -42,9 +43,11 @@ pub(crate) fn plan_asked(
     outline: &Outline,
     paths: &[TreePath],
 ) -> Result<Vec<Planned>, ExtractFault>
-    ensures planned { IfOk result (λ planned. (content : place.Place → List ℕ) → entries_of content planned.items ≡ plan (asked paths.now (shown content outline.now))) }
+    ensures planned { IfOk result (λ planned. (content : place.Place → List ℕ)
+        → entries_of content planned.items ≡ plan (asked paths.now (shown content outline.now))) }
     ensures there { OnOk result ((content : place.Place → List ℕ) → AllStand paths.now (shown content outline.now)) }
-    ensures refused { IfErr result (λ fault. (content : place.Place → List ℕ) → MayRefusePlan paths.now (shown content outline.now) fault) }
+    ensures refused { IfErr result (λ fault. (content : place.Place → List ℕ)
+        → MayRefusePlan paths.now (shown content outline.now) fault) }
 {
     match find_all(outline, paths) {
         Ok(()) => {}
@@ -62,7 +65,8 @@ fn plan_any(
     outline: &Outline,
     paths: &[TreePath],
 ) -> Result<Vec<Planned>, AllocError>
-    ensures { IfOk result (λ planned. (content : place.Place → List ℕ) → entries_of content planned.items ≡ plan (asked paths.now (shown content outline.now))) }
+    ensures { IfOk result (λ planned. (content : place.Place → List ℕ)
+        → entries_of content planned.items ≡ plan (asked paths.now (shown content outline.now))) }
 {
     if paths.is_empty() {
         return plan_chosen(alloc, outline, &[TreePath::new(alloc, &[])?]);
@@ -76,7 +80,8 @@ fn plan_chosen(
     outline: &Outline,
     paths: &[TreePath],
 ) -> Result<Vec<Planned>, AllocError>
-    ensures { IfOk result (λ planned. (content : place.Place → List ℕ) → entries_of content planned.items ≡ plan (chosen paths.now (shown content outline.now))) }
+    ensures { IfOk result (λ planned. (content : place.Place → List ℕ)
+        → entries_of content planned.items ≡ plan (chosen paths.now (shown content outline.now))) }
 {
     let mut planned = Vec::new(alloc);
     push_storage(alloc, &mut planned, &FolderPath::top(alloc), outline, paths)?;
@@ -92,7 +97,9 @@ fn push_storage(
     outline: &Outline,
     paths: &[TreePath],
 ) -> Result<(), AllocError>
-    ensures { OnOk result ((content : place.Place → List ℕ) → entries_of content planned.new.items ≡ entries_of content planned.old.items ++ folder_plan path.now (chosen paths.now (shown content outline.now))) }
+    ensures { OnOk result ((content : place.Place → List ℕ)
+        → entries_of content planned.new.items
+        ≡ entries_of content planned.old.items ++ folder_plan path.now (chosen paths.now (shown content outline.now))) }
 {
     let top = What::Storage(outline.class, outline.state);
     push_planned(planned, path.copy(alloc)?, top)?;
@@ -112,7 +119,10 @@ fn push_part(
     part: &(Name, Part),
     left: &[TreePath],
 ) -> Result<(), AllocError>
-    ensures { OnOk result ((content : place.Place → List ℕ) → entries_of content planned.new.items ≡ entries_of content planned.old.items ++ chosen_plan within.now left.now (part.now.0, shown_part content part.now.1)) }
+    ensures { OnOk result ((content : place.Place → List ℕ)
+        → entries_of content planned.new.items
+        ≡ entries_of content planned.old.items
+        ++ chosen_plan within.now left.now (part.now.0, shown_part content part.now.1)) }
 {
     if left.is_empty() {
         return Ok(());
@@ -129,7 +139,10 @@ fn push_picked(
     part: &(Name, Part),
     left: &[TreePath],
 ) -> Result<(), AllocError>
-    ensures { OnOk result ((content : place.Place → List ℕ) → entries_of content planned.new.items ≡ entries_of content planned.old.items ++ picked_plan within.now left.now (part.now.0, shown_part content part.now.1)) }
+    ensures { OnOk result ((content : place.Place → List ℕ)
+        → entries_of content planned.new.items
+        ≡ entries_of content planned.old.items
+        ++ picked_plan within.now left.now (part.now.0, shown_part content part.now.1)) }
 {
     let path = within.join(alloc, &part.0)?;
     match &part.1 {
@@ -140,7 +153,9 @@ fn push_picked(
 
 /// Adds what is to be made at a path.
 fn push_planned(planned: &mut Vec<Planned>, path: FolderPath, what: What) -> Result<(), AllocError>
-    ensures { OnOk result ((content : place.Place → List ℕ) → entries_of content planned.new.items ≡ entries_of content planned.old.items ++ entry_at content path what ∷ []) }
+    ensures { OnOk result ((content : place.Place → List ℕ)
+        → entries_of content planned.new.items
+        ≡ entries_of content planned.old.items ++ entry_at content path what ∷ []) }
 {
     planned.push(Planned { path, what })?;
     Ok(())

@@ -30,7 +30,8 @@ fn read_short<S: Source>(
 ) -> Result<Vec<u8>, CopyFault>
     requires whole { (m : ℕ) × (length tables.now.mini_fat.items ≡ 4 * m) }
     requires short { place.size < CUTOFF }
-    ensures read { IfOk result (λ bytes. IfSome (S.bytes source.old) (λ a. length a ≡ tables.now.len → IsWindow a tables.now window.old
+    ensures read { IfOk result (λ bytes. IfSome (S.bytes source.old) (λ a. length a ≡ tables.now.len
+        → IsWindow a tables.now window.old
         → (bytes.items ≡ read_by a tables.now place) × IsWindow a tables.now window.new)) }
     ensures kept { S.bytes source.new ≡ S.bytes source.old }
 {
@@ -80,7 +81,8 @@ pub(crate) fn seek<S: Source>(
     place: Place,
 ) -> Result<Stream, CopyFault>
     requires whole { (m : ℕ) × (length tables.now.mini_fat.items ≡ 4 * m) }
-    ensures sought { IfOk result (λ stream. IfSome (S.bytes source.old) (λ a. length a ≡ tables.now.len → IsWindow a tables.now window.old
+    ensures sought { IfOk result (λ stream. IfSome (S.bytes source.old) (λ a. length a ≡ tables.now.len
+        → IsWindow a tables.now window.old
         → (bytes_in a stream ≡ read_by a tables.now place) × IsWindow a tables.now window.new)) }
     ensures kept { S.bytes source.new ≡ S.bytes source.old }
 {

@@ -23,7 +23,8 @@ pub enum Stream {
 
 /// Copies the bytes of a stream, of a file of so many bytes, a piece of at most 65,536 at a time.
 ///
-/// Refused: `Unreadable` where a read fails, `Unwritable` where a write does, `NoMemory`. Some of the bytes may be written then.
+/// Refused: `Unreadable` where a read fails, `Unwritable` where a write does, `NoMemory`. Some of the bytes may be
+/// written then.
 pub fn copy_stream<S: Source, W: Write>(
     alloc: Global,
     source: &mut S,
@@ -31,7 +32,8 @@ pub fn copy_stream<S: Source, W: Write>(
     stream: &Stream,
     writer: &mut W,
 ) -> Result<(), CopyFault>
-    ensures written { OnOk result (IfSome (S.bytes source.old) (λ a. length a ≡ len → Appends (W.contents writer.old) (W.contents writer.new) (bytes_in a stream.now))) }
+    ensures written { OnOk result (IfSome (S.bytes source.old) (λ a. length a ≡ len
+        → Appends (W.contents writer.old) (W.contents writer.new) (bytes_in a stream.now))) }
     ensures kept { S.bytes source.new ≡ S.bytes source.old }
 {
     match stream {
