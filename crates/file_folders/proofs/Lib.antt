@@ -1,5 +1,4 @@
 pub mod Bytes
 pub mod Components
 pub mod Folded
-pub mod Planned
-pub mod Adding
+pub mod Results

@@ -3,8 +3,13 @@ use Rattle.std.specs.Prelude.{◌++◌, ℕ, List, [], ◌∷◌}
 use Rattle.storage_tree.specs.Tree.{Tree, Children, tree, none, stream, storage}
 use Rattle.storage_tree.specs.Change.{Seen, bytes, inner}
 use Rattle.file_folders.specs.Paths.{joined}
-use Rattle.file_folders.specs.declared.plan.Entry.{Entry}
+use Rattle.file_folders.specs.declared.plan.Content.{Content}
 use Rattle.file_folders.specs.declared.plan.Content.TheVariants.{Folder, File}
+
+-- what stands at a path of a folder
+pub record Entry : Type 0 where
+  pub path : List ℕ
+  pub content : Content
 
 abbrev pub folder : List ℕ → List ℕ → ℕ → Entry
 folder path class state = record { path = path; content = Folder class state }

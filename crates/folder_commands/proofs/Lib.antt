@@ -1,2 +1,5 @@
+pub mod Adding
+pub mod Found
 pub mod Picked
+pub mod Read
 pub mod Stopped

@@ -1,13 +1,12 @@
 -- What is chosen of a tree by paths.
-use Rattle.std.specs.Prelude.{◌≡◌, ℕ, List, [], ◌∷◌, Option, Some, None, Err, IsOk, cond, slice_get}
+use Rattle.std.specs.Prelude.{◌≡◌, ℕ, List, [], ◌∷◌, Option, Some, None, Result, Ok, Err, IsOk, cond, slice_get}
 use Rattle.std.specs.List.{AllByRecursion, flat_map}
 use Rattle.cfb_names.specs.Names.{key, key_eq}
 use Rattle.storage_tree.specs.Tree.{Tree, Children, tree, none, stream, storage}
 use Rattle.storage_tree.specs.Change.{Seen, bytes, inner, look}
 use Rattle.storage_tree.specs.declared.fault.TreeFault.{TreeFault}
 use Rattle.file_folders.specs.Paths.{joined}
-use Rattle.file_folders.specs.Plan.{file, folder_plan}
-use Rattle.file_folders.specs.declared.plan.Entry.{Entry}
+use Rattle.file_folders.specs.Plan.{Entry, file, folder_plan}
 
 -- What is left of a path below the child under a key: nothing where the child isn't on it; of one that ended above the child,
 -- which stands below it then, the empty path.
@@ -41,6 +40,11 @@ abbrev mutual
 -- what is asked for of a tree: all of it where no path is given
 abbrev pub asked : List (List (List ℕ)) → Tree → Tree
 asked paths t = where_any paths (chosen paths t) t
+
+-- whether something stands at a path, given what does
+abbrev pub standing : Result Seen TreeFault → Result (Unit {0}) TreeFault
+standing (Ok s) = Ok tt
+standing (Err fault) = Err fault
 
 -- something stands at each of the paths
 abbrev pub AllStand : List (List (List ℕ)) → Tree → Type 0

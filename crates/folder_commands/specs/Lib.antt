@@ -1,2 +1,5 @@
 pub mod Chosen
+pub mod Streams
+pub mod Made
+pub mod Planned
 pub mod Extracting

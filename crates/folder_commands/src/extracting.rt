@@ -1,109 +1,99 @@
 //! Making a folder of a compound file.
 
-ghost use Rattle.file_folders.specs.declared.plan.Entry.{Entry};
-ghost use Rattle.file_folders.specs.Plan.{plan};
-ghost use Rattle.folder_commands.specs.Chosen.{AllStand, asked};
-ghost use Rattle.folder_commands.specs.Extracting.{Extracts, IsInFolder, MayRefusePlan, MayStop};
-ghost use Rattle.std.specs.Prelude.{Some, ◌<◌, ◌≡◌, ◌⊎◌, IfErr, IfOk, IfSome, OnOk, slice_get, ◌≤◌, length};
-ghost use Rattle.texts.specs.Input.{most};
-ghost use Rattle.storage_tree.specs.Kept.{kept};
+ghost use Rattle.folder_commands.specs.Extracting.{Extracts, IsLate, MayStop, of_folder_fault, of_source_fault};
+ghost use Rattle.folder_commands.specs.declared.planning.Planned.{Planned};
+ghost use Rattle.std.specs.Prelude.{Some, ◌<◌, ◌≡◌, ◌≤◌, ◌⊎◌, IfErr, IfOk, IfSome, OnOk, length, slice_get};
 ghost use Rattle.std.specs.Vec.{vec_len};
+ghost use Rattle.texts.specs.Input.{most};
 
-use crate::chosen::{TreePath, find_all, plan_chosen};
+use crate::chosen::TreePath;
 use crate::fault::{ExtractFault, Stop};
-use file_folders::folder::{Folder, make_all};
+use crate::folder::{Folder, FolderFault};
+use crate::making::make_all;
+use crate::planning::{Planned, plan_asked};
 use file_folders::path::FolderPath;
-use file_folders::plan::{Entry, plan};
-use std::alloc::{AllocError, Global};
-use std::io::Read;
-use storage_tree::tree::Tree;
-use stream_io::read::read_file;
-use texts::input::read_all;
+use file_moving::fault::SourceFault;
+use file_moving::reading::open;
+use file_places::source::Source;
+use std::alloc::Global;
+use stream_moving::window::Window;
 
-/// Makes a folder of what paths ask for of the tree that a compound file holds: a folder for each storage, and a file for each
-/// stream, under their names as a folder can hold them. Asked for is what is on or below one of the paths; without a path, all. Gives
-/// how many were made, the folder itself among them.
+/// Makes a folder of what paths ask for of the tree that a compound file holds: a folder for each storage, and a file
+/// for each stream, under their names as a folder can hold them. Asked for is what is on or below one of the paths;
+/// without a path, all. Gives how many were made, the folder itself among them. Of the file what tells of the tree is
+/// read first; each stream is copied from where it lies, a piece of at most 65,536 bytes at a time.
 ///
-/// Refused: a file that isn't read, has more than 134,217,728 bytes or denotes no tree, and the first path at which nothing stands,
-/// where nothing is made; the first folder or file that can't be made, where those before it, in the order in which the tree is
-/// listed, were.
-pub fn extract_file<R: Read, F: Folder>(
+/// Refused: a file that isn't read, has more than 134,217,728 bytes or denotes no tree, and the first path at which
+/// nothing stands, where nothing is made; the first folder or file that can't be made, or `Cut` where the file isn't
+/// read further for it: then those before it, in the order in which the tree is listed, were made.
+pub fn extract_file<S: Source, F: Folder>(
     alloc: Global,
-    reader: &mut R,
+    source: &mut S,
     paths: &[TreePath],
     folder: &mut F,
 ) -> Result<usize, Stop>
-    ensures extracted { IfOk result (λ count. IfSome (R.remaining reader.old) (λ file. Extracts paths.now file (F.made folder.old) (F.made folder.new) count)) }
-    ensures few { OnOk result (IfSome (R.remaining reader.old) (λ file. length file ≤ most)) }
-    ensures stopped { IfErr result (λ stop. IfSome (R.remaining reader.old) (λ file. MayStop paths.now file (F.made folder.old) (F.made folder.new) stop.made stop.fault)) }
-    ensures unmade { IfErr result (λ stop. IsInFolder stop.fault ⊎ ((stop.made ≡ 0) × (folder.new ≡ folder.old))) }
+    ensures extracted { IfOk result (λ count. IfSome (S.bytes source.old) (λ file. Extracts paths.now file
+        (F.made folder.old) (F.made folder.new) count)) }
+    ensures few { OnOk result (IfSome (S.bytes source.old) (λ file. length file ≤ most)) }
+    ensures stopped { IfErr result (λ stop. IfSome (S.bytes source.old) (λ file. MayStop paths.now file
+        (F.made folder.old) (F.made folder.new) stop.made stop.fault)) }
+    ensures unmade { IfErr result (λ stop. IsLate stop.fault ⊎ ((stop.made ≡ 0) × (folder.new ≡ folder.old))) }
 {
-    let file = match read_all(alloc, reader) {
-        Ok(file) => file,
-        Err(fault) => {
-            return Err(Stop {
-                made: 0,
-                fault: ExtractFault::Input(fault),
-            });
-        }
+    let opened = match open(alloc, source) {
+        Ok(opened) => opened,
+        Err(fault) => return Err(unmade(of_source(fault))),
     };
-    let tree = match read_file(alloc, &file) {
-        Ok(tree) => tree,
-        Err(fault) => {
-            return Err(Stop {
-                made: 0,
-                fault: ExtractFault::Read(fault),
-            });
-        }
+    let planned = match plan_asked(alloc, &opened.outline, paths) {
+        Ok(planned) => planned,
+        Err(fault) => return Err(unmade(fault)),
     };
-    drop(file);
-    let entries = match plan_asked(alloc, &tree, paths) {
-        Ok(entries) => entries,
-        Err(fault) => return Err(Stop { made: 0, fault }),
+    let mut window = match Window::new(alloc) {
+        Ok(window) => window,
+        Err(_) => return Err(unmade(ExtractFault::NoMemory)),
     };
-    match make_all(folder, &entries) {
-        Ok(()) => Ok(entries.len()),
+    match make_all(alloc, source, &opened.tables, &mut window, &planned, folder) {
+        Ok(()) => Ok(planned.len()),
         Err((made, fault)) => Err(Stop {
             made,
-            fault: ExtractFault::Entry(path_at(entries, made), fault),
+            fault: of_folder(path_at(planned, made), fault),
         }),
     }
 }
 
-/// What is made of what paths ask for of a tree.
-///
-/// Refused: `Missing` for the first path at which nothing stands; `NoMemory`.
-fn plan_asked(alloc: Global, tree: &Tree, paths: &[TreePath]) -> Result<Vec<Entry>, ExtractFault>
-    ensures planned { IfOk result (λ entries. entries.items ≡ plan (asked paths.now (kept tree.now).now)) }
-    ensures there { OnOk result (AllStand paths.now (kept tree.now).now) }
-    ensures refused { IfErr result (MayRefusePlan paths.now (kept tree.now).now) }
+/// A stop before anything was made.
+fn unmade(fault: ExtractFault) -> Stop
+    ensures made { result.made ≡ 0 }
+    ensures fault { result.fault ≡ fault }
 {
-    match find_all(tree, paths) {
-        Ok(()) => {}
-        Err((number, fault)) => return Err(ExtractFault::Missing(number, fault)),
-    }
-    match plan_any(alloc, tree, paths) {
-        Ok(entries) => Ok(entries),
-        Err(_) => Err(ExtractFault::NoMemory),
+    Stop { made: 0, fault }
+}
+
+/// A fault of a file that is opened.
+fn of_source(fault: SourceFault) -> ExtractFault
+    ensures { result ≡ of_source_fault fault }
+{
+    match fault {
+        SourceFault::Input(fault) => ExtractFault::Input(fault),
+        SourceFault::Read(fault) => ExtractFault::Read(fault),
     }
 }
 
-/// What is made of what paths ask for, at which something stands.
-fn plan_any(alloc: Global, tree: &Tree, paths: &[TreePath]) -> Result<Vec<Entry>, AllocError>
-    ensures { IfOk result (λ entries. entries.items ≡ plan (asked paths.now (kept tree.now).now)) }
+/// A fault at what has this path in a folder.
+fn of_folder(path: FolderPath, fault: FolderFault) -> ExtractFault
+    ensures { result ≡ of_folder_fault path fault }
 {
-    if paths.is_empty() {
-        return plan(alloc, tree);
+    match fault {
+        FolderFault::Unreadable => ExtractFault::Cut,
+        _ => ExtractFault::Entry(path, fault),
     }
-    plan_chosen(alloc, tree, paths)
 }
 
-/// The path of the entry at a place of a list.
-fn path_at(mut entries: Vec<Entry>, at: usize) -> FolderPath
-    requires { at < vec_len entries }
-    ensures { (e : Entry) → slice_get entries.items at ≡ Some e → result ≡ e.path }
+/// The path of what is planned at a place of a list.
+fn path_at(mut planned: Vec<Planned>, at: usize) -> FolderPath
+    requires { at < vec_len planned }
+    ensures { (p : Planned) → slice_get planned.items at ≡ Some p → result ≡ p.path }
 {
-    let Entry { path, content } = entries.swap_remove(at);
-    drop(content);
+    let Planned { path, what } = planned.swap_remove(at);
+    drop(what);
     path
 }

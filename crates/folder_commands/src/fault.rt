@@ -1,6 +1,6 @@
 //! Why a folder isn't made.
 
-use file_folders::folder::FolderFault;
+use crate::folder::FolderFault;
 use file_folders::path::FolderPath;
 use storage_tree::fault::TreeFault;
 use stream_io::fault::ReadFault;
@@ -9,7 +9,7 @@ use texts::input::InputFault;
 /// Why a file isn't made into a folder.
 #[derive(Drop)]
 pub enum ExtractFault {
-    /// The file isn't read whole.
+    /// The file isn't read.
     Input(InputFault),
     /// The bytes denote no tree.
     Read(ReadFault),
@@ -19,6 +19,8 @@ pub enum ExtractFault {
     NoMemory,
     /// What has this path in the folder isn't made.
     Entry(FolderPath, FolderFault),
+    /// The file isn't read further, once making has begun.
+    Cut,
 }
 
 /// Where it was stopped.

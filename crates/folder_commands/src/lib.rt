@@ -1,7 +1,12 @@
-//! The commands between compound files and folders: making a folder of the storages and streams of a file, and a file of
-//! a folder.
+//! Making a folder of the storages and streams of a compound file, each stream copied from where it lies.
 #![tactic(auto)]
 
 pub mod chosen;
 pub mod extracting;
 pub mod fault;
+mod finding;
+pub mod folder;
+mod making;
+mod planning;
+mod seeking;
+pub mod streams;

@@ -1,14 +1,19 @@
 //! Folders of a system.
 
-use file_folders::folder::{Folder, FolderFault};
+ghost use Rattle.std.specs.Prelude.{◌≡◌};
+
 use file_folders::notes::{NOTES, is_plain, notes};
-use file_folders::plan::{Content, Entry};
+use file_folders::path::FolderPath;
+use file_places::source::Source;
+use folder_commands::folder::{Folder, FolderFault};
+use folder_commands::streams::{Stream, copy_stream};
 use program_ends::new_file::NewFile;
 use std::alloc::{AllocError, Global};
 use std::fs::{self, File, OpenOptions};
 use std::io::{self, ErrorKind, Write};
 use std::rt::{Clock, Files};
 use stored_values::class_id::ClassId;
+use stream_seeking::fault::CopyFault;
 
 /// A folder of a system in which entries are made. Each folder below it is made new, and each file too, so no link that
 /// stands in it is followed, unless what stands there is to be replaced: then a folder that is none by a link is taken as it
@@ -32,7 +37,7 @@ impl<'a, R: Files<File = File> + Clock + AllocGlobal> DiskFolder<'a, R> {
     }
 
     /// Makes a folder at a path; the folder itself may be there.
-    fn make_folder(&self, path: &str, is_top: bool) -> Result<(), FolderFault> {
+    fn create(&self, path: &str, is_top: bool) -> Result<(), FolderFault> {
         match fs::create_dir(self.rt, path) {
             Ok(()) => Ok(()),
             Err(error) => match fault_of(&error) {
@@ -66,27 +71,39 @@ impl<'a, R: Files<File = File> + Clock + AllocGlobal> DiskFolder<'a, R> {
             return self.clear(file.as_str());
         }
         match notes(alloc, class, state) {
-            Ok(text) => self.make_file(file.as_str(), &text),
+            Ok(text) => self.put_text(file.as_str(), text),
             Err(_) => Err(FolderFault::NoMemory),
         }
     }
 
-    /// Writes a new file at a path.
-    fn make_file(&self, path: &str, bytes: &[u8]) -> Result<(), FolderFault> {
-        match self.write_new(path, bytes) {
-            Err(FolderFault::Exists) if self.may_replace(path) => self.replace_file(path, bytes),
-            made => made,
-        }
+    /// Writes a new file of a text at a path.
+    fn put_text(&self, path: &str, text: Vec<u8>) -> Result<(), FolderFault> {
+        // It is held, so nothing else is read for it.
+        let mut nothing = b"".as_slice();
+        self.put(path, &mut nothing, 0, &Stream::Held(text))
     }
 
-    /// Writes a new file at a path at which nothing stands.
-    fn write_new(&self, path: &str, bytes: &[u8]) -> Result<(), FolderFault> {
+    /// Writes a new file of a stream at a path.
+    fn put<S: Source>(
+        &self,
+        path: &str,
+        source: &mut S,
+        len: usize,
+        stream: &Stream,
+    ) -> Result<(), FolderFault>
+        ensures { S.bytes source.new ≡ S.bytes source.old }
+    {
         match create_new(self.rt, path) {
             Ok(mut file) => {
-                let done = write(&mut file, bytes);
-                self.remove_unless(path, &done)
+                let done = copy_stream(self.rt.alloc(), source, len, stream, &mut file);
+                self.remove_unless(path, done)
             }
-            Err(error) => Err(fault_of(&error)),
+            Err(error) => match fault_of(&error) {
+                FolderFault::Exists if self.may_replace(path) => {
+                    self.replace(path, source, len, stream)
+                }
+                fault => Err(fault),
+            },
         }
     }
 
@@ -98,29 +115,32 @@ impl<'a, R: Files<File = File> + Clock + AllocGlobal> DiskFolder<'a, R> {
         }
     }
 
-    /// Writes a new file beside a path, and puts it in the place of what stands there.
-    fn replace_file(&self, path: &str, bytes: &[u8]) -> Result<(), FolderFault> {
+    /// Writes a new file of a stream beside a path, and puts it in the place of what stands there.
+    fn replace<S: Source>(
+        &self,
+        path: &str,
+        source: &mut S,
+        len: usize,
+        stream: &Stream,
+    ) -> Result<(), FolderFault>
+        ensures { S.bytes source.new ≡ S.bytes source.old }
+    {
         let mut new = NewFile::in_place(self.rt, path);
-        let done = match write(&mut new, bytes) {
-            Ok(()) => new.put(),
-            Err(error) => {
-                new.discard();
-                Err(error)
-            }
-        };
-        match done {
-            Ok(()) => Ok(()),
-            Err(error) => Err(write_fault(&error)),
+        // It is made by its first write, and a stream of no bytes has none.
+        if let Err(error) = new.write(&[]) {
+            return Err(write_fault(&error));
         }
+        let done = copy_stream(self.rt.alloc(), source, len, stream, &mut new);
+        keep(new, done)
     }
 
     /// Removes a new file unless all of it was written.
-    fn remove_unless(&self, path: &str, done: &io::Result<()>) -> Result<(), FolderFault> {
+    fn remove_unless(&self, path: &str, done: Result<(), CopyFault>) -> Result<(), FolderFault> {
         match done {
             Ok(()) => Ok(()),
-            Err(error) => {
+            Err(fault) => {
                 let _ = fs::remove_file(self.rt, path);
-                Err(write_fault(error))
+                Err(copy_fault(fault))
             }
         }
     }
@@ -152,11 +172,37 @@ fn fault_of(error: &io::Error) -> FolderFault {
     }
 }
 
-/// Why a file that is made at a path isn't written.
+/// Why a file that is made beside another isn't put in its place.
 fn write_fault(error: &io::Error) -> FolderFault {
     match error.kind() {
         ErrorKind::OutOfMemory => FolderFault::NoMemory,
         _ => FolderFault::Unwritable,
+    }
+}
+
+/// Why a stream isn't copied into a file that is made.
+fn copy_fault(fault: CopyFault) -> FolderFault {
+    match fault {
+        CopyFault::Unreadable => FolderFault::Unreadable,
+        CopyFault::Unwritable => FolderFault::Unwritable,
+        CopyFault::NoMemory => FolderFault::NoMemory,
+    }
+}
+
+/// Puts a new file in the place of what stands at its path, if all of it was written.
+fn keep<R: Files<File = File> + Clock + AllocGlobal>(
+    new: NewFile<'_, R>,
+    done: Result<(), CopyFault>,
+) -> Result<(), FolderFault> {
+    match done {
+        Ok(()) => match new.put() {
+            Ok(()) => Ok(()),
+            Err(error) => Err(write_fault(&error)),
+        },
+        Err(fault) => {
+            new.discard();
+            Err(copy_fault(fault))
+        }
     }
 }
 
@@ -165,11 +211,6 @@ fn create_new<R: Files>(rt: &R, path: &str) -> io::Result<R::File> {
         .write(true)
         .create_new(true)
         .open(rt, path)
-}
-
-fn write<W: Write>(file: &mut W, bytes: &[u8]) -> io::Result<()> {
-    file.write_all(bytes)?;
-    file.flush()
 }
 
 /// The path of what has this path in a folder.
@@ -181,17 +222,30 @@ pub(crate) fn path_in(alloc: Global, folder: &str, path: &[u8]) -> Result<String
 }
 
 impl<'a, R: Files<File = File> + Clock + AllocGlobal> Folder for DiskFolder<'a, R> {
-    fn make(&mut self, entry: &Entry) -> Result<(), FolderFault> {
-        let spelled = entry.path.as_bytes();
+    fn make_folder(
+        &mut self,
+        path: &FolderPath,
+        class: &ClassId,
+        state: u32,
+    ) -> Result<(), FolderFault> {
+        let spelled = path.as_bytes();
         let Ok(path) = path_in(self.rt.alloc(), self.path, spelled) else {
             return Err(FolderFault::NoMemory);
         };
-        match &entry.content {
-            Content::Folder(class, state) => {
-                self.make_folder(path.as_str(), spelled.is_empty())?;
-                self.tell(path.as_str(), class, *state)
-            }
-            Content::File(bytes) => self.make_file(path.as_str(), bytes.as_slice()),
-        }
+        self.create(path.as_str(), spelled.is_empty())?;
+        self.tell(path.as_str(), class, state)
+    }
+
+    fn make_file<S: Source>(
+        &mut self,
+        path: &FolderPath,
+        source: &mut S,
+        len: usize,
+        stream: &Stream,
+    ) -> Result<(), FolderFault> {
+        let Ok(path) = path_in(self.rt.alloc(), self.path, path.as_bytes()) else {
+            return Err(FolderFault::NoMemory);
+        };
+        self.put(path.as_str(), source, len, stream)
     }
 }

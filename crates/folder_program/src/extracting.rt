@@ -6,11 +6,12 @@ use folder_commands::chosen::TreePath;
 use folder_commands::extracting::extract_file;
 use folder_commands::fault::{ExtractFault, Stop};
 use program_ends::ends::{refuse, refuse_path};
-use program_ends::journals::tell_unfinished;
+use program_sources::opening::open_source;
 use std::alloc::AllocError;
-use std::fs::{self, File};
+use std::fs::File;
 use std::process::ExitCode;
 use std::rt::Runtime;
+use texts::input::InputFault;
 use texts::path::Path;
 use texts::report::{Report, STANDARD};
 
@@ -28,12 +29,10 @@ pub fn extract<R: Runtime<File = File> + AllocGlobal>(
         Ok(paths) => paths,
         Err(code) => return code,
     };
-    let Ok(mut source) = fs::open(rt, path) else {
-        return refuse(rt, &Report::File(path, "Unreadable"));
+    let mut source = match open_source(rt, path) {
+        Ok(source) => source,
+        Err(code) => return code,
     };
-    if let Err(code) = tell_unfinished(rt, path) {
-        return code;
-    }
     let mut made = Watched::new(rt, DiskFolder::new(rt, folder, is_forced), is_watched);
     let done = extract_file(rt.alloc(), &mut source, &paths, &mut made);
     made.end();
@@ -120,6 +119,11 @@ fn stopped<R: Runtime + AllocGlobal>(
             rt,
             stop.made,
             refuse_in(rt, folder, at.as_bytes(), fault.name()),
+        ),
+        ExtractFault::Cut => tell(
+            rt,
+            stop.made,
+            refuse(rt, &Report::File(path, InputFault::Unreadable.name())),
         ),
     }
 }

@@ -1,8 +1,11 @@
 //! How many entries were made so far, told where somebody watches.
 
-use file_folders::folder::{Folder, FolderFault};
-use file_folders::plan::Entry;
+use file_folders::path::FolderPath;
+use file_places::source::Source;
+use folder_commands::folder::{Folder, FolderFault};
+use folder_commands::streams::Stream;
 use std::rt::Runtime;
+use stored_values::class_id::ClassId;
 
 /// After how many entries more it is told again.
 const STEP: usize = 1000;
@@ -28,8 +31,9 @@ impl<'a, R: Runtime, F: Folder> Watched<'a, R, F> {
         }
     }
 
-    /// Tells how many were made, over what was told before.
-    fn tell(&self) {
+    /// Counts one more, and tells how many were made, over what was told before.
+    fn count(&mut self) {
+        self.made = self.made.saturating_add(1);
         if self.is_watched && self.made % STEP == 0 {
             let _ = eprint!(self.rt; "\r{} made", self.made);
         }
@@ -44,10 +48,26 @@ impl<'a, R: Runtime, F: Folder> Watched<'a, R, F> {
 }
 
 impl<'a, R: Runtime, F: Folder> Folder for Watched<'a, R, F> {
-    fn make(&mut self, entry: &Entry) -> Result<(), FolderFault> {
-        self.folder.make(entry)?;
-        self.made = self.made.saturating_add(1);
-        self.tell();
+    fn make_folder(
+        &mut self,
+        path: &FolderPath,
+        class: &ClassId,
+        state: u32,
+    ) -> Result<(), FolderFault> {
+        self.folder.make_folder(path, class, state)?;
+        self.count();
+        Ok(())
+    }
+
+    fn make_file<S: Source>(
+        &mut self,
+        path: &FolderPath,
+        source: &mut S,
+        len: usize,
+        stream: &Stream,
+    ) -> Result<(), FolderFault> {
+        self.folder.make_file(path, source, len, stream)?;
+        self.count();
         Ok(())
     }
 }

@@ -1,11 +1,15 @@
 //! A folder in memory.
 
 use cfb_names::name::{Name, named};
-use file_folders::folder::{Folder, FolderFault};
-use file_folders::plan::{Content, Entry};
+use file_folders::path::FolderPath;
+use file_folders::plan::Content;
+use file_places::source::Source;
+use folder_commands::folder::{Folder, FolderFault};
+use folder_commands::streams::{Stream, copy_stream};
 use folder_packing::names::read_component;
 use folder_packing::packing::Found;
 use std::alloc::{AllocError, Global};
+use stored_values::bytes::Bytes;
 use stored_values::class_id::ClassId;
 use text_words::words::Pieces;
 
@@ -30,26 +34,25 @@ impl Memory {
         }
     }
 
-    fn take(&mut self, entry: &Entry) -> Result<(), AllocError> {
-        let path = names_of(self.alloc, entry.path.as_bytes())?;
-        match &entry.content {
-            Content::Folder(class, state) => self.take_folder(path, *class, *state),
-            Content::File(bytes) => self.put(path, Content::File(bytes.copy(self.alloc)?)),
-        }
-    }
-
     fn take_folder(
         &mut self,
-        path: Vec<Name>,
+        path: &FolderPath,
         class: ClassId,
         state: u32,
     ) -> Result<(), AllocError> {
-        if path.is_empty() {
+        let names = names_of(self.alloc, path.as_bytes())?;
+        if names.is_empty() {
             self.class = class;
             self.state = state;
             return Ok(());
         }
-        self.put(path, Content::Folder(class, state))
+        self.put(names, Content::Folder(class, state))
+    }
+
+    fn take_file(&mut self, path: &FolderPath, bytes: Vec<u8>) -> Result<(), AllocError> {
+        let names = names_of(self.alloc, path.as_bytes())?;
+        let bytes = Bytes::from_vec(self.alloc, bytes)?;
+        self.put(names, Content::File(bytes))
     }
 
     fn put(&mut self, path: Vec<Name>, content: Content) -> Result<(), AllocError> {
@@ -58,18 +61,47 @@ impl Memory {
     }
 }
 
+/// Whether something was taken; then there is less room.
+fn counted(room: &mut usize, taken: Result<(), AllocError>) -> Result<(), FolderFault> {
+    match taken {
+        Ok(()) => {
+            *room = room.saturating_sub(1);
+            Ok(())
+        }
+        Err(_) => Err(FolderFault::NoMemory),
+    }
+}
+
 impl Folder for Memory {
-    fn make(&mut self, entry: &Entry) -> Result<(), FolderFault> {
+    fn make_folder(
+        &mut self,
+        path: &FolderPath,
+        class: &ClassId,
+        state: u32,
+    ) -> Result<(), FolderFault> {
         if self.room == 0 {
             return Err(FolderFault::Unwritable);
         }
-        match self.take(entry) {
-            Ok(()) => {
-                self.room = self.room.saturating_sub(1);
-                Ok(())
-            }
-            Err(_) => Err(FolderFault::NoMemory),
+        let taken = self.take_folder(path, *class, state);
+        counted(&mut self.room, taken)
+    }
+
+    fn make_file<S: Source>(
+        &mut self,
+        path: &FolderPath,
+        source: &mut S,
+        len: usize,
+        stream: &Stream,
+    ) -> Result<(), FolderFault> {
+        if self.room == 0 {
+            return Err(FolderFault::Unwritable);
         }
+        let mut bytes = Vec::new(self.alloc);
+        if copy_stream(self.alloc, source, len, stream, &mut bytes).is_err() {
+            return Err(FolderFault::Unreadable);
+        }
+        let taken = self.take_file(path, bytes);
+        counted(&mut self.room, taken)
     }
 }
 

@@ -1,5 +1,6 @@
 //! Streams that are read where they lie in a file.
 
+use crate::memory::Memory;
 use cfb_names::name::{Name, named};
 use file_cleaning::cleaning::clean_file;
 use file_cleaning::fault::CleanFault;
@@ -7,6 +8,8 @@ use file_inspection::fault::GetFault;
 use file_inspection::getting::get_stream;
 use file_making::making::make_file;
 use file_places::source::Source;
+use folder_commands::extracting::extract_file;
+use folder_commands::fault::ExtractFault;
 use std::alloc::Global;
 use std::io::{self, ErrorKind};
 use std::process::Abort;
@@ -214,4 +217,41 @@ fn a_file_is_cleaned_by_places(rt: HostRuntime) {
     assert!(rt; is_broken_off(rt.alloc(), &file, CALLS + 1, true));
     assert!(rt; is_broken_off(rt.alloc(), &file, CALLS, true));
     assert!(rt; is_left(rt.alloc(), &file, CALLS - 1));
+}
+
+/// Whether so many calls make so many entries of a file, all of them, or where it is cut off those before the one whose bytes
+/// can't be read.
+fn is_extracted(alloc: Global, file: &[u8], calls: usize, count: usize, is_cut: bool) -> bool {
+    let mut source = Few { bytes: file, calls };
+    let mut folder = Memory::new(alloc, 10);
+    match extract_file(alloc, &mut source, &[], &mut folder) {
+        Ok(made) => !is_cut && made == count && folder.room + count == 10,
+        Err(stop) => match &stop.fault {
+            ExtractFault::Cut => is_cut && stop.made == count && folder.room + count == 10,
+            _ => false,
+        },
+    }
+}
+
+/// Whether so many calls are too few to open it, and nothing is made.
+fn is_unmade(alloc: Global, file: &[u8], calls: usize) -> bool {
+    let mut source = Few { bytes: file, calls };
+    let mut folder = Memory::new(alloc, 10);
+    match extract_file(alloc, &mut source, &[], &mut folder) {
+        Ok(_) => false,
+        Err(stop) => match &stop.fault {
+            ExtractFault::Input(InputFault::Unreadable) => folder.room == 10,
+            _ => false,
+        },
+    }
+}
+
+#[test]
+fn a_file_is_extracted_by_places(rt: HostRuntime) {
+    let file = made(&rt, rt.alloc(), DESCRIPTION);
+    assert!(rt; is_extracted(rt.alloc(), &file, CALLS + 3, 5, false));
+    assert!(rt; is_extracted(rt.alloc(), &file, CALLS + 2, 4, true));
+    assert!(rt; is_extracted(rt.alloc(), &file, CALLS + 1, 3, true));
+    assert!(rt; is_extracted(rt.alloc(), &file, CALLS, 3, true));
+    assert!(rt; is_unmade(rt.alloc(), &file, CALLS - 1));
 }

@@ -1,5 +1,5 @@
 use Rattle.std.proofs.Common.{◌∙◌, sym}
-use Rattle.file_folders.proofs.Adding.{on_ok}
+use Rattle.file_folders.proofs.Results.{on_ok}
 use Rattle.file_folders.proofs.Components.{component_pushed}
 use Rattle.file_folders.proofs.path.push_component.Goals as goal
 

@@ -1,12 +1,8 @@
 -- Entries that are made one after another.
-use Rattle.std.proofs.Common.{◌≡◌, ◌<◌, ◌+◌, ◌++◌, ◌∷◌, [], ◌∙◌, ℕ, List, Option, Some, None, Result, Ok, Err, OnOk, ap, subst, sym, append_assoc, get_or, length, take}
+use Rattle.std.proofs.Common.{◌≡◌, ◌<◌, ◌+◌, ◌++◌, ◌∷◌, [], ◌∙◌, ℕ, List, Option, Some, None, ap, subst, sym, append_assoc, get_or, length, take}
 use Rattle.std.proofs.lemmas.List.{append-nil, take_more}
-use Rattle.file_folders.specs.Made.{Adds}
-use Rattle.file_folders.specs.declared.plan.Entry.{Entry}
-
-pub on_ok : {A E : Type 0} (r : Result A E) (P Q : Type 0) → (P → Q) → OnOk r P → OnOk r Q
-on_ok (Ok x) P Q f h = f h
-on_ok (Err e) P Q f h = tt
+use Rattle.file_folders.specs.Plan.{Entry}
+use Rattle.folder_commands.specs.Made.{Adds}
 
 pub adds_none : (made : Option (List Entry)) → Adds made made []
 adds_none None = tt
