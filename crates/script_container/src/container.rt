@@ -120,7 +120,7 @@ pub fn command<H: Host>(
     let step = Step::Command(command);
     host.note(&step);
     let Some(command) = command_of(step) else {
-        return Err(ContainerFault::NoMemory);
+        unreachable!()
     };
     core.steady();
     sessions_stay();
@@ -150,7 +150,7 @@ pub fn message<H: Host>(
     let step = Step::Message(inc, message);
     host.note(&step);
     let Some(message) = message_of(step) else {
-        return Err(ContainerFault::NoMemory);
+        unreachable!()
     };
     let link = ServerLink {
         session: core.session(),
@@ -190,7 +190,7 @@ pub fn opened<H: Host>(
     let step = Step::Open(name, width, height, session, objects);
     host.note(&step);
     let Some(name) = name_of(step) else {
-        return Err(ContainerFault::NoMemory);
+        unreachable!()
     };
     let told = core.open_file(alloc, name, width, height, Some(file));
     noted(host, told)
@@ -253,13 +253,13 @@ pub fn committed<H: Host>(
 }
 
 /// Tells the container that the commit of a frame's file failed: the disk that was given back last holds what it held before, or
-/// no file can hold its document.
+/// no file can hold its document. That takes no memory.
 pub fn failed<H: Host>(
     alloc: Global,
     host: &mut H,
     core: &mut ContainerCore,
     frame: u32,
-) -> Result<(), ScriptFault>
+)
     requires lost { IsLost ⟦<H::Disk as Disk>⟧ (H.told host.old) frame }
     requires told { IsTold ⟦<H::Disk as Disk>⟧ (H.told host.old) core.old }
     ensures told { IsTold ⟦<H::Disk as Disk>⟧ (H.told host.new) core.new }
@@ -268,13 +268,11 @@ pub fn failed<H: Host>(
     ensures paced { (s : ℕ) → pace s (H.told host.new) ≡ pace s (H.told host.old) }
     ensures ordered { course (H.told host.new) ≡ course (H.told host.old) }
     ensures noticed { notices (H.told host.new) ≡ first_noticed (notices (H.told host.old)) (Some (lost_as (image core.old frame))) }
-    ensures shown { IfErr result (λ fault. Shows ⟦<H::Disk as Disk>⟧ (H.told host.new) fault) }
     ensures others { OnlyDoneBut frame core.old core.new }
     ensures answered { IsAnswered core.new frame }
 {
     host.note(&Step::Failed(frame));
-    let told = core.commit_failed(alloc, frame);
-    heard(&noted(host, told))
+    let _ = core.commit_failed(alloc, frame);
 }
 
 /// Tells the container that the file of a frame in doubt wasn't committed.

@@ -217,7 +217,7 @@ fn lose<H: Host>(
     ensures others { OnOk result (OnlyDone core.old core.new) }
     ensures done { OnOk result (IsDone core.new frame) }
 {
-    failed(alloc, host, core, frame)?;
+    failed(alloc, host, core, frame);
     dropped(alloc, host, core, frame)
 }
 
