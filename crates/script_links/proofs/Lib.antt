@@ -1,3 +1,4 @@
+pub mod Calls
 pub mod Linked
 pub mod Paces
 pub mod Served

@@ -1,6 +1,7 @@
 //! The links to servers, and what comes on one of them in a turn.
 
 ghost use Rattle.container_model.specs.Record.{Record};
+ghost use Rattle.container_model.specs.Replies.{pending_call};
 ghost use Rattle.container_model.specs.declared.fault.ContainerFault.TheVariants as container;
 ghost use Rattle.message_model.specs.Spelling.{spell};
 ghost use Rattle.script_model.specs.Bounds.{IsWithin, linking, pace, reading, sending};
@@ -8,7 +9,7 @@ ghost use Rattle.script_model.specs.Courses.{course};
 ghost use Rattle.script_model.specs.Events.{running};
 ghost use Rattle.script_model.specs.Notices.{Notes, Notice, Tells, first_noticed, notices, refusal_noticed};
 ghost use Rattle.script_model.specs.Origins.{AreNext, fresh, giving, passed};
-ghost use Rattle.script_model.specs.Turns.{server_of, turn_of};
+ghost use Rattle.script_model.specs.Turns.{spelled_to, turn_of};
 ghost use Rattle.script_model.specs.declared.host.HostFault.TheVariants as host;
 ghost use Rattle.script_container.specs.Beside.{beside};
 ghost use Rattle.script_container.specs.Shown.{Shows};
@@ -20,7 +21,9 @@ ghost use Rattle.std.specs.Prelude.{◌≡◌, ◌≢◌, ◌++◌, ◌∷◌, [
 
 use crate::waiting::Waiting;
 use container_core::container::ContainerCore;
+use container_links::calling::call;
 use container_model::fault::ContainerFault;
+use container_model::record::Link as Activation;
 use message_bytes::decoder::Decoder;
 use message_bytes::encode::encode_into;
 use message_bytes::fault::WireFault;
@@ -32,7 +35,7 @@ use script_model::answer::Told;
 use script_model::host::{Host, HostFault};
 use std::alloc::{AllocError, Global};
 use store_model::disk::Disk;
-use wire_msgs::message::{Message, Said};
+use wire_msgs::message::Message;
 use wire_msgs::refusal::Refusal;
 
 /// The most reads of a link in a turn.
@@ -91,28 +94,39 @@ fn push_frame(out: &mut Vec<u8>, frame: &Frame) -> Result<(), ScriptFault>
     }
 }
 
-/// The server that a message is to or from.
-pub fn server_of(message: &Message) -> u32
-    ensures { result ≡ server_of message.now.said }
+/// Adds the call of an activation that is pending, as it was first sent, where the activation is of this server.
+fn push_call(
+    alloc: Global,
+    out: &mut Vec<u8>,
+    activation: &Option<Activation>,
+    inc: u32,
+) -> Result<(), ScriptFault>
+    ensures pushed { OnOk result (out.new.items ≡ out.old.items ++ spelled_to inc (pending_call activation.now)) }
+    ensures lacking { IfErr result (λ fault. fault ≡ NoMemory) }
 {
-    match &message.said {
-        Said::Call { inc, .. } => *inc,
-        Said::Reply { inc, .. } => *inc,
-        Said::Write { inc, .. } => *inc,
-        Said::Ask { inc, .. } => *inc,
+    let Some(activation) = activation else {
+        return Ok(());
+    };
+    if activation.inc != inc {
+        return Ok(());
+    }
+    match &activation.pending {
+        None => Ok(()),
+        Some(operation) => {
+            let asked = call(activation, activation.last, operation.copy(alloc)?);
+            push_frame(out, &Frame::Message(asked))
+        }
     }
 }
 
-/// The calls that are pending for a server, and a Turn, as bytes.
+/// The calls that are pending for a server, and a Turn, as bytes. No other server's call is copied.
 fn turn_bytes(alloc: Global, core: &ContainerCore, inc: u32) -> Result<Vec<u8>, ScriptFault>
     ensures turn { IfOk result (λ v. v.items ≡ turn_of core.now inc) }
     ensures lacking { IfErr result (λ fault. fault ≡ NoMemory) }
 {
     let mut out = Vec::new(alloc);
-    for call in core.resend(alloc)? {
-        if server_of(&call) == inc {
-            push_frame(&mut out, &Frame::Message(call))?;
-        }
+    for object in core.all_objects() {
+        push_call(alloc, &mut out, &object.link, inc)?;
     }
     push_frame(&mut out, &Frame::Turn)?;
     Ok(out)
