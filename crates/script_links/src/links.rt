@@ -42,7 +42,7 @@ use wire_msgs::refusal::Refusal;
 const MOST_READS: u32 = 1_000_000;
 
 /// How many bytes are read at once.
-const PIECE: usize = 4096;
+pub const PIECE: usize = 65_536;
 
 /// A link to a server that was started and isn't ended.
 #[derive(Drop)]
@@ -253,7 +253,8 @@ fn meet<H: Host>(
     hand_over(alloc, host, core, link.inc, taken, noticed)
 }
 
-/// Carries out the frames that came on a link, up to a Turn. A link of which more waits than may has failed.
+/// Carries out the frames that came on a link, up to a Turn. A link of which more waits than may has failed. A piece ends fewer
+/// frames than it has bytes, since a frame has ten at least, so all that are whole are taken.
 fn take_frames<H: Host>(
     alloc: Global,
     host: &mut H,
@@ -293,8 +294,12 @@ fn take_frames<H: Host>(
     Ok(Heard::Failed)
 }
 
-/// Reads some bytes of a link. Gives whether there were any.
-fn read_some<H: Host>(host: &mut H, link: &mut Link) -> Result<bool, ScriptFault>
+/// Reads some bytes of a link, as many as the buffer has room for. Gives whether there were any.
+fn read_some<H: Host>(
+    host: &mut H,
+    link: &mut Link,
+    buffer: &mut [u8],
+) -> Result<bool, ScriptFault>
     requires served { IsServed (passed link.old.inc (H.told host.old)) link.old [] }
     requires within { IsWithin (reading (pace link.old.inc (H.told host.old))) }
     ensures told { (r : Record) → IsTold ⟦<H::Disk as Disk>⟧ (H.told host.old) r → IsTold ⟦<H::Disk as Disk>⟧ (H.told host.new) r }
@@ -309,8 +314,7 @@ fn read_some<H: Host>(host: &mut H, link: &mut Link) -> Result<bool, ScriptFault
     ensures shown { IfErr result (λ fault. Shows ⟦<H::Disk as Disk>⟧ (H.told host.new) fault) }
     ensures holding { link.new.held ≡ link.old.held }
 {
-    let mut piece = [0u8; PIECE];
-    let n = match host.read(link.inc, &mut piece) {
+    let n = match host.read(link.inc, buffer) {
         Ok(n) => n,
         Err(HostFault::Failed) => return Ok(false),
         Err(HostFault::NoMemory) => return Err(ScriptFault::NoMemory),
@@ -318,7 +322,7 @@ fn read_some<H: Host>(host: &mut H, link: &mut Link) -> Result<bool, ScriptFault
     if n == 0 {
         return Ok(false);
     }
-    match link.decoder.feed(&piece[..n]) {
+    match link.decoder.feed(&buffer[..n]) {
         Ok(()) => Ok(true),
         Err(fault) => match fault {
             WireFault::NoMemory => Err(ScriptFault::NoMemory),
@@ -334,6 +338,7 @@ fn hear<H: Host>(
     core: &mut ContainerCore,
     link: &mut Link,
     noticed: &mut Option<Told>,
+    buffer: &mut [u8],
     reads: &mut u32,
 ) -> Result<Heard, ScriptFault>
     requires told { IsTold ⟦<H::Disk as Disk>⟧ (H.told host.old) core.old }
@@ -359,7 +364,7 @@ fn hear<H: Host>(
             return Ok(heard);
         }
         *reads -= 1;
-        if !read_some(host, link)? {
+        if !read_some(host, link, buffer)? {
             return Ok(Heard::Failed);
         }
     }
@@ -373,6 +378,7 @@ fn exchange<H: Host>(
     core: &mut ContainerCore,
     link: &mut Link,
     noticed: &mut Option<Told>,
+    buffer: &mut [u8],
     reads: &mut u32,
 ) -> Result<Heard, ScriptFault>
     requires told { IsTold ⟦<H::Disk as Disk>⟧ (H.told host.old) core.old }
@@ -395,7 +401,7 @@ fn exchange<H: Host>(
     if !send_turn(alloc, host, core, link.inc)? {
         return Ok(Heard::Failed);
     }
-    hear(alloc, host, core, link, noticed, reads)
+    hear(alloc, host, core, link, noticed, buffer, reads)
 }
 
 /// Connects a link again: what came of the old connection and isn't carried out is dropped. Gives whether it was made.
@@ -427,6 +433,7 @@ pub fn serve<H: Host>(
     core: &mut ContainerCore,
     link: &mut Link,
     noticed: &mut Option<Told>,
+    buffer: &mut [u8],
 ) -> Result<bool, ScriptFault>
     requires told { IsTold ⟦<H::Disk as Disk>⟧ (H.told host.old) core.old }
     requires served { IsServed (passed link.old.inc (H.told host.old)) link.old [] }
@@ -445,7 +452,7 @@ pub fn serve<H: Host>(
     ensures holding { link.new.held ≡ link.old.held }
 {
     let mut reads = MOST_READS;
-    match exchange(alloc, host, core, link, noticed, &mut reads)? {
+    match exchange(alloc, host, core, link, noticed, buffer, &mut reads)? {
         Heard::Turn => return Ok(true),
         Heard::Failed => {}
         _ => return Ok(false),
@@ -454,6 +461,6 @@ pub fn serve<H: Host>(
     if !made {
         return Ok(false);
     }
-    let heard = exchange(alloc, host, core, link, noticed, &mut reads)?;
+    let heard = exchange(alloc, host, core, link, noticed, buffer, &mut reads)?;
     Ok(heard == Heard::Turn)
 }

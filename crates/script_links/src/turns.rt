@@ -155,6 +155,7 @@ fn serve_at<H: Host>(
     links: &mut Vec<Link>,
     place: usize,
     noticed: &mut Option<Told>,
+    buffer: &mut [u8],
 ) -> Result<bool, ScriptFault>
     requires within { place < length links.old.items }
     requires told { IsTold ⟦<H::Disk as Disk>⟧ (H.told host.old) core.old }
@@ -174,7 +175,7 @@ fn serve_at<H: Host>(
     ensures holding { (f : ℕ → Bool) → HoldFor f links.old.items → HoldFor f links.new.items }
     ensures due { (n : ℕ) → HaveHad n (H.told host.old) links.old.items place → OnOk result (HaveHad n (H.told host.new) links.new.items (place + 1)) }
 {
-    serve(alloc, host, core, &mut links[place], noticed)
+    serve(alloc, host, core, &mut links[place], noticed, buffer)
 }
 
 /// A turn of each link, by rising number. A link that doesn't stand is ended.
@@ -184,6 +185,7 @@ fn turn<H: Host>(
     core: &mut ContainerCore,
     links: &mut Vec<Link>,
     noticed: &mut Option<Told>,
+    buffer: &mut [u8],
 ) -> Result<(), ScriptFault>
     requires told { IsTold ⟦<H::Disk as Disk>⟧ (H.told host.old) core.old }
     requires linked { AreLinked (H.told host.old) links.old.items }
@@ -203,7 +205,7 @@ fn turn<H: Host>(
 {
     let mut place = 0;
     while place < links.len() {
-        if serve_at(alloc, host, core, links, place, noticed)? {
+        if serve_at(alloc, host, core, links, place, noticed, buffer)? {
             place += 1;
         } else {
             end_at(alloc, host, core, links, place, noticed)?;
@@ -221,6 +223,7 @@ pub fn turns<H: Host>(
     core: &mut ContainerCore,
     links: &mut Vec<Link>,
     noticed: &mut Option<Told>,
+    buffer: &mut [u8],
 ) -> Result<(), ScriptFault>
     requires told { IsTold ⟦<H::Disk as Disk>⟧ (H.told host.old) core.old }
     requires linked { AreLinked (H.told host.old) links.old.items }
@@ -241,7 +244,7 @@ pub fn turns<H: Host>(
         if !is_pending(core, links) {
             return Ok(());
         }
-        turn(alloc, host, core, links, noticed)?;
+        turn(alloc, host, core, links, noticed, buffer)?;
     }
     if is_pending(core, links) {
         return Err(ScriptFault::Stalled);

@@ -720,6 +720,7 @@ pub(crate) fn carry_out<H: Host, W: Write>(
     core: &mut ContainerCore,
     links: &mut Vec<Link>,
     command: ScriptCommand,
+    buffer: &mut [u8],
     writer: &mut W,
 ) -> Result<(), ScriptFault>
     requires told { IsTold ⟦<H::Disk as Disk>⟧ (H.told host.old) core.old }
@@ -743,7 +744,7 @@ pub(crate) fn carry_out<H: Host, W: Write>(
     let mut noticed = None;
     let mut text = Vec::new(alloc);
     let told = begin(alloc, host, core, links, command, &mut noticed, &mut text)?;
-    turns(alloc, host, core, links, &mut noticed)?;
+    turns(alloc, host, core, links, &mut noticed, buffer)?;
     if is_any_unsaved(core) {
         return Err(ScriptFault::Stalled);
     }

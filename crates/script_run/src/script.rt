@@ -23,7 +23,7 @@ ghost use Rattle.std.specs.Prelude.{◌≡◌, ◌∷◌, ℕ, [], false, IfErr,
 use crate::commands::carry_out;
 use container_core::container::{ContainerCore, Limits};
 use script_links::fault::ScriptFault;
-use script_links::links::Link;
+use script_links::links::{Link, PIECE};
 use script_links::turns::end_all;
 use script_model::command::ScriptCommand;
 use script_model::host::Host;
@@ -85,6 +85,7 @@ fn carry_out_all<H: Host, W: Write>(
     core: &mut ContainerCore,
     links: &mut Vec<Link>,
     commands: Vec<ScriptCommand>,
+    buffer: &mut [u8],
     writer: &mut W,
 ) -> Result<(), ScriptFault>
     requires told { IsTold ⟦<H::Disk as Disk>⟧ (H.told host.old) core.old }
@@ -106,7 +107,7 @@ fn carry_out_all<H: Host, W: Write>(
 {
     for (place, command) in commands.into_iter().enumerate() {
         begins(host, place);
-        carry_out(alloc, host, core, links, command, writer)?;
+        carry_out(alloc, host, core, links, command, buffer, writer)?;
     }
     if is_any_held(links) {
         return Err(ScriptFault::Stalled);
@@ -163,12 +164,23 @@ pub fn run_script<H: Host, R: Read, W: Write>(
         Ok(commands) => commands,
         Err(fault) => return Err(fault),
     };
+    let Ok(mut buffer) = vec![in alloc; 0; PIECE] else {
+        return Err(ScriptFault::NoMemory);
+    };
     let limits = Limits {
         numbers: MOST_NUMBERS,
     };
     let mut core = ContainerCore::new(alloc, limits);
     let mut links = Vec::new(alloc);
-    let told = carry_out_all(alloc, host, &mut core, &mut links, commands, writer);
+    let told = carry_out_all(
+        alloc,
+        host,
+        &mut core,
+        &mut links,
+        commands,
+        &mut buffer,
+        writer,
+    );
     end_all(host, &mut links);
     told
 }

@@ -5,7 +5,7 @@ use Rattle.script_model.specs.Saved.{is_any_unsaved}
 use Rattle.script_run.proofs.Faulted.{ended_so, unread_so}
 use Rattle.script_run.proofs.Holding.{released_still}
 use Rattle.script_run.proofs.Settled.{settled_still}
-use Rattle.script_run.proofs.Writing.{all_ended, of_commands, some_ended, unread_none}
+use Rattle.script_run.proofs.Writing.{all_ended, none_written, of_commands, some_ended, unread_none}
 use Rattle.script_run.proofs.script.run_script.Goals as goal
 
 pub returns-in-Err-clause-faulted : goal.returns-in-Err-clause-faulted
@@ -28,6 +28,9 @@ carry_out_all-told-requires-clause-saved g c = ap (λ (r : Record). is_any_unsav
 pub returns-in-Err-clause-begun_printed : goal.returns-in-Err-clause-begun_printed
 returns-in-Err-clause-begun_printed g c =
     unread_none g.H.Disk.Disk (before_ends (g.H.Host.told c.args.host.now)) (g.R.Read.remaining c.args.reader.now) (g.W.Write.contents c.args.writer.now) c.in-Err.fault c.in-Err.ensures.refused
+
+pub returns-in_default-clause-begun_printed : goal.returns-in_default-clause-begun_printed
+returns-in_default-clause-begun_printed g c = none_written g.H.Disk.Disk (g.H.Host.told c.args.host.now) (g.R.Read.remaining c.args.reader.now) c.in-Ok.commands.items (g.W.Write.contents c.args.writer.now) c.in-Ok.ensures.read c.requires
 
 pub returns-clause-printed : goal.returns-clause-printed
 returns-clause-printed g c =
