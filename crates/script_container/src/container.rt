@@ -20,10 +20,11 @@ ghost use Rattle.script_model.specs.Saved.{IsLost, IsReadFrom, IsSavedThere};
 ghost use Rattle.script_model.specs.declared.step.Step.TheVariants as given;
 ghost use Rattle.script_container.specs.Beside.{beside};
 ghost use Rattle.script_container.specs.Done.{IsAnswered, IsCertain, IsDone, OnlyDone, OnlyDoneBut};
+ghost use Rattle.script_container.specs.Handed.{handed};
 ghost use Rattle.script_container.specs.Shown.{Shows};
 ghost use Rattle.script_container.specs.Told.{IsEnded, IsTold, noted_of};
 ghost use Rattle.script_container.specs.declared.fault.ScriptFault.TheVariants.{NoMemory};
-ghost use Rattle.std.specs.Prelude.{◌≡◌, ◌≢◌, ◌≤◌, ◌∷◌, [], IfErr, IfOk, List, Ok, OnOk, Some, length, ℕ};
+ghost use Rattle.std.specs.Prelude.{◌≡◌, ◌≢◌, ◌≤◌, ◌∷◌, [], Bool, IfErr, IfOk, List, Ok, OnOk, Some, false, length, ℕ};
 ghost use Rattle.wire_msgs.specs.declared.message.Message.{Message};
 
 use crate::fault::ScriptFault;
@@ -83,6 +84,7 @@ fn noted<H: Host>(
     ensures noted { H.told host.new ≡ noted_of told (H.told host.old) }
     ensures still { (s : ℕ) → running s (H.told host.new) ≡ running s (H.told host.old) }
     ensures quiet { (s : ℕ) → passed s (H.told host.new) ≡ passed s (H.told host.old) }
+    ensures handing { (f : ℕ → Bool) → handed f (H.told host.new) ≡ handed f (H.told host.old) }
     ensures paced { (s : ℕ) → pace s (H.told host.new) ≡ pace s (H.told host.old) }
     ensures ordered { course (H.told host.new) ≡ course (H.told host.old) }
     ensures noticed { notices (H.told host.new) ≡ notices (H.told host.old) }
@@ -109,6 +111,7 @@ pub fn command<H: Host>(
     ensures told { IsTold ⟦<H::Disk as Disk>⟧ (H.told host.new) core.new }
     ensures still { (s : ℕ) → running s (H.told host.new) ≡ running s (H.told host.old) }
     ensures quiet { (s : ℕ) → passed s (H.told host.new) ≡ passed s (H.told host.old) }
+    ensures handing { (f : ℕ → Bool) → handed f (H.told host.new) ≡ handed f (H.told host.old) }
     ensures paced { (s : ℕ) → pace s (H.told host.new) ≡ pace s (H.told host.old) }
     ensures ordered { course (H.told host.new) ≡ course (Stepped (Step.Command command) ∷ H.told host.old) }
     ensures noticed { notices (H.told host.new) ≡ notices (H.told host.old) }
@@ -142,6 +145,7 @@ pub fn message<H: Host>(
     ensures still { (s : ℕ) → running s (H.told host.new) ≡ running s (H.told host.old) }
     ensures apart { (s : ℕ) → beside inc s (H.told host.new) ≡ beside inc s (H.told host.old) }
     ensures given { passed inc (H.told host.new) ≡ giving (message ∷ []) (passed inc (H.told host.old)) }
+    ensures handing { (f : ℕ → Bool) → f inc ≡ false → handed f (H.told host.new) ≡ handed f (H.told host.old) }
     ensures paced { (s : ℕ) → pace s (H.told host.new) ≡ pace s (H.told host.old) }
     ensures ordered { course (H.told host.new) ≡ course (H.told host.old) }
     ensures noticed { IfOk result (λ a. notices (H.told host.new) ≡ first_noticed (notices (H.told host.old)) (refusal_noticed a.refused)) }
@@ -177,6 +181,7 @@ pub fn opened<H: Host>(
     ensures told { IsTold ⟦<H::Disk as Disk>⟧ (H.told host.new) core.new }
     ensures still { (s : ℕ) → running s (H.told host.new) ≡ running s (H.told host.old) }
     ensures quiet { (s : ℕ) → passed s (H.told host.new) ≡ passed s (H.told host.old) }
+    ensures handing { (f : ℕ → Bool) → handed f (H.told host.new) ≡ handed f (H.told host.old) }
     ensures paced { (s : ℕ) → pace s (H.told host.new) ≡ pace s (H.told host.old) }
     ensures few { IfOk result (λ a. length a.objects ≤ 64) }
     ensures ordered { course (H.told host.new) ≡ course (Stepped (Step.Open name width height document.session document.objects) ∷ H.told host.old) }
@@ -207,6 +212,7 @@ pub fn reap<H: Host>(
     ensures told { IsTold ⟦<H::Disk as Disk>⟧ (H.told host.new) core.new }
     ensures still { (s : ℕ) → running s (H.told host.new) ≡ running s (H.told host.old) }
     ensures quiet { (s : ℕ) → passed s (H.told host.new) ≡ passed s (H.told host.old) }
+    ensures handing { (f : ℕ → Bool) → handed f (H.told host.new) ≡ handed f (H.told host.old) }
     ensures paced { (s : ℕ) → pace s (H.told host.new) ≡ pace s (H.told host.old) }
     ensures ordered { course (H.told host.new) ≡ course (H.told host.old) }
     ensures noticed { notices (H.told host.new) ≡ notices (H.told host.old) }
@@ -240,6 +246,7 @@ pub fn committed<H: Host>(
     ensures told { IsTold ⟦<H::Disk as Disk>⟧ (H.told host.new) core.new }
     ensures still { (s : ℕ) → running s (H.told host.new) ≡ running s (H.told host.old) }
     ensures quiet { (s : ℕ) → passed s (H.told host.new) ≡ passed s (H.told host.old) }
+    ensures handing { (f : ℕ → Bool) → handed f (H.told host.new) ≡ handed f (H.told host.old) }
     ensures paced { (s : ℕ) → pace s (H.told host.new) ≡ pace s (H.told host.old) }
     ensures ordered { course (H.told host.new) ≡ course (H.told host.old) }
     ensures noticed { notices (H.told host.new) ≡ notices (H.told host.old) }
@@ -265,6 +272,7 @@ pub fn failed<H: Host>(
     ensures told { IsTold ⟦<H::Disk as Disk>⟧ (H.told host.new) core.new }
     ensures still { (s : ℕ) → running s (H.told host.new) ≡ running s (H.told host.old) }
     ensures quiet { (s : ℕ) → passed s (H.told host.new) ≡ passed s (H.told host.old) }
+    ensures handing { (f : ℕ → Bool) → handed f (H.told host.new) ≡ handed f (H.told host.old) }
     ensures paced { (s : ℕ) → pace s (H.told host.new) ≡ pace s (H.told host.old) }
     ensures ordered { course (H.told host.new) ≡ course (H.told host.old) }
     ensures noticed { notices (H.told host.new) ≡ first_noticed (notices (H.told host.old)) (Some (lost_as (image core.old frame))) }
@@ -286,6 +294,7 @@ pub fn dropped<H: Host>(
     ensures told { IsTold ⟦<H::Disk as Disk>⟧ (H.told host.new) core.new }
     ensures still { (s : ℕ) → running s (H.told host.new) ≡ running s (H.told host.old) }
     ensures quiet { (s : ℕ) → passed s (H.told host.new) ≡ passed s (H.told host.old) }
+    ensures handing { (f : ℕ → Bool) → handed f (H.told host.new) ≡ handed f (H.told host.old) }
     ensures paced { (s : ℕ) → pace s (H.told host.new) ≡ pace s (H.told host.old) }
     ensures ordered { course (H.told host.new) ≡ course (H.told host.old) }
     ensures noticed { notices (H.told host.new) ≡ notices (H.told host.old) }

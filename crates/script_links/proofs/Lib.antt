@@ -1,4 +1,5 @@
 pub mod Calls
+pub mod Handing
 pub mod Linked
 pub mod Paces
 pub mod Served

@@ -12,12 +12,13 @@ ghost use Rattle.script_model.specs.Origins.{AreNext, fresh, giving, passed};
 ghost use Rattle.script_model.specs.Turns.{spelled_to, turn_of};
 ghost use Rattle.script_model.specs.declared.host.HostFault.TheVariants as host;
 ghost use Rattle.script_container.specs.Beside.{beside};
+ghost use Rattle.script_container.specs.Handed.{handed};
 ghost use Rattle.script_container.specs.Shown.{Shows};
 ghost use Rattle.script_container.specs.Told.{IsTold};
 ghost use Rattle.script_container.specs.declared.fault.ScriptFault.TheVariants.{NoMemory};
 ghost use Rattle.script_links.specs.Links.{IsServed};
 ghost use Rattle.script_links.specs.Ready.{GoesOn, HadTurn, HasLeft, IsReady, MayLink, pace_beside};
-ghost use Rattle.std.specs.Prelude.{◌≡◌, ◌≢◌, ◌++◌, ◌∷◌, [], Err, IfErr, IfOk, MatchResult, OnOk, Option, false, is_ok, ℕ};
+ghost use Rattle.std.specs.Prelude.{◌≡◌, ◌≢◌, ◌++◌, ◌∷◌, [], Bool, Err, IfErr, IfOk, MatchResult, OnOk, Option, false, is_ok, ℕ};
 
 use crate::waiting::Waiting;
 use container_core::container::ContainerCore;
@@ -158,6 +159,7 @@ pub fn send_turn<H: Host>(
     ensures told { IsTold ⟦<H::Disk as Disk>⟧ (H.told host.new) core.now }
     ensures still { (s : ℕ) → running s (H.told host.new) ≡ running s (H.told host.old) }
     ensures quiet { (s : ℕ) → passed s (H.told host.new) ≡ passed s (H.told host.old) }
+    ensures handing { (f : ℕ → Bool) → handed f (H.told host.new) ≡ handed f (H.told host.old) }
     ensures aside { (s : ℕ) → pace_beside inc s (H.told host.new) ≡ pace_beside inc s (H.told host.old) }
     ensures sent { OnOk result (pace inc (H.told host.new) ≡ sending (pace inc (H.told host.old))) }
     ensures ordered { course (H.told host.new) ≡ course (H.told host.old) }
@@ -207,6 +209,7 @@ pub fn hand_over<H: Host>(
     ensures told { IsTold ⟦<H::Disk as Disk>⟧ (H.told host.new) core.new }
     ensures still { (s : ℕ) → running s (H.told host.new) ≡ running s (H.told host.old) }
     ensures apart { (s : ℕ) → beside inc s (H.told host.new) ≡ beside inc s (H.told host.old) }
+    ensures handing { (f : ℕ → Bool) → f inc ≡ false → handed f (H.told host.new) ≡ handed f (H.told host.old) }
     ensures given { passed inc (H.told host.new) ≡ giving (taken ∷ []) (passed inc (H.told host.old)) }
     ensures paced { (s : ℕ) → pace s (H.told host.new) ≡ pace s (H.told host.old) }
     ensures ordered { course (H.told host.new) ≡ course (H.told host.old) }
@@ -245,6 +248,7 @@ fn meet<H: Host>(
     ensures seen { OnOk result (Tells (notices (H.told host.new)) noticed.new) }
     ensures shown { IfErr result (λ fault. Shows ⟦<H::Disk as Disk>⟧ (H.told host.new) fault) }
     ensures holding { link.new.held ≡ link.old.held }
+    ensures handing { (f : ℕ → Bool) → f link.old.inc ≡ link.old.held → handed f (H.told host.new) ≡ handed f (H.told host.old) }
 {
     if link.held {
         link.waiting.push(taken)?;
@@ -275,6 +279,7 @@ fn take_frames<H: Host>(
     ensures seen { OnOk result (Tells (notices (H.told host.new)) noticed.new) }
     ensures shown { IfErr result (λ fault. Shows ⟦<H::Disk as Disk>⟧ (H.told host.new) fault) }
     ensures holding { link.new.held ≡ link.old.held }
+    ensures handing { (f : ℕ → Bool) → f link.old.inc ≡ link.old.held → handed f (H.told host.new) ≡ handed f (H.told host.old) }
 {
     for _ in 0..=PIECE {
         match link.decoder.next() {
@@ -313,6 +318,7 @@ fn read_some<H: Host>(
     ensures noticed { notices (H.told host.new) ≡ notices (H.told host.old) }
     ensures shown { IfErr result (λ fault. Shows ⟦<H::Disk as Disk>⟧ (H.told host.new) fault) }
     ensures holding { link.new.held ≡ link.old.held }
+    ensures handing { (f : ℕ → Bool) → handed f (H.told host.new) ≡ handed f (H.told host.old) }
 {
     let n = match host.read(link.inc, buffer) {
         Ok(n) => n,
@@ -357,6 +363,7 @@ fn hear<H: Host>(
     ensures seen { OnOk result (Tells (notices (H.told host.new)) noticed.new) }
     ensures shown { IfErr result (λ fault. Shows ⟦<H::Disk as Disk>⟧ (H.told host.new) fault) }
     ensures holding { link.new.held ≡ link.old.held }
+    ensures handing { (f : ℕ → Bool) → f link.old.inc ≡ link.old.held → handed f (H.told host.new) ≡ handed f (H.told host.old) }
 {
     while *reads > 0 {
         let heard = take_frames(alloc, host, core, link, noticed)?;
@@ -397,6 +404,7 @@ fn exchange<H: Host>(
     ensures seen { OnOk result (Tells (notices (H.told host.new)) noticed.new) }
     ensures shown { IfErr result (λ fault. Shows ⟦<H::Disk as Disk>⟧ (H.told host.new) fault) }
     ensures holding { link.new.held ≡ link.old.held }
+    ensures handing { (f : ℕ → Bool) → f link.old.inc ≡ link.old.held → handed f (H.told host.new) ≡ handed f (H.told host.old) }
 {
     if !send_turn(alloc, host, core, link.inc)? {
         return Ok(Heard::Failed);
@@ -421,6 +429,7 @@ pub fn reconnect<H: Host>(alloc: Global, host: &mut H, link: &mut Link) -> Resul
     ensures noticed { notices (H.told host.new) ≡ notices (H.told host.old) }
     ensures lacking { IfErr result (λ fault. fault ≡ NoMemory) }
     ensures holding { link.new.held ≡ link.old.held }
+    ensures handing { (f : ℕ → Bool) → handed f (H.told host.new) ≡ handed f (H.told host.old) }
 {
     link.decoder = Decoder::new(alloc);
     is_done(host.connect(link.inc))
@@ -450,6 +459,7 @@ pub fn serve<H: Host>(
     ensures seen { OnOk result (Tells (notices (H.told host.new)) noticed.new) }
     ensures shown { IfErr result (λ fault. Shows ⟦<H::Disk as Disk>⟧ (H.told host.new) fault) }
     ensures holding { link.new.held ≡ link.old.held }
+    ensures handing { (f : ℕ → Bool) → f link.old.inc ≡ link.old.held → handed f (H.told host.new) ≡ handed f (H.told host.old) }
 {
     let mut reads = MOST_READS;
     match exchange(alloc, host, core, link, noticed, buffer, &mut reads)? {

@@ -3,7 +3,9 @@ pub mod Came
 pub mod Carried
 pub mod Coursed
 pub mod Faulted
+pub mod Handing
 pub mod Held
+pub mod HeldBack
 pub mod Holding
 pub mod Lines
 pub mod Ordered

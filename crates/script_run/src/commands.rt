@@ -22,6 +22,7 @@ ghost use Rattle.script_links.specs.Shown.{AreQuiet, Shows};
 ghost use Rattle.script_links.specs.Told.{IsTold};
 ghost use Rattle.script_run.specs.Printed.{HasLine, IsBeginning, IsBegunWith, IsCut, IsShown, told_of_server};
 ghost use Rattle.script_run.specs.Starts.{AreIn};
+ghost use Rattle.script_container.specs.Handed.{handed};
 ghost use Rattle.script_container.specs.declared.fault.ScriptFault.TheVariants.{NoMemory, Unwritable};
 ghost use Rattle.script_links.specs.declared.links.Link.{Link};
 ghost use Rattle.std.specs.Prelude.{◌≡◌, ◌≢◌, ◌≤◌, ◌<◌, ◌++◌, ◌∷◌, Bool, [], false, true, IfErr, IfNone, IfOk, IfSome, List, MatchResult, OnOk, Some, length, ℕ, slice_index_or, slice_set, vec_capacity, vec_len};
@@ -79,6 +80,7 @@ fn start<H: Host>(
     ensures linked { AreLinked (H.told host.new) links.new.items }
     ensures served { AreServed (H.told host.new) links.new.items }
     ensures paced { (s : ℕ) → pace s (H.told host.new) ≡ pace s (H.told host.old) }
+    ensures handing { (f : ℕ → Bool) → handed f (H.told host.new) ≡ handed f (H.told host.old) }
     ensures ordered { but_starts (course (H.told host.new)) ≡ but_starts (course (H.told host.old)) }
     ensures noticed { notices (H.told host.new) ≡ notices (H.told host.old) }
     ensures tried { OnOk result ((course (H.told host.new)).unstarted ≡ without inc (course (H.told host.old)).unstarted) }
@@ -126,6 +128,7 @@ fn end<H: Host>(
     ensures linked { AreLinked (H.told host.new) links.new.items }
     ensures served { AreServed (H.told host.new) links.new.items }
     ensures paced { (s : ℕ) → pace s (H.told host.new) ≡ pace s (H.told host.old) }
+    ensures handing { (f : ℕ → Bool) → handed f (H.told host.new) ≡ handed f (H.told host.old) }
     ensures ordered { course (H.told host.new) ≡ course (H.told host.old) }
     ensures seen { OnOk result (Tells (notices (H.told host.new)) noticed.new) }
     ensures shown { IfErr result (λ fault. Shows ⟦<H::Disk as Disk>⟧ (H.told host.new) fault) }
@@ -153,6 +156,7 @@ fn start_on<H: Host>(
     ensures linked { AreLinked (H.told host.new) links.new.items }
     ensures served { AreServed (H.told host.new) links.new.items }
     ensures paced { (s : ℕ) → pace s (H.told host.new) ≡ pace s (H.told host.old) }
+    ensures handing { (f : ℕ → Bool) → handed f (H.told host.new) ≡ handed f (H.told host.old) }
     ensures ordered { but_starts (course (H.told host.new)) ≡ but_starts (course (H.told host.old)) }
     ensures noticed { notices (H.told host.new) ≡ notices (H.told host.old) }
     ensures tried { (incs : List ℕ) → AreIn (course (H.told host.old)).unstarted (with_start action.now incs) → OnOk result (AreIn (course (H.told host.new)).unstarted incs) }
@@ -182,6 +186,7 @@ fn start_asked<H: Host>(
     ensures linked { AreLinked (H.told host.new) links.new.items }
     ensures served { AreServed (H.told host.new) links.new.items }
     ensures paced { (s : ℕ) → pace s (H.told host.new) ≡ pace s (H.told host.old) }
+    ensures handing { (f : ℕ → Bool) → handed f (H.told host.new) ≡ handed f (H.told host.old) }
     ensures ordered { but_starts (course (H.told host.new)) ≡ but_starts (course (H.told host.old)) }
     ensures noticed { notices (H.told host.new) ≡ notices (H.told host.old) }
     ensures tried { OnOk result ((course (H.told host.new)).unstarted ≡ []) }
@@ -214,6 +219,7 @@ fn end_on<H: Host>(
     ensures linked { AreLinked (H.told host.new) links.new.items }
     ensures served { AreServed (H.told host.new) links.new.items }
     ensures paced { (s : ℕ) → pace s (H.told host.new) ≡ pace s (H.told host.old) }
+    ensures handing { (f : ℕ → Bool) → handed f (H.told host.new) ≡ handed f (H.told host.old) }
     ensures ordered { course (H.told host.new) ≡ course (H.told host.old) }
     ensures seen { OnOk result (Tells (notices (H.told host.new)) noticed.new) }
     ensures shown { IfErr result (λ fault. Shows ⟦<H::Disk as Disk>⟧ (H.told host.new) fault) }
@@ -242,6 +248,7 @@ fn end_asked<H: Host>(
     ensures linked { AreLinked (H.told host.new) links.new.items }
     ensures served { AreServed (H.told host.new) links.new.items }
     ensures paced { (s : ℕ) → pace s (H.told host.new) ≡ pace s (H.told host.old) }
+    ensures handing { (f : ℕ → Bool) → handed f (H.told host.new) ≡ handed f (H.told host.old) }
     ensures ordered { course (H.told host.new) ≡ course (H.told host.old) }
     ensures seen { OnOk result (Tells (notices (H.told host.new)) noticed.new) }
     ensures shown { IfErr result (λ fault. Shows ⟦<H::Disk as Disk>⟧ (H.told host.new) fault) }
@@ -273,6 +280,7 @@ fn act<H: Host>(
     ensures linked { AreLinked (H.told host.new) links.new.items }
     ensures served { AreServed (H.told host.new) links.new.items }
     ensures paced { (s : ℕ) → pace s (H.told host.new) ≡ pace s (H.told host.old) }
+    ensures handing { (f : ℕ → Bool) → handed f (H.told host.new) ≡ handed f (H.told host.old) }
     ensures ordered { but_starts (course (H.told host.new)) ≡ but_starts (course (H.told host.old)) }
     ensures tried { OnOk result ((course (H.told host.new)).unstarted ≡ []) }
     ensures seen { OnOk result (Tells (notices (H.told host.new)) noticed.new) }
@@ -304,6 +312,7 @@ fn give<H: Host>(
     ensures linked { AreLinked (H.told host.new) links.new.items }
     ensures served { AreServed (H.told host.new) links.new.items }
     ensures paced { (s : ℕ) → pace s (H.told host.new) ≡ pace s (H.told host.old) }
+    ensures handing { (f : ℕ → Bool) → handed f (H.told host.new) ≡ handed f (H.told host.old) }
     ensures ordered { but_starts (course (H.told host.new)) ≡ but_starts (course (Stepped (Step.Command ordered) ∷ H.told host.old)) }
     ensures tried { OnOk result ((course (H.told host.new)).unstarted ≡ []) }
     ensures answered { IfOk result (λ t. t ≡ told_by (on_command core.old ordered)) }
@@ -349,6 +358,7 @@ fn raise<H: Host>(
     ensures still { (s : ℕ) → running s (H.told host.new) ≡ running s (H.told host.old) }
     ensures quiet { (s : ℕ) → passed s (H.told host.new) ≡ passed s (H.told host.old) }
     ensures paced { (s : ℕ) → pace s (H.told host.new) ≡ pace s (H.told host.old) }
+    ensures handing { (f : ℕ → Bool) → handed f (H.told host.new) ≡ handed f (H.told host.old) }
     ensures ordered { but_starts (course (H.told host.new)) ≡ but_starts (course (Stepped (Step.Command asks.Session) ∷ H.told host.old)) }
     ensures tried { OnOk result ((course (H.told host.new)).unstarted ≡ []) }
     ensures answered { IfOk result (λ t. t ≡ told_by (on_command core.old asks.Session)) }
@@ -383,6 +393,7 @@ fn start_first<H: Host>(
     ensures linked { AreLinked (H.told host.new) links.new.items }
     ensures served { AreServed (H.told host.new) links.new.items }
     ensures paced { (s : ℕ) → pace s (H.told host.new) ≡ pace s (H.told host.old) }
+    ensures handing { (f : ℕ → Bool) → handed f (H.told host.new) ≡ handed f (H.told host.old) }
     ensures ordered { OnOk result (orders (H.told host.new) ≡ behind_given asks.Start (orders (H.told host.old))) }
     ensures begun { IsBegun (script.Container asks.Start) (orders (H.told host.old)) (orders (H.told host.new)) }
     ensures standing { (course (H.told host.new)).begun ≡ (course (H.told host.old)).begun }
@@ -418,6 +429,7 @@ fn order<H: Host>(
     ensures linked { AreLinked (H.told host.new) links.new.items }
     ensures served { AreServed (H.told host.new) links.new.items }
     ensures paced { (s : ℕ) → pace s (H.told host.new) ≡ pace s (H.told host.old) }
+    ensures handing { (f : ℕ → Bool) → handed f (H.told host.new) ≡ handed f (H.told host.old) }
     ensures ordered { OnOk result (orders (H.told host.new) ≡ behind_given ordered (orders (H.told host.old))) }
     ensures begun { IsBegun (script.Container ordered) (orders (H.told host.old)) (orders (H.told host.new)) }
     ensures standing { (course (H.told host.new)).begun ≡ (course (H.told host.old)).begun }
@@ -456,6 +468,7 @@ fn cut<H: Host>(
     ensures seen { OnOk result (Tells (notices (H.told host.new)) noticed.new) }
     ensures shown { IfErr result (λ fault. Shows ⟦<H::Disk as Disk>⟧ (H.told host.new) fault) }
     ensures holding { (f : ℕ → Bool) → HoldFor f links.old.items → HoldFor f links.new.items }
+    ensures handing { (f : ℕ → Bool) → handed f (H.told host.new) ≡ handed f (H.told host.old) }
 {
     let inc = links[place].inc;
     send_turn(alloc, host, core, inc)?;
@@ -481,6 +494,7 @@ fn hand_all<H: Host>(
     ensures told { IsTold ⟦<H::Disk as Disk>⟧ (H.told host.new) core.new }
     ensures still { (s : ℕ) → running s (H.told host.new) ≡ running s (H.told host.old) }
     ensures apart { (s : ℕ) → beside inc s (H.told host.new) ≡ beside inc s (H.told host.old) }
+    ensures handing { (f : ℕ → Bool) → f inc ≡ false → handed f (H.told host.new) ≡ handed f (H.told host.old) }
     ensures given { IfOk result (λ all. all ≡ true → passed inc (H.told host.new) ≡ giving waiting (passed inc (H.told host.old))) }
     ensures paced { (s : ℕ) → pace s (H.told host.new) ≡ pace s (H.told host.old) }
     ensures ordered { course (H.told host.new) ≡ course (H.told host.old) }
@@ -533,6 +547,7 @@ fn reconnect_at<H: Host>(
     ensures ordered { course (H.told host.new) ≡ course (H.told host.old) }
     ensures noticed { notices (H.told host.new) ≡ notices (H.told host.old) }
     ensures holding { (f : ℕ → Bool) → HoldFor f links.old.items → HoldFor f links.new.items }
+    ensures handing { (f : ℕ → Bool) → handed f (H.told host.new) ≡ handed f (H.told host.old) }
 {
     reconnect(alloc, host, &mut links[place])
 }
@@ -555,6 +570,7 @@ fn release<H: Host>(
     ensures linked { AreLinked (H.told host.new) links.new.items }
     ensures served { OnOk result (AreServed (H.told host.new) links.new.items) }
     ensures paced { (s : ℕ) → pace s (H.told host.new) ≡ pace s (H.told host.old) }
+    ensures handing { (f : ℕ → Bool) (inc : ℕ) → IsLinkAt links.old.items place inc → f inc ≡ false → handed f (H.told host.new) ≡ handed f (H.told host.old) }
     ensures ordered { course (H.told host.new) ≡ course (H.told host.old) }
     ensures seen { OnOk result (Tells (notices (H.told host.new)) noticed.new) }
     ensures shown { IfErr result (λ fault. Shows ⟦<H::Disk as Disk>⟧ (H.told host.new) fault) }
@@ -601,6 +617,7 @@ fn cut_link<H: Host>(
     ensures seen { OnOk result (Tells (notices (H.told host.new)) noticed.new) }
     ensures shown { IfErr result (λ fault. Shows ⟦<H::Disk as Disk>⟧ (H.told host.new) fault) }
     ensures holding { (f : ℕ → Bool) → HoldFor f links.old.items → HoldFor f links.new.items }
+    ensures handing { (f : ℕ → Bool) → handed f (H.told host.new) ≡ handed f (H.told host.old) }
 {
     let Some(place) = place_of(links, inc) else {
         return Ok(Told::Fault(ContainerFault::NoSuch));
@@ -632,6 +649,7 @@ fn release_link<H: Host>(
     ensures seen { OnOk result (Tells (notices (H.told host.new)) noticed.new) }
     ensures shown { IfErr result (λ fault. Shows ⟦<H::Disk as Disk>⟧ (H.told host.new) fault) }
     ensures holding { (f : ℕ → Bool) → HoldFor f links.old.items → HoldFor (λ s. behind_hold (script.Release inc) s (f s)) links.new.items }
+    ensures handing { (f : ℕ → Bool) → f inc ≡ false → handed f (H.told host.new) ≡ handed f (H.told host.old) }
 {
     let Some(place) = place_of(links, inc) else {
         return Ok(Told::Fault(ContainerFault::NoSuch));
@@ -700,6 +718,7 @@ fn begin<H: Host>(
     ensures seen { OnOk result (Tells (notices (H.told host.new)) noticed.new) }
     ensures shown { IfErr result (λ fault. Shows ⟦<H::Disk as Disk>⟧ (H.told host.new) fault) }
     ensures holding { (f : ℕ → Bool) → AreHeld f links.old.items → HoldFor (λ s. behind_hold command s (f s)) links.new.items }
+    ensures handing { (f : ℕ → Bool) → handed (λ s. behind_hold command s (f s)) (H.told host.new) ≡ 0 }
 {
     match command {
         ScriptCommand::Container(ordered) => order(alloc, host, core, links, ordered, noticed),
@@ -740,6 +759,7 @@ pub(crate) fn carry_out<H: Host, W: Write>(
     ensures unwritten { IfErr result (λ fault. fault ≢ Unwritable → W.contents writer.new ≡ W.contents writer.old) }
     ensures shown { IfErr result (λ fault. Shows ⟦<H::Disk as Disk>⟧ (H.told host.new) fault) }
     ensures holding { (f : ℕ → Bool) → AreHeld f links.old.items → HoldFor (λ s. behind_hold command s (f s)) links.new.items }
+    ensures handing { (f : ℕ → Bool) → AreHeld f links.old.items → handed (λ s. behind_hold command s (f s)) (H.told host.new) ≡ 0 }
 {
     let mut noticed = None;
     let mut text = Vec::new(alloc);

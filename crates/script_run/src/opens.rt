@@ -11,10 +11,11 @@ ghost use Rattle.script_model.specs.Notices.{notices};
 ghost use Rattle.script_model.specs.Origins.{passed};
 ghost use Rattle.script_model.specs.Saved.{IsReadFrom, IsReadOf};
 ghost use Rattle.script_model.specs.declared.answer.Told.TheVariants as told;
+ghost use Rattle.script_container.specs.Handed.{handed};
 ghost use Rattle.script_links.specs.Told.{IsTold};
 ghost use Rattle.script_container.specs.declared.fault.ScriptFault.TheVariants.{NoMemory};
 ghost use Rattle.script_run.specs.Printed.{HoldsMore, IsJustFound, IsOpenTold, IsOpenedBy, looked};
-ghost use Rattle.std.specs.Prelude.{◌≡◌, ◌⊎◌, ℕ, Err, IfErr, IfOk, Some};
+ghost use Rattle.std.specs.Prelude.{◌≡◌, ◌⊎◌, ℕ, Bool, Err, IfErr, IfOk, Some};
 
 use crate::refusals::refusal;
 use container_core::container::ContainerCore;
@@ -66,6 +67,7 @@ fn make_frame<H: Host>(
     ensures told { IsTold ⟦<H::Disk as Disk>⟧ (H.told host.new) core.new }
     ensures still { (s : ℕ) → running s (H.told host.new) ≡ running s (H.told host.old) }
     ensures quiet { (s : ℕ) → passed s (H.told host.new) ≡ passed s (H.told host.old) }
+    ensures handing { (f : ℕ → Bool) → handed f (H.told host.new) ≡ handed f (H.told host.old) }
     ensures paced { (s : ℕ) → pace s (H.told host.new) ≡ pace s (H.told host.old) }
     ensures ordered { but_opening (course (H.told host.new)) ≡ but_opening (course (H.told host.old)) }
     ensures noticed { notices (H.told host.new) ≡ notices (H.told host.old) }
@@ -93,6 +95,7 @@ fn open_found<H: Host>(
     ensures told { IsTold ⟦<H::Disk as Disk>⟧ (H.told host.new) core.new }
     ensures still { (s : ℕ) → running s (H.told host.new) ≡ running s (H.told host.old) }
     ensures quiet { (s : ℕ) → passed s (H.told host.new) ≡ passed s (H.told host.old) }
+    ensures handing { (f : ℕ → Bool) → handed f (H.told host.new) ≡ handed f (H.told host.old) }
     ensures paced { (s : ℕ) → pace s (H.told host.new) ≡ pace s (H.told host.old) }
     ensures ordered { but_opening (course (H.told host.new)) ≡ but_opening (course (H.told host.old)) }
     ensures noticed { notices (H.told host.new) ≡ notices (H.told host.old) }
@@ -147,6 +150,7 @@ fn open_disk<H: Host>(
     ensures told { IsTold ⟦<H::Disk as Disk>⟧ (H.told host.new) core.new }
     ensures still { (s : ℕ) → running s (H.told host.new) ≡ running s (H.told host.old) }
     ensures quiet { (s : ℕ) → passed s (H.told host.new) ≡ passed s (H.told host.old) }
+    ensures handing { (f : ℕ → Bool) → handed f (H.told host.new) ≡ handed f (H.told host.old) }
     ensures paced { (s : ℕ) → pace s (H.told host.new) ≡ pace s (H.told host.old) }
     ensures ordered { but_opening (course (H.told host.new)) ≡ but_opening (course (H.told host.old)) }
     ensures noticed { notices (H.told host.new) ≡ notices (H.told host.old) }
@@ -174,6 +178,7 @@ fn open_named<H: Host>(
     ensures told { IsTold ⟦<H::Disk as Disk>⟧ (H.told host.new) core.new }
     ensures still { (s : ℕ) → running s (H.told host.new) ≡ running s (H.told host.old) }
     ensures quiet { (s : ℕ) → passed s (H.told host.new) ≡ passed s (H.told host.old) }
+    ensures handing { (f : ℕ → Bool) → handed f (H.told host.new) ≡ handed f (H.told host.old) }
     ensures paced { (s : ℕ) → pace s (H.told host.new) ≡ pace s (H.told host.old) }
     ensures ordered { but_opening (course (H.told host.new)) ≡ but_opening (course (H.told host.old)) }
     ensures noticed { notices (H.told host.new) ≡ notices (H.told host.old) }
@@ -206,6 +211,7 @@ pub(crate) fn open<H: Host>(
     ensures told { IsTold ⟦<H::Disk as Disk>⟧ (H.told host.new) core.new }
     ensures still { (s : ℕ) → running s (H.told host.new) ≡ running s (H.told host.old) }
     ensures quiet { (s : ℕ) → passed s (H.told host.new) ≡ passed s (H.told host.old) }
+    ensures handing { (f : ℕ → Bool) → handed f (H.told host.new) ≡ handed f (H.told host.old) }
     ensures paced { (s : ℕ) → pace s (H.told host.new) ≡ pace s (H.told host.old) }
     ensures ordered { but_opening (course (H.told host.new)) ≡ but_opening (course (H.told host.old)) }
     ensures noticed { notices (H.told host.new) ≡ notices (H.told host.old) }

@@ -8,6 +8,7 @@ use Rattle.script_container.proofs.Noticed.{seen_still}
 use Rattle.script_container.proofs.Shown.{memory_shown}
 use Rattle.script_model.specs.Bounds.{pace}
 use Rattle.script_model.specs.Courses.{course}
+use Rattle.script_model.specs.Errors.{behind_hold}
 use Rattle.script_model.specs.Events.{running}
 use Rattle.script_model.specs.Notices.{Tells, notices}
 use Rattle.script_model.specs.Orders.{asked, behind_command, orders}
@@ -19,6 +20,7 @@ use Rattle.script_run.proofs.Held.{as_command}
 use Rattle.script_run.proofs.Lines.{begins_idle, begins_unasked, begun_by, begun_screen, begun_with, ran_begun, record_begun}
 use Rattle.script_run.proofs.Ordered.{as_begun, as_ordered, none_begun, none_ordered}
 use Rattle.script_run.specs.Printed.{IsCut, IsOpenTold, told_of_server}
+use Rattle.script_run.proofs.Handing.{none_handed, released}
 use Rattle.script_run.proofs.commands.begin.Goals as goal
 
 pub returns-in-Container-clause-ready : goal.returns-in-Container-clause-ready
@@ -178,3 +180,22 @@ returns-in-Release-clause-first g c =
     let ran = ran_begun (g.H.Host.told c.args.host.now) c.requires.begins c.in-Release.inc in
     begun_by g.H.Disk.Disk (g.H.Host.told c.args.host.now) (g.H.Host.told c.release_link.new.host) c.requires.begins (begun_same (g.H.Host.told c.args.host.now) (g.H.Host.told c.release_link.new.host) c.release_link.ensures.ordered) c.release_link.result c.args.command
     (script.Release c.in-Release.inc) c.args.text.now.items c.args.text.now.items (λ t. t ≡ told_of_server (running c.in-Release.inc (g.H.Host.told c.args.host.now))) c.in-Release.is refl (λ t p. (refl, p ∙ ap told_of_server ran)) c.release_link.ensures.first
+
+pub returns-in-Container-clause-handing : goal.returns-in-Container-clause-handing
+returns-in-Container-clause-handing g c = λ f. c.order.ensures.handing (λ s. behind_hold c.args.command s (f s)) ∙ none_handed (g.H.Host.told c.args.host.now) c.requires.begins (λ s. behind_hold c.args.command s (f s))
+
+pub returns-in-Open-clause-handing : goal.returns-in-Open-clause-handing
+returns-in-Open-clause-handing g c = λ f. c.open.ensures.handing (λ s. behind_hold c.args.command s (f s)) ∙ none_handed (g.H.Host.told c.args.host.now) c.requires.begins (λ s. behind_hold c.args.command s (f s))
+
+pub returns-in-Screen-clause-handing : goal.returns-in-Screen-clause-handing
+returns-in-Screen-clause-handing g c = λ f. none_handed (g.H.Host.told c.args.host.now) c.requires.begins (λ s. behind_hold c.args.command s (f s))
+
+pub returns-in-Cut-clause-handing : goal.returns-in-Cut-clause-handing
+returns-in-Cut-clause-handing g c = λ f. c.cut_link.ensures.handing (λ s. behind_hold c.args.command s (f s)) ∙ none_handed (g.H.Host.told c.args.host.now) c.requires.begins (λ s. behind_hold c.args.command s (f s))
+
+pub returns-in-Hold-clause-handing : goal.returns-in-Hold-clause-handing
+returns-in-Hold-clause-handing g c = λ f. none_handed (g.H.Host.told c.args.host.now) c.requires.begins (λ s. behind_hold c.args.command s (f s))
+
+pub returns-in-Release-clause-handing : goal.returns-in-Release-clause-handing
+returns-in-Release-clause-handing g c = λ f.
+    c.release_link.ensures.handing (λ s. behind_hold c.args.command s (f s)) (released c.args.command c.in-Release.inc (f c.in-Release.inc) c.in-Release.is) ∙ none_handed (g.H.Host.told c.args.host.now) c.requires.begins (λ s. behind_hold c.args.command s (f s))

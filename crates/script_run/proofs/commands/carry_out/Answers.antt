@@ -91,3 +91,21 @@ returns-in-Ok-clause-printed g c =
     (g.W.Write.contents c.args.writer.now) (g.W.Write.contents c.write_all.new.writer) c.new-text.ensures.items c.turns.ensures.ordered c.in_ok-turns.ensures.anew c.in_ok-told.ensures.first c.in_ok-turns.ensures.seen
     (c.in_ok-push_told.ensures ∙ ap (λ (t : Told). c.begin.new.text.items ++ told_line t) c.further.ensures)
     (subst (λ (b : List ℕ). Appends (g.W.Write.contents c.args.writer.now) (g.W.Write.contents c.write_all.new.writer) b) c.deref.ensures.value c.in-Ok.ensures)
+
+pub returns-in_err-told-clause-handing : goal.returns-in_err-told-clause-handing
+returns-in_err-told-clause-handing g c = λ f hold. c.begin.ensures.handing f
+
+pub returns-in_err-turns-clause-handing : goal.returns-in_err-turns-clause-handing
+returns-in_err-turns-clause-handing g c = λ f hold. c.turns.ensures.handing (λ s. behind_hold c.args.command s (f s)) (c.begin.ensures.holding f hold) ∙ c.begin.ensures.handing f
+
+pub returns-then-is_any_unsaved-clause-handing : goal.returns-then-is_any_unsaved-clause-handing
+returns-then-is_any_unsaved-clause-handing g c = λ f hold. c.turns.ensures.handing (λ s. behind_hold c.args.command s (f s)) (c.begin.ensures.holding f hold) ∙ c.begin.ensures.handing f
+
+pub returns-in_err-push_told-clause-handing : goal.returns-in_err-push_told-clause-handing
+returns-in_err-push_told-clause-handing g c = λ f hold. c.turns.ensures.handing (λ s. behind_hold c.args.command s (f s)) (c.begin.ensures.holding f hold) ∙ c.begin.ensures.handing f
+
+pub returns-in-Ok-clause-handing : goal.returns-in-Ok-clause-handing
+returns-in-Ok-clause-handing g c = λ f hold. c.turns.ensures.handing (λ s. behind_hold c.args.command s (f s)) (c.begin.ensures.holding f hold) ∙ c.begin.ensures.handing f
+
+pub returns-clause-handing : goal.returns-clause-handing
+returns-clause-handing g c = λ f hold. c.turns.ensures.handing (λ s. behind_hold c.args.command s (f s)) (c.begin.ensures.holding f hold) ∙ c.begin.ensures.handing f

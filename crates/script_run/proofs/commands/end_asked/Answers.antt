@@ -8,6 +8,7 @@ loop-action-preserved g c = record {
   told = c.end_on.ensures.told;
   linked = c.end_on.ensures.linked;
   served = c.end_on.ensures.served;
+  handing = λ f. c.end_on.ensures.handing f ∙ c.loop-action.invariant.handing f;
   paced = λ s. c.end_on.ensures.paced s ∙ c.loop-action.invariant.paced s;
   holding = λ f hold. c.end_on.ensures.holding f (c.loop-action.invariant.holding f hold);
   ordered = c.end_on.ensures.ordered ∙ c.loop-action.invariant.ordered;

@@ -13,6 +13,7 @@ loop-taken-preserved g c =
       told = c.hand_over.ensures.told;
       still = λ s. c.hand_over.ensures.still s ∙ c.loop-taken.invariant.still s;
       apart = λ s. c.hand_over.ensures.apart s ∙ c.loop-taken.invariant.apart s;
+      handing = λ f free. c.hand_over.ensures.handing f free ∙ c.loop-taken.invariant.handing f free;
       paced = λ s. c.hand_over.ensures.paced s ∙ c.loop-taken.invariant.paced s;
       next = others_next (passed c.args.inc (g.H.Host.told c.loop-taken.host)) (passed c.args.inc (g.H.Host.told c.hand_over.new.host)) c.in-Some.taken (into_iter_items c.loop-taken.taken-iterator)
           (into_iter_items c.next.new.self) items c.hand_over.ensures.given c.loop-taken.invariant.next;
@@ -26,3 +27,9 @@ pub returns-in_err-hand_over-clause-shown : goal.returns-in_err-hand_over-clause
 returns-in_err-hand_over-clause-shown g c =
     let again : IsErrAnd c.from_residual.result (λ x. x ≡ c.in_err-hand_over.field-0.0) = search rules in
     passed_on g.H.Disk.Disk c.from_residual.result c.in_err-hand_over.field-0.0 (g.H.Host.told c.hand_over.new.host) again c.in_err-hand_over.ensures.shown
+
+pub returns-in_err-hand_over-clause-handing : goal.returns-in_err-hand_over-clause-handing
+returns-in_err-hand_over-clause-handing g c = λ f free. c.hand_over.ensures.handing f free ∙ c.loop-taken.invariant.handing f free
+
+pub returns-then-not-branch-clause-handing : goal.returns-then-not-branch-clause-handing
+returns-then-not-branch-clause-handing g c = λ f free. c.hand_over.ensures.handing f free ∙ c.loop-taken.invariant.handing f free

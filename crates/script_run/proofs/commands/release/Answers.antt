@@ -1,10 +1,10 @@
-use Rattle.std.proofs.Common.{◌≡◌, ◌==◌, false, [], if◌then◌else◌, rules, slice_index_or}
+use Rattle.std.proofs.Common.{◌≡◌, ◌==◌, false, [], if◌then◌else◌, rules, slice_index_or, ◌∙◌, ap}
 use Rattle.script_model.specs.Origins.{passed}
 use Rattle.script_links.specs.Links.{AreServed}
 use Rattle.script_links.proofs.Served.{on_ok, others_placed, release_next, release_served}
 use Rattle.std.specs.Result.{IsErrAnd}
 use Rattle.script_container.proofs.Shown.{passed_on}
-use Rattle.script_run.proofs.Held.{let_go_holds}
+use Rattle.script_run.proofs.Held.{let_go_holds, server_at}
 use Rattle.script_run.proofs.commands.release.Goals as goal
 
 pub hand_all-requires-clause-next : goal.hand_all-requires-clause-next
@@ -41,3 +41,12 @@ returns-then-branch-clause-holding g c = λ f inc at hold.
 pub returns-clause-holding : goal.returns-clause-holding
 returns-clause-holding g c = λ f inc at hold. c.end_at.ensures.holding (λ s. if inc == s then false else f s)
     (let_go_holds f (g.H.Host.told c.args.host.now) c.args.links.now.items c.let_go-waiting.new.links.items c.args.place inc c.index.result.now c.requires.within at c.requires.told.single c.requires.linked (c.let_go-waiting.ensures.changed c.index.result.now) hold)
+
+pub returns-in_err-hand_all-clause-handing : goal.returns-in_err-hand_all-clause-handing
+returns-in_err-hand_all-clause-handing g c = λ f inc at free. c.hand_all.ensures.handing f (ap f (server_at c.args.links.now.items c.args.place inc c.index.result.now c.requires.within c.index.ensures at) ∙ free)
+
+pub returns-then-branch-clause-handing : goal.returns-then-branch-clause-handing
+returns-then-branch-clause-handing g c = λ f inc at free. c.hand_all.ensures.handing f (ap f (server_at c.args.links.now.items c.args.place inc c.index.result.now c.requires.within c.index.ensures at) ∙ free)
+
+pub returns-clause-handing : goal.returns-clause-handing
+returns-clause-handing g c = λ f inc at free. c.end_at.ensures.handing f ∙ c.hand_all.ensures.handing f (ap f (server_at c.args.links.now.items c.args.place inc c.index.result.now c.requires.within c.index.ensures at) ∙ free)

@@ -35,3 +35,9 @@ returns-clause-first g c =
     told_some (running c.args.inc (g.H.Host.told c.args.host.now))
     (linked_runs c.args.inc (g.H.Host.told c.args.host.now) c.args.links.now.items c.requires.linked
     (linked_there c.args.inc c.args.links.now.items c.in-Some.place (subst (λ (ls : List Link). c.in-Some.place < length ls) c.deref.ensures.value c.in-Some.ensures.within) (subst (λ (ls : List Link). IsLinkAt ls c.in-Some.place c.args.inc) c.deref.ensures.value c.in-Some.ensures.there)))
+
+pub returns-in_err-release-clause-handing : goal.returns-in_err-release-clause-handing
+returns-in_err-release-clause-handing g c = λ f free. c.release.ensures.handing f c.args.inc (subst (λ (ls : List Link). IsLinkAt ls c.in-Some.place c.args.inc) c.deref.ensures.value c.in-Some.ensures.there) free
+
+pub returns-clause-handing : goal.returns-clause-handing
+returns-clause-handing g c = λ f free. c.release.ensures.handing f c.args.inc (subst (λ (ls : List Link). IsLinkAt ls c.in-Some.place c.args.inc) c.deref.ensures.value c.in-Some.ensures.there) free

@@ -20,6 +20,7 @@ loop-action-preserved g c = record {
   told = c.start_on.ensures.told;
   linked = c.start_on.ensures.linked;
   served = c.start_on.ensures.served;
+  handing = λ f. c.start_on.ensures.handing f ∙ c.loop-action.invariant.handing f;
   paced = λ s. c.start_on.ensures.paced s ∙ c.loop-action.invariant.paced s;
   holding = λ f hold. c.start_on.ensures.holding f (c.loop-action.invariant.holding f hold);
   ordered = c.start_on.ensures.ordered ∙ c.loop-action.invariant.ordered;
