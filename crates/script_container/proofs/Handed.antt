@@ -1,5 +1,5 @@
 -- What the container is given of servers.
-use Rattle.std.proofs.Common.{◌≡◌, ◌+◌, ◌≤◌, ℕ, Bool, true, false, List, ◌∷◌, if◌then◌else◌, refl, sym, ap, ◌∙◌, arith}
+use Rattle.std.proofs.Common.{◌≡◌, ◌+◌, ℕ, Bool, true, false, List, ◌∷◌, if◌then◌else◌, refl, ap, ◌∙◌}
 use Rattle.wire_msgs.specs.declared.message.Message.{Message}
 use Rattle.script_model.specs.declared.step.Step.TheVariants as step
 use Rattle.script_model.specs.Events.{Event, Stepped}

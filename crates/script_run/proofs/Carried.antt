@@ -11,7 +11,8 @@ use Rattle.script_model.specs.Errors.{behind_hold, is_held}
 use Rattle.script_model.specs.Events.{Event, Stepped}
 use Rattle.script_model.specs.Orders.{HaveBegun, IsBegun, behind_command, behind_commands, orders}
 use Rattle.script_run.specs.Holding.{IsStillHeld, held_in, runs}
-use Rattle.script_run.proofs.Holding.{both_later, held_more, held_now, held_on, hold_later, holds_more}
+use Rattle.script_commands.proofs.Held.{both_later}
+use Rattle.script_run.proofs.Holding.{held_more, held_now, held_on, hold_later, holds_more}
 
 -- Commands begin with those that were carried out, so many of them, and the rest is still to come. The links that hold what comes are
 -- those of the servers that run and are held.

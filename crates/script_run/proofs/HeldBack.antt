@@ -1,6 +1,6 @@
 -- What is given to the container while servers are held, one command more.
 use Rattle.std.proofs.Common.{◌≡◌, ◌+◌, ◌∙◌, ℕ, Bool, true, false, List, [], ◌∷◌, if◌then◌else◌, Option, Some, None, Ok, refl, sym, ap, subst, arith}
-use Rattle.std.specs.Prelude.{◌&&◌, IfSome, slice_get}
+use Rattle.std.specs.Prelude.{◌&&◌, IfSome}
 use Rattle.script_container.specs.Handed.{handed}
 use Rattle.script_model.specs.declared.command.ScriptCommand.{ScriptCommand}
 use Rattle.script_model.specs.declared.step.Step.{Step}
@@ -12,7 +12,7 @@ use Rattle.script_model.specs.Saved.{OfEachStep}
 use Rattle.script_links.specs.declared.links.Link.{Link}
 use Rattle.script_texts.specs.Commands.{commands_read}
 use Rattle.script_run.proofs.Carried.{SoFar, stands_at}
-use Rattle.script_run.proofs.Coursed.{shut_begun}
+use Rattle.script_commands.proofs.Coursed.{shut_begun}
 use Rattle.script_run.proofs.Holding.{by_begun, held_at, held_now}
 use Rattle.script_run.specs.HeldBack.{AreHeldBack, AreHeldBackOf, GivesFree}
 use Rattle.script_run.specs.Holding.{behind_place, held_in, runs}

@@ -14,15 +14,11 @@ use Rattle.script_model.specs.Courses.{course}
 use Rattle.script_model.specs.Errors.{before_ends, behind_hold, is_held}
 use Rattle.script_model.specs.Events.{Event, Started, Connected, Sent, Heard, Ended, Opened, Found, Shut, Stepped, running}
 use Rattle.script_texts.specs.Commands.{commands_read}
-use Rattle.script_run.proofs.Coursed.{shut_begun}
-use Rattle.script_run.proofs.Held.{hold_same, none_held}
+use Rattle.script_commands.proofs.Coursed.{shut_begun}
+use Rattle.script_commands.proofs.Held.{hold_same, none_held}
 use Rattle.script_run.specs.Holding.{AreReleased, AreReleasedOf, behind_place, held_in, is_some_of, runs}
 
 -- ---- both are so
-
-pub both_later : (b c : Bool) → (b && c) ≡ true → c ≡ true
-both_later true c is = is
-both_later false c is = absurd (cc)
 
 with_true : (b c : Bool) → b ≡ true → c ≡ (b && c)
 with_true true c is = refl

@@ -17,9 +17,10 @@ use Rattle.script_model.specs.Errors.{before_ends}
 use Rattle.script_model.specs.Events.{Event, Started, Connected, Sent, Heard, Ended, Opened, Found, Shut, Stepped}
 use Rattle.script_texts.specs.Commands.{commands_read}
 use Rattle.script_run.proofs.Carried.{SoFar, at_place}
-use Rattle.script_run.proofs.Coursed.{shut_begun}
+use Rattle.script_commands.proofs.Coursed.{shut_begun}
 use Rattle.script_run.specs.Faulted.{RefusesScript, ShowsOf}
-use Rattle.script_run.specs.Printed.{HasAll, HasEarlier, HasLine, HasLines, HasSome, HasSomeOf, Printed, PrintedBefore}
+use Rattle.script_commands.specs.Lines.{HasLine}
+use Rattle.script_run.specs.Printed.{HasAll, HasEarlier, HasLines, HasSome, HasSomeOf, Printed, PrintedBefore}
 
 -- an error that commands end with: their text was read
 abbrev pub IsOfCommands : ScriptFault → Type 0

@@ -5,4 +5,3 @@ pub mod Faulted
 pub mod HeldBack
 pub mod Holding
 pub mod Printed
-pub mod Starts

@@ -21,8 +21,8 @@ ghost use Rattle.script_links.specs.Shown.{AreQuiet};
 ghost use Rattle.script_links.specs.Told.{IsTold};
 ghost use Rattle.std.specs.Prelude.{◌≡◌, ◌∷◌, ℕ, [], false, IfErr, IfOk, IfSome, Ok, OnOk, length};
 
-use crate::commands::carry_out;
 use container_core::container::{ContainerCore, Limits};
+use script_commands::commands::carry_out;
 use script_links::fault::ScriptFault;
 use script_links::links::{Link, PIECE};
 use script_links::turns::end_all;

@@ -9,7 +9,7 @@ use Rattle.script_links.specs.Links.{is_any_held}
 use Rattle.script_links.proofs.Served.{same_served}
 use Rattle.script_run.proofs.Carried.{last_begun, left_held, so_far_first, so_far_more}
 use Rattle.script_run.proofs.Faulted.{handed_on}
-use Rattle.script_run.proofs.Held.{some_held}
+use Rattle.script_commands.proofs.Held.{some_held}
 use Rattle.script_run.proofs.HeldBack.{back_more}
 use Rattle.script_run.proofs.Holding.{held_now, released_by}
 use Rattle.script_run.proofs.Settled.{settled_by}
