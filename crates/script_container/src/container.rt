@@ -261,12 +261,7 @@ pub fn committed<H: Host>(
 
 /// Tells the container that the commit of a frame's file failed: the disk that was given back last holds what it held before, or
 /// no file can hold its document. That takes no memory.
-pub fn failed<H: Host>(
-    alloc: Global,
-    host: &mut H,
-    core: &mut ContainerCore,
-    frame: u32,
-)
+pub fn failed<H: Host>(alloc: Global, host: &mut H, core: &mut ContainerCore, frame: u32)
     requires lost { IsLost ⟦<H::Disk as Disk>⟧ (H.told host.old) frame }
     requires told { IsTold ⟦<H::Disk as Disk>⟧ (H.told host.old) core.old }
     ensures told { IsTold ⟦<H::Disk as Disk>⟧ (H.told host.new) core.new }

@@ -300,11 +300,7 @@ fn take_frames<H: Host>(
 }
 
 /// Reads some bytes of a link, as many as the buffer has room for. Gives whether there were any.
-fn read_some<H: Host>(
-    host: &mut H,
-    link: &mut Link,
-    buffer: &mut [u8],
-) -> Result<bool, ScriptFault>
+fn read_some<H: Host>(host: &mut H, link: &mut Link, buffer: &mut [u8]) -> Result<bool, ScriptFault>
     requires served { IsServed (passed link.old.inc (H.told host.old)) link.old [] }
     requires within { IsWithin (reading (pace link.old.inc (H.told host.old))) }
     ensures told { (r : Record) → IsTold ⟦<H::Disk as Disk>⟧ (H.told host.old) r → IsTold ⟦<H::Disk as Disk>⟧ (H.told host.new) r }
