@@ -1,4 +1,3 @@
-pub mod Calls
 pub mod Handing
 pub mod Linked
 pub mod Paces

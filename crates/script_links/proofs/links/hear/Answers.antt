@@ -57,8 +57,8 @@ returns-then-not-branch-clause-seen g c = seen_still (notices (g.H.Host.told c.t
 pub returns-in_err-heard-clause-handing : goal.returns-in_err-heard-clause-handing
 returns-in_err-heard-clause-handing g c = λ f is. c.take_frames.ensures.handing f (told_still f c.loop-reads.link c.args.link.now c.loop-reads.invariant.same c.loop-reads.invariant.holding is) ∙ c.loop-reads.invariant.handing f is
 
-pub returns-then-heard-ne-Part-clause-handing : goal.returns-then-heard-ne-Part-clause-handing
-returns-then-heard-ne-Part-clause-handing g c = λ f is. c.take_frames.ensures.handing f (told_still f c.loop-reads.link c.args.link.now c.loop-reads.invariant.same c.loop-reads.invariant.holding is) ∙ c.loop-reads.invariant.handing f is
+pub returns-then-ne-clause-handing : goal.returns-then-ne-clause-handing
+returns-then-ne-clause-handing g c = λ f is. c.take_frames.ensures.handing f (told_still f c.loop-reads.link c.args.link.now c.loop-reads.invariant.same c.loop-reads.invariant.holding is) ∙ c.loop-reads.invariant.handing f is
 
 pub returns-in_err-read_some-clause-handing : goal.returns-in_err-read_some-clause-handing
 returns-in_err-read_some-clause-handing g c = λ f is. c.read_some.ensures.handing f ∙ c.take_frames.ensures.handing f (told_still f c.loop-reads.link c.args.link.now c.loop-reads.invariant.same c.loop-reads.invariant.holding is) ∙ c.loop-reads.invariant.handing f is
