@@ -1,5 +1,5 @@
 -- What is given to the container leaves the record that the history tells.
-use Rattle.std.proofs.Common.{◌≡◌, ◌≤◌, ◌-◌, ◌==◌, ℕ, Bool, true, false, List, ◌∷◌, if◌then◌else◌, Result, Ok, Err, IfOk, IfErr, OnErr, refl, sym, ap, ◌∙◌, subst, arith}
+use Rattle.std.proofs.Common.{◌≡◌, ◌≢◌, ◌≤◌, ◌-◌, ◌==◌, ℕ, Bool, true, false, List, ◌∷◌, if◌then◌else◌, Result, Ok, Err, IfOk, IfErr, OnErr, refl, sym, ap, ◌∙◌, subst, arith}
 use Rattle.container_model.specs.Record.{Record, Took, Refuses}
 use Rattle.container_model.specs.declared.answer.Answer.{Answer}
 use Rattle.container_model.specs.declared.fault.ContainerFault.{ContainerFault}
@@ -43,6 +43,23 @@ pub record IsNoted {D : Type 0} (disks : Disks D) (es : List (Event D)) (r : Rec
 less_single : (b : Bool) (n : ℕ) → n ≤ 1 → (if b then n - 1 else n) ≤ 1
 less_single true n few = omega (arith, few)
 less_single false n few = few
+
+-- nothing is noted of what isn't refused for want of memory
+told_none : {D : Type 0} (told : Result Answer ContainerFault) (es : List (Event D)) → IfErr told (λ e. e ≢ fault.NoMemory) → noted_of told es ≡ es
+told_none (Ok a) es some = refl
+told_none (Err fault.NoSuch) es some = refl
+told_none (Err fault.Busy) es some = refl
+told_none (Err fault.NotRunning) es some = refl
+told_none (Err fault.InDoubt) es some = refl
+told_none (Err fault.WrongLink) es some = refl
+told_none (Err fault.Stale) es some = refl
+told_none (Err fault.Full) es some = refl
+told_none (Err fault.NumbersSpent) es some = refl
+told_none (Err fault.WrongState) es some = refl
+told_none (Err fault.BadFile) es some = refl
+told_none (Err fault.BadAnswer) es some = refl
+told_none (Err fault.UnknownClass) es some = refl
+told_none (Err fault.NoMemory) es some = absurd (some refl)
 
 module _ {D : Type 0} {disks : Disks D} where
   pub as_noted : (es : List (Event D)) (r : Record) → IsTold disks es r → IsNoted disks es r
@@ -105,3 +122,10 @@ module _ {D : Type 0} {disks : Disks D} where
       → IfOk told (λ a. f r ≡ Ok (took a)) → IfErr told (Refuses (f r)) → OnErr told (now ≡ r)
       → IsTold disks es r → IsTold disks after now
   step_told st f took told es mid after r now by counts next rec is note ok err kept t = step_noted st f took told es mid after r now by counts next rec is note ok err kept (as_noted es r t)
+
+  -- The same of what takes no memory.
+  pub step_alone : (st : Step) (f : Record → Result Took ContainerFault) (took : Answer → Took) (told : Result Answer ContainerFault) (es after : List (Event D)) (r now : Record)
+      → IsBy st f → IsBacked disks st es → GivesNext st es → ((a : Answer) → (took a).rec ≡ now) → after ≡ Stepped st ∷ es → IfErr told (λ e. e ≢ fault.NoMemory)
+      → IfOk told (λ a. f r ≡ Ok (took a)) → IfErr told (Refuses (f r)) → OnErr told (now ≡ r)
+      → IsTold disks es r → IsTold disks after now
+  step_alone st f took told es after r now by counts next rec is some ok err kept t = step_told st f took told es after after r now by counts next rec is (sym (told_none told after some)) ok err kept t

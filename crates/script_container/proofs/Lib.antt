@@ -2,6 +2,7 @@ pub mod Answered
 pub mod Causes
 pub mod Done
 pub mod Given
+pub mod Handed
 pub mod Kept
 pub mod Opened
 pub mod Saved

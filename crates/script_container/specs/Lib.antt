@@ -1,4 +1,5 @@
 pub mod Beside
 pub mod Done
+pub mod Handed
 pub mod Shown
 pub mod Told

@@ -20,10 +20,11 @@ ghost use Rattle.script_model.specs.Saved.{IsLost, IsReadFrom, IsSavedThere};
 ghost use Rattle.script_model.specs.declared.step.Step.TheVariants as given;
 ghost use Rattle.script_container.specs.Beside.{beside};
 ghost use Rattle.script_container.specs.Done.{IsAnswered, IsCertain, IsDone, OnlyDone, OnlyDoneBut};
+ghost use Rattle.script_container.specs.Handed.{handed};
 ghost use Rattle.script_container.specs.Shown.{Shows};
 ghost use Rattle.script_container.specs.Told.{IsEnded, IsTold, noted_of};
 ghost use Rattle.script_container.specs.declared.fault.ScriptFault.TheVariants.{NoMemory};
-ghost use Rattle.std.specs.Prelude.{◌≡◌, ◌≢◌, ◌≤◌, ◌∷◌, [], IfErr, IfOk, List, Ok, OnOk, Some, length, ℕ};
+ghost use Rattle.std.specs.Prelude.{◌≡◌, ◌≢◌, ◌≤◌, ◌∷◌, [], Bool, IfErr, IfOk, List, Ok, OnOk, Some, false, length, ℕ};
 ghost use Rattle.wire_msgs.specs.declared.message.Message.{Message};
 
 use crate::fault::ScriptFault;
@@ -83,6 +84,7 @@ fn noted<H: Host>(
     ensures noted { H.told host.new ≡ noted_of told (H.told host.old) }
     ensures still { (s : ℕ) → running s (H.told host.new) ≡ running s (H.told host.old) }
     ensures quiet { (s : ℕ) → passed s (H.told host.new) ≡ passed s (H.told host.old) }
+    ensures handing { (f : ℕ → Bool) → handed f (H.told host.new) ≡ handed f (H.told host.old) }
     ensures paced { (s : ℕ) → pace s (H.told host.new) ≡ pace s (H.told host.old) }
     ensures ordered { course (H.told host.new) ≡ course (H.told host.old) }
     ensures noticed { notices (H.told host.new) ≡ notices (H.told host.old) }
@@ -109,6 +111,7 @@ pub fn command<H: Host>(
     ensures told { IsTold ⟦<H::Disk as Disk>⟧ (H.told host.new) core.new }
     ensures still { (s : ℕ) → running s (H.told host.new) ≡ running s (H.told host.old) }
     ensures quiet { (s : ℕ) → passed s (H.told host.new) ≡ passed s (H.told host.old) }
+    ensures handing { (f : ℕ → Bool) → handed f (H.told host.new) ≡ handed f (H.told host.old) }
     ensures paced { (s : ℕ) → pace s (H.told host.new) ≡ pace s (H.told host.old) }
     ensures ordered { course (H.told host.new) ≡ course (Stepped (Step.Command command) ∷ H.told host.old) }
     ensures noticed { notices (H.told host.new) ≡ notices (H.told host.old) }
@@ -120,7 +123,7 @@ pub fn command<H: Host>(
     let step = Step::Command(command);
     host.note(&step);
     let Some(command) = command_of(step) else {
-        return Err(ContainerFault::NoMemory);
+        unreachable!()
     };
     core.steady();
     sessions_stay();
@@ -142,6 +145,7 @@ pub fn message<H: Host>(
     ensures still { (s : ℕ) → running s (H.told host.new) ≡ running s (H.told host.old) }
     ensures apart { (s : ℕ) → beside inc s (H.told host.new) ≡ beside inc s (H.told host.old) }
     ensures given { passed inc (H.told host.new) ≡ giving (message ∷ []) (passed inc (H.told host.old)) }
+    ensures handing { (f : ℕ → Bool) → f inc ≡ false → handed f (H.told host.new) ≡ handed f (H.told host.old) }
     ensures paced { (s : ℕ) → pace s (H.told host.new) ≡ pace s (H.told host.old) }
     ensures ordered { course (H.told host.new) ≡ course (H.told host.old) }
     ensures noticed { IfOk result (λ a. notices (H.told host.new) ≡ first_noticed (notices (H.told host.old)) (refusal_noticed a.refused)) }
@@ -150,7 +154,7 @@ pub fn message<H: Host>(
     let step = Step::Message(inc, message);
     host.note(&step);
     let Some(message) = message_of(step) else {
-        return Err(ContainerFault::NoMemory);
+        unreachable!()
     };
     let link = ServerLink {
         session: core.session(),
@@ -177,6 +181,7 @@ pub fn opened<H: Host>(
     ensures told { IsTold ⟦<H::Disk as Disk>⟧ (H.told host.new) core.new }
     ensures still { (s : ℕ) → running s (H.told host.new) ≡ running s (H.told host.old) }
     ensures quiet { (s : ℕ) → passed s (H.told host.new) ≡ passed s (H.told host.old) }
+    ensures handing { (f : ℕ → Bool) → handed f (H.told host.new) ≡ handed f (H.told host.old) }
     ensures paced { (s : ℕ) → pace s (H.told host.new) ≡ pace s (H.told host.old) }
     ensures few { IfOk result (λ a. length a.objects ≤ 64) }
     ensures ordered { course (H.told host.new) ≡ course (Stepped (Step.Open name width height document.session document.objects) ∷ H.told host.old) }
@@ -190,7 +195,7 @@ pub fn opened<H: Host>(
     let step = Step::Open(name, width, height, session, objects);
     host.note(&step);
     let Some(name) = name_of(step) else {
-        return Err(ContainerFault::NoMemory);
+        unreachable!()
     };
     let told = core.open_file(alloc, name, width, height, Some(file));
     noted(host, told)
@@ -207,6 +212,7 @@ pub fn reap<H: Host>(
     ensures told { IsTold ⟦<H::Disk as Disk>⟧ (H.told host.new) core.new }
     ensures still { (s : ℕ) → running s (H.told host.new) ≡ running s (H.told host.old) }
     ensures quiet { (s : ℕ) → passed s (H.told host.new) ≡ passed s (H.told host.old) }
+    ensures handing { (f : ℕ → Bool) → handed f (H.told host.new) ≡ handed f (H.told host.old) }
     ensures paced { (s : ℕ) → pace s (H.told host.new) ≡ pace s (H.told host.old) }
     ensures ordered { course (H.told host.new) ≡ course (H.told host.old) }
     ensures noticed { notices (H.told host.new) ≡ notices (H.told host.old) }
@@ -240,6 +246,7 @@ pub fn committed<H: Host>(
     ensures told { IsTold ⟦<H::Disk as Disk>⟧ (H.told host.new) core.new }
     ensures still { (s : ℕ) → running s (H.told host.new) ≡ running s (H.told host.old) }
     ensures quiet { (s : ℕ) → passed s (H.told host.new) ≡ passed s (H.told host.old) }
+    ensures handing { (f : ℕ → Bool) → handed f (H.told host.new) ≡ handed f (H.told host.old) }
     ensures paced { (s : ℕ) → pace s (H.told host.new) ≡ pace s (H.told host.old) }
     ensures ordered { course (H.told host.new) ≡ course (H.told host.old) }
     ensures noticed { notices (H.told host.new) ≡ notices (H.told host.old) }
@@ -253,28 +260,22 @@ pub fn committed<H: Host>(
 }
 
 /// Tells the container that the commit of a frame's file failed: the disk that was given back last holds what it held before, or
-/// no file can hold its document.
-pub fn failed<H: Host>(
-    alloc: Global,
-    host: &mut H,
-    core: &mut ContainerCore,
-    frame: u32,
-) -> Result<(), ScriptFault>
+/// no file can hold its document. That takes no memory.
+pub fn failed<H: Host>(alloc: Global, host: &mut H, core: &mut ContainerCore, frame: u32)
     requires lost { IsLost ⟦<H::Disk as Disk>⟧ (H.told host.old) frame }
     requires told { IsTold ⟦<H::Disk as Disk>⟧ (H.told host.old) core.old }
     ensures told { IsTold ⟦<H::Disk as Disk>⟧ (H.told host.new) core.new }
     ensures still { (s : ℕ) → running s (H.told host.new) ≡ running s (H.told host.old) }
     ensures quiet { (s : ℕ) → passed s (H.told host.new) ≡ passed s (H.told host.old) }
+    ensures handing { (f : ℕ → Bool) → handed f (H.told host.new) ≡ handed f (H.told host.old) }
     ensures paced { (s : ℕ) → pace s (H.told host.new) ≡ pace s (H.told host.old) }
     ensures ordered { course (H.told host.new) ≡ course (H.told host.old) }
     ensures noticed { notices (H.told host.new) ≡ first_noticed (notices (H.told host.old)) (Some (lost_as (image core.old frame))) }
-    ensures shown { IfErr result (λ fault. Shows ⟦<H::Disk as Disk>⟧ (H.told host.new) fault) }
     ensures others { OnlyDoneBut frame core.old core.new }
     ensures answered { IsAnswered core.new frame }
 {
     host.note(&Step::Failed(frame));
-    let told = core.commit_failed(alloc, frame);
-    heard(&noted(host, told))
+    let _ = core.commit_failed(alloc, frame);
 }
 
 /// Tells the container that the file of a frame in doubt wasn't committed.
@@ -288,6 +289,7 @@ pub fn dropped<H: Host>(
     ensures told { IsTold ⟦<H::Disk as Disk>⟧ (H.told host.new) core.new }
     ensures still { (s : ℕ) → running s (H.told host.new) ≡ running s (H.told host.old) }
     ensures quiet { (s : ℕ) → passed s (H.told host.new) ≡ passed s (H.told host.old) }
+    ensures handing { (f : ℕ → Bool) → handed f (H.told host.new) ≡ handed f (H.told host.old) }
     ensures paced { (s : ℕ) → pace s (H.told host.new) ≡ pace s (H.told host.old) }
     ensures ordered { course (H.told host.new) ≡ course (H.told host.old) }
     ensures noticed { notices (H.told host.new) ≡ notices (H.told host.old) }

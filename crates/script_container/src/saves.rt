@@ -14,9 +14,10 @@ ghost use Rattle.script_model.specs.Notices.{Notes, Tells, first_noticed, lost_a
 ghost use Rattle.script_model.specs.Origins.{passed};
 ghost use Rattle.script_model.specs.Saved.{IsLost, IsLostOn, IsMissing, IsRefusedOn, IsSavedOn, IsSavedThere, IsShutWith, IsShutWithout, file_name};
 ghost use Rattle.script_container.specs.Done.{AreCarriedOut, IsCarriedOut, IsCertain, IsDone, OnlyDone};
+ghost use Rattle.script_container.specs.Handed.{handed};
 ghost use Rattle.script_container.specs.Shown.{Shows};
 ghost use Rattle.script_container.specs.Told.{IfKept, IfLost, IsImage, IsLeftOn, IsReplacedOn, IsTold};
-ghost use Rattle.std.specs.Prelude.{◌≡◌, ◌<◌, ◌^◌, ℕ, IfErr, IfOk, OnOk, Some, false};
+ghost use Rattle.std.specs.Prelude.{◌≡◌, ◌<◌, ◌^◌, ℕ, Bool, IfErr, IfOk, OnOk, Some, false};
 
 use crate::container::{committed, dropped, failed};
 use crate::fault::ScriptFault;
@@ -141,6 +142,7 @@ fn commit_again<H: Host>(
     ensures told { (r : Record) → IsTold ⟦<H::Disk as Disk>⟧ (H.told host.old) r → IsTold ⟦<H::Disk as Disk>⟧ (H.told host.new) r }
     ensures still { (s : ℕ) → running s (H.told host.new) ≡ running s (H.told host.old) }
     ensures quiet { (s : ℕ) → passed s (H.told host.new) ≡ passed s (H.told host.old) }
+    ensures handing { (f : ℕ → Bool) → handed f (H.told host.new) ≡ handed f (H.told host.old) }
     ensures paced { (s : ℕ) → pace s (H.told host.new) ≡ pace s (H.told host.old) }
     ensures shut { H.Disk.follows_model → IfOk result (λ outcome. IfKept outcome (IsShutWith ⟦<H::Disk as Disk>⟧ (H.told host.new) name.now bytes.now)) }
     ensures left { IsMissing name.now (H.told host.old) → IfOk result (λ outcome. IfLost outcome (IsShutWithout ⟦<H::Disk as Disk>⟧ (H.told host.new) name.now bytes.now)) }
@@ -170,6 +172,7 @@ fn commit<H: Host>(
     ensures told { (r : Record) → IsTold ⟦<H::Disk as Disk>⟧ (H.told host.old) r → IsTold ⟦<H::Disk as Disk>⟧ (H.told host.new) r }
     ensures still { (s : ℕ) → running s (H.told host.new) ≡ running s (H.told host.old) }
     ensures quiet { (s : ℕ) → passed s (H.told host.new) ≡ passed s (H.told host.old) }
+    ensures handing { (f : ℕ → Bool) → handed f (H.told host.new) ≡ handed f (H.told host.old) }
     ensures paced { (s : ℕ) → pace s (H.told host.new) ≡ pace s (H.told host.old) }
     ensures shut { H.Disk.follows_model → IfOk result (λ outcome. IfKept outcome (IsShutWith ⟦<H::Disk as Disk>⟧ (H.told host.new) name.now bytes.now)) }
     ensures left { IfOk result (λ outcome. IfLost outcome (IsShutWithout ⟦<H::Disk as Disk>⟧ (H.told host.new) name.now bytes.now)) }
@@ -210,6 +213,7 @@ fn lose<H: Host>(
     ensures told { IsTold ⟦<H::Disk as Disk>⟧ (H.told host.new) core.new }
     ensures still { (s : ℕ) → running s (H.told host.new) ≡ running s (H.told host.old) }
     ensures quiet { (s : ℕ) → passed s (H.told host.new) ≡ passed s (H.told host.old) }
+    ensures handing { (f : ℕ → Bool) → handed f (H.told host.new) ≡ handed f (H.told host.old) }
     ensures paced { (s : ℕ) → pace s (H.told host.new) ≡ pace s (H.told host.old) }
     ensures ordered { course (H.told host.new) ≡ course (H.told host.old) }
     ensures noticed { notices (H.told host.new) ≡ first_noticed (notices (H.told host.old)) (Some (lost_as (image core.old frame))) }
@@ -217,7 +221,7 @@ fn lose<H: Host>(
     ensures others { OnOk result (OnlyDone core.old core.new) }
     ensures done { OnOk result (IsDone core.new frame) }
 {
-    failed(alloc, host, core, frame)?;
+    failed(alloc, host, core, frame);
     dropped(alloc, host, core, frame)
 }
 
@@ -235,6 +239,7 @@ fn save_file<H: Host>(
     ensures told { IsTold ⟦<H::Disk as Disk>⟧ (H.told host.new) core.new }
     ensures still { (s : ℕ) → running s (H.told host.new) ≡ running s (H.told host.old) }
     ensures quiet { (s : ℕ) → passed s (H.told host.new) ≡ passed s (H.told host.old) }
+    ensures handing { (f : ℕ → Bool) → handed f (H.told host.new) ≡ handed f (H.told host.old) }
     ensures paced { (s : ℕ) → pace s (H.told host.new) ≡ pace s (H.told host.old) }
     ensures ordered { course (H.told host.new) ≡ course (H.told host.old) }
     ensures noticed { IfOk result (Notes (notices (H.told host.old)) (notices (H.told host.new))) }
@@ -273,6 +278,7 @@ fn save<H: Host>(
     ensures told { IsTold ⟦<H::Disk as Disk>⟧ (H.told host.new) core.new }
     ensures still { (s : ℕ) → running s (H.told host.new) ≡ running s (H.told host.old) }
     ensures quiet { (s : ℕ) → passed s (H.told host.new) ≡ passed s (H.told host.old) }
+    ensures handing { (f : ℕ → Bool) → handed f (H.told host.new) ≡ handed f (H.told host.old) }
     ensures paced { (s : ℕ) → pace s (H.told host.new) ≡ pace s (H.told host.old) }
     ensures ordered { course (H.told host.new) ≡ course (H.told host.old) }
     ensures noticed { IfOk result (Notes (notices (H.told host.old)) (notices (H.told host.new))) }
@@ -304,6 +310,7 @@ fn save_on<H: Host>(
     ensures told { IsTold ⟦<H::Disk as Disk>⟧ (H.told host.new) core.new }
     ensures still { (s : ℕ) → running s (H.told host.new) ≡ running s (H.told host.old) }
     ensures quiet { (s : ℕ) → passed s (H.told host.new) ≡ passed s (H.told host.old) }
+    ensures handing { (f : ℕ → Bool) → handed f (H.told host.new) ≡ handed f (H.told host.old) }
     ensures paced { (s : ℕ) → pace s (H.told host.new) ≡ pace s (H.told host.old) }
     ensures ordered { course (H.told host.new) ≡ course (H.told host.old) }
     ensures seen { OnOk result (Tells (notices (H.told host.new)) noticed.new) }
@@ -335,6 +342,7 @@ pub fn save_all<H: Host>(
     ensures told { IsTold ⟦<H::Disk as Disk>⟧ (H.told host.new) core.new }
     ensures still { (s : ℕ) → running s (H.told host.new) ≡ running s (H.told host.old) }
     ensures quiet { (s : ℕ) → passed s (H.told host.new) ≡ passed s (H.told host.old) }
+    ensures handing { (f : ℕ → Bool) → handed f (H.told host.new) ≡ handed f (H.told host.old) }
     ensures paced { (s : ℕ) → pace s (H.told host.new) ≡ pace s (H.told host.old) }
     ensures ordered { course (H.told host.new) ≡ course (H.told host.old) }
     ensures seen { OnOk result (Tells (notices (H.told host.new)) noticed.new) }

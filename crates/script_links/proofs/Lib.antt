@@ -1,3 +1,4 @@
+pub mod Handing
 pub mod Linked
 pub mod Paces
 pub mod Served

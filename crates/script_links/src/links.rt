@@ -1,6 +1,7 @@
 //! The links to servers, and what comes on one of them in a turn.
 
 ghost use Rattle.container_model.specs.Record.{Record};
+ghost use Rattle.container_model.specs.Replies.{pending_call};
 ghost use Rattle.container_model.specs.declared.fault.ContainerFault.TheVariants as container;
 ghost use Rattle.message_model.specs.Spelling.{spell};
 ghost use Rattle.script_model.specs.Bounds.{IsWithin, linking, pace, reading, sending};
@@ -8,19 +9,22 @@ ghost use Rattle.script_model.specs.Courses.{course};
 ghost use Rattle.script_model.specs.Events.{running};
 ghost use Rattle.script_model.specs.Notices.{Notes, Notice, Tells, first_noticed, notices, refusal_noticed};
 ghost use Rattle.script_model.specs.Origins.{AreNext, fresh, giving, passed};
-ghost use Rattle.script_model.specs.Turns.{server_of, turn_of};
+ghost use Rattle.script_model.specs.Turns.{spelled_to, turn_of};
 ghost use Rattle.script_model.specs.declared.host.HostFault.TheVariants as host;
 ghost use Rattle.script_container.specs.Beside.{beside};
+ghost use Rattle.script_container.specs.Handed.{handed};
 ghost use Rattle.script_container.specs.Shown.{Shows};
 ghost use Rattle.script_container.specs.Told.{IsTold};
 ghost use Rattle.script_container.specs.declared.fault.ScriptFault.TheVariants.{NoMemory};
 ghost use Rattle.script_links.specs.Links.{IsServed};
 ghost use Rattle.script_links.specs.Ready.{GoesOn, HadTurn, HasLeft, IsReady, MayLink, pace_beside};
-ghost use Rattle.std.specs.Prelude.{◌≡◌, ◌≢◌, ◌++◌, ◌∷◌, [], Err, IfErr, IfOk, MatchResult, OnOk, Option, false, is_ok, ℕ};
+ghost use Rattle.std.specs.Prelude.{◌≡◌, ◌≢◌, ◌++◌, ◌∷◌, [], Bool, Err, IfErr, IfOk, MatchResult, OnOk, Option, false, is_ok, ℕ};
 
 use crate::waiting::Waiting;
 use container_core::container::ContainerCore;
+use container_links::calling::call;
 use container_model::fault::ContainerFault;
+use container_model::record::Link as Activation;
 use message_bytes::decoder::Decoder;
 use message_bytes::encode::encode_into;
 use message_bytes::fault::WireFault;
@@ -32,14 +36,14 @@ use script_model::answer::Told;
 use script_model::host::{Host, HostFault};
 use std::alloc::{AllocError, Global};
 use store_model::disk::Disk;
-use wire_msgs::message::{Message, Said};
+use wire_msgs::message::Message;
 use wire_msgs::refusal::Refusal;
 
 /// The most reads of a link in a turn.
 const MOST_READS: u32 = 1_000_000;
 
 /// How many bytes are read at once.
-const PIECE: usize = 4096;
+pub const PIECE: usize = 65_536;
 
 /// A link to a server that was started and isn't ended.
 #[derive(Drop)]
@@ -91,28 +95,39 @@ fn push_frame(out: &mut Vec<u8>, frame: &Frame) -> Result<(), ScriptFault>
     }
 }
 
-/// The server that a message is to or from.
-pub fn server_of(message: &Message) -> u32
-    ensures { result ≡ server_of message.now.said }
+/// Adds the call of an activation that is pending, as it was first sent, where the activation is of this server.
+fn push_call(
+    alloc: Global,
+    out: &mut Vec<u8>,
+    activation: &Option<Activation>,
+    inc: u32,
+) -> Result<(), ScriptFault>
+    ensures pushed { OnOk result (out.new.items ≡ out.old.items ++ spelled_to inc (pending_call activation.now)) }
+    ensures lacking { IfErr result (λ fault. fault ≡ NoMemory) }
 {
-    match &message.said {
-        Said::Call { inc, .. } => *inc,
-        Said::Reply { inc, .. } => *inc,
-        Said::Write { inc, .. } => *inc,
-        Said::Ask { inc, .. } => *inc,
+    let Some(activation) = activation else {
+        return Ok(());
+    };
+    if activation.inc != inc {
+        return Ok(());
+    }
+    match &activation.pending {
+        None => Ok(()),
+        Some(operation) => {
+            let asked = call(activation, activation.last, operation.copy(alloc)?);
+            push_frame(out, &Frame::Message(asked))
+        }
     }
 }
 
-/// The calls that are pending for a server, and a Turn, as bytes.
+/// The calls that are pending for a server, and a Turn, as bytes. No other server's call is copied.
 fn turn_bytes(alloc: Global, core: &ContainerCore, inc: u32) -> Result<Vec<u8>, ScriptFault>
     ensures turn { IfOk result (λ v. v.items ≡ turn_of core.now inc) }
     ensures lacking { IfErr result (λ fault. fault ≡ NoMemory) }
 {
     let mut out = Vec::new(alloc);
-    for call in core.resend(alloc)? {
-        if server_of(&call) == inc {
-            push_frame(&mut out, &Frame::Message(call))?;
-        }
+    for object in core.all_objects() {
+        push_call(alloc, &mut out, &object.link, inc)?;
     }
     push_frame(&mut out, &Frame::Turn)?;
     Ok(out)
@@ -144,6 +159,7 @@ pub fn send_turn<H: Host>(
     ensures told { IsTold ⟦<H::Disk as Disk>⟧ (H.told host.new) core.now }
     ensures still { (s : ℕ) → running s (H.told host.new) ≡ running s (H.told host.old) }
     ensures quiet { (s : ℕ) → passed s (H.told host.new) ≡ passed s (H.told host.old) }
+    ensures handing { (f : ℕ → Bool) → handed f (H.told host.new) ≡ handed f (H.told host.old) }
     ensures aside { (s : ℕ) → pace_beside inc s (H.told host.new) ≡ pace_beside inc s (H.told host.old) }
     ensures sent { OnOk result (pace inc (H.told host.new) ≡ sending (pace inc (H.told host.old))) }
     ensures ordered { course (H.told host.new) ≡ course (H.told host.old) }
@@ -193,6 +209,7 @@ pub fn hand_over<H: Host>(
     ensures told { IsTold ⟦<H::Disk as Disk>⟧ (H.told host.new) core.new }
     ensures still { (s : ℕ) → running s (H.told host.new) ≡ running s (H.told host.old) }
     ensures apart { (s : ℕ) → beside inc s (H.told host.new) ≡ beside inc s (H.told host.old) }
+    ensures handing { (f : ℕ → Bool) → f inc ≡ false → handed f (H.told host.new) ≡ handed f (H.told host.old) }
     ensures given { passed inc (H.told host.new) ≡ giving (taken ∷ []) (passed inc (H.told host.old)) }
     ensures paced { (s : ℕ) → pace s (H.told host.new) ≡ pace s (H.told host.old) }
     ensures ordered { course (H.told host.new) ≡ course (H.told host.old) }
@@ -231,6 +248,7 @@ fn meet<H: Host>(
     ensures seen { OnOk result (Tells (notices (H.told host.new)) noticed.new) }
     ensures shown { IfErr result (λ fault. Shows ⟦<H::Disk as Disk>⟧ (H.told host.new) fault) }
     ensures holding { link.new.held ≡ link.old.held }
+    ensures handing { (f : ℕ → Bool) → f link.old.inc ≡ link.old.held → handed f (H.told host.new) ≡ handed f (H.told host.old) }
 {
     if link.held {
         link.waiting.push(taken)?;
@@ -239,7 +257,8 @@ fn meet<H: Host>(
     hand_over(alloc, host, core, link.inc, taken, noticed)
 }
 
-/// Carries out the frames that came on a link, up to a Turn. A link of which more waits than may has failed.
+/// Carries out the frames that came on a link, up to a Turn. A link of which more waits than may has failed. A piece ends fewer
+/// frames than it has bytes, since a frame has ten at least, so all that are whole are taken.
 fn take_frames<H: Host>(
     alloc: Global,
     host: &mut H,
@@ -260,6 +279,7 @@ fn take_frames<H: Host>(
     ensures seen { OnOk result (Tells (notices (H.told host.new)) noticed.new) }
     ensures shown { IfErr result (λ fault. Shows ⟦<H::Disk as Disk>⟧ (H.told host.new) fault) }
     ensures holding { link.new.held ≡ link.old.held }
+    ensures handing { (f : ℕ → Bool) → f link.old.inc ≡ link.old.held → handed f (H.told host.new) ≡ handed f (H.told host.old) }
 {
     for _ in 0..=PIECE {
         match link.decoder.next() {
@@ -279,8 +299,8 @@ fn take_frames<H: Host>(
     Ok(Heard::Failed)
 }
 
-/// Reads some bytes of a link. Gives whether there were any.
-fn read_some<H: Host>(host: &mut H, link: &mut Link) -> Result<bool, ScriptFault>
+/// Reads some bytes of a link, as many as the buffer has room for. Gives whether there were any.
+fn read_some<H: Host>(host: &mut H, link: &mut Link, buffer: &mut [u8]) -> Result<bool, ScriptFault>
     requires served { IsServed (passed link.old.inc (H.told host.old)) link.old [] }
     requires within { IsWithin (reading (pace link.old.inc (H.told host.old))) }
     ensures told { (r : Record) → IsTold ⟦<H::Disk as Disk>⟧ (H.told host.old) r → IsTold ⟦<H::Disk as Disk>⟧ (H.told host.new) r }
@@ -294,9 +314,9 @@ fn read_some<H: Host>(host: &mut H, link: &mut Link) -> Result<bool, ScriptFault
     ensures noticed { notices (H.told host.new) ≡ notices (H.told host.old) }
     ensures shown { IfErr result (λ fault. Shows ⟦<H::Disk as Disk>⟧ (H.told host.new) fault) }
     ensures holding { link.new.held ≡ link.old.held }
+    ensures handing { (f : ℕ → Bool) → handed f (H.told host.new) ≡ handed f (H.told host.old) }
 {
-    let mut piece = [0u8; PIECE];
-    let n = match host.read(link.inc, &mut piece) {
+    let n = match host.read(link.inc, buffer) {
         Ok(n) => n,
         Err(HostFault::Failed) => return Ok(false),
         Err(HostFault::NoMemory) => return Err(ScriptFault::NoMemory),
@@ -304,7 +324,7 @@ fn read_some<H: Host>(host: &mut H, link: &mut Link) -> Result<bool, ScriptFault
     if n == 0 {
         return Ok(false);
     }
-    match link.decoder.feed(&piece[..n]) {
+    match link.decoder.feed(&buffer[..n]) {
         Ok(()) => Ok(true),
         Err(fault) => match fault {
             WireFault::NoMemory => Err(ScriptFault::NoMemory),
@@ -320,6 +340,7 @@ fn hear<H: Host>(
     core: &mut ContainerCore,
     link: &mut Link,
     noticed: &mut Option<Told>,
+    buffer: &mut [u8],
     reads: &mut u32,
 ) -> Result<Heard, ScriptFault>
     requires told { IsTold ⟦<H::Disk as Disk>⟧ (H.told host.old) core.old }
@@ -338,6 +359,7 @@ fn hear<H: Host>(
     ensures seen { OnOk result (Tells (notices (H.told host.new)) noticed.new) }
     ensures shown { IfErr result (λ fault. Shows ⟦<H::Disk as Disk>⟧ (H.told host.new) fault) }
     ensures holding { link.new.held ≡ link.old.held }
+    ensures handing { (f : ℕ → Bool) → f link.old.inc ≡ link.old.held → handed f (H.told host.new) ≡ handed f (H.told host.old) }
 {
     while *reads > 0 {
         let heard = take_frames(alloc, host, core, link, noticed)?;
@@ -345,7 +367,7 @@ fn hear<H: Host>(
             return Ok(heard);
         }
         *reads -= 1;
-        if !read_some(host, link)? {
+        if !read_some(host, link, buffer)? {
             return Ok(Heard::Failed);
         }
     }
@@ -359,6 +381,7 @@ fn exchange<H: Host>(
     core: &mut ContainerCore,
     link: &mut Link,
     noticed: &mut Option<Told>,
+    buffer: &mut [u8],
     reads: &mut u32,
 ) -> Result<Heard, ScriptFault>
     requires told { IsTold ⟦<H::Disk as Disk>⟧ (H.told host.old) core.old }
@@ -377,11 +400,12 @@ fn exchange<H: Host>(
     ensures seen { OnOk result (Tells (notices (H.told host.new)) noticed.new) }
     ensures shown { IfErr result (λ fault. Shows ⟦<H::Disk as Disk>⟧ (H.told host.new) fault) }
     ensures holding { link.new.held ≡ link.old.held }
+    ensures handing { (f : ℕ → Bool) → f link.old.inc ≡ link.old.held → handed f (H.told host.new) ≡ handed f (H.told host.old) }
 {
     if !send_turn(alloc, host, core, link.inc)? {
         return Ok(Heard::Failed);
     }
-    hear(alloc, host, core, link, noticed, reads)
+    hear(alloc, host, core, link, noticed, buffer, reads)
 }
 
 /// Connects a link again: what came of the old connection and isn't carried out is dropped. Gives whether it was made.
@@ -401,6 +425,7 @@ pub fn reconnect<H: Host>(alloc: Global, host: &mut H, link: &mut Link) -> Resul
     ensures noticed { notices (H.told host.new) ≡ notices (H.told host.old) }
     ensures lacking { IfErr result (λ fault. fault ≡ NoMemory) }
     ensures holding { link.new.held ≡ link.old.held }
+    ensures handing { (f : ℕ → Bool) → handed f (H.told host.new) ≡ handed f (H.told host.old) }
 {
     link.decoder = Decoder::new(alloc);
     is_done(host.connect(link.inc))
@@ -413,6 +438,7 @@ pub fn serve<H: Host>(
     core: &mut ContainerCore,
     link: &mut Link,
     noticed: &mut Option<Told>,
+    buffer: &mut [u8],
 ) -> Result<bool, ScriptFault>
     requires told { IsTold ⟦<H::Disk as Disk>⟧ (H.told host.old) core.old }
     requires served { IsServed (passed link.old.inc (H.told host.old)) link.old [] }
@@ -429,9 +455,10 @@ pub fn serve<H: Host>(
     ensures seen { OnOk result (Tells (notices (H.told host.new)) noticed.new) }
     ensures shown { IfErr result (λ fault. Shows ⟦<H::Disk as Disk>⟧ (H.told host.new) fault) }
     ensures holding { link.new.held ≡ link.old.held }
+    ensures handing { (f : ℕ → Bool) → f link.old.inc ≡ link.old.held → handed f (H.told host.new) ≡ handed f (H.told host.old) }
 {
     let mut reads = MOST_READS;
-    match exchange(alloc, host, core, link, noticed, &mut reads)? {
+    match exchange(alloc, host, core, link, noticed, buffer, &mut reads)? {
         Heard::Turn => return Ok(true),
         Heard::Failed => {}
         _ => return Ok(false),
@@ -440,6 +467,6 @@ pub fn serve<H: Host>(
     if !made {
         return Ok(false);
     }
-    let heard = exchange(alloc, host, core, link, noticed, &mut reads)?;
+    let heard = exchange(alloc, host, core, link, noticed, buffer, &mut reads)?;
     Ok(heard == Heard::Turn)
 }

@@ -10,6 +10,7 @@ ghost use Rattle.script_model.specs.Orders.{orders};
 ghost use Rattle.script_model.specs.Origins.{AreHeard};
 ghost use Rattle.script_model.specs.Saved.{AreOpened, AreSaved};
 ghost use Rattle.script_model.specs.Turns.{AreTurns};
+ghost use Rattle.script_container.specs.Handed.{handed};
 ghost use Rattle.script_container.specs.Shown.{Shows};
 ghost use Rattle.script_container.specs.Told.{IsTold};
 ghost use Rattle.script_links.specs.Links.{AreLinked, AreServed, HoldFor};
@@ -56,6 +57,7 @@ pub fn end_at<H: Host>(
     ensures seen { OnOk result (Tells (notices (H.told host.new)) noticed.new) }
     ensures shown { IfErr result (λ fault. Shows ⟦<H::Disk as Disk>⟧ (H.told host.new) fault) }
     ensures holding { (f : ℕ → Bool) → HoldFor f links.old.items → HoldFor f links.new.items }
+    ensures handing { (f : ℕ → Bool) → handed f (H.told host.new) ≡ handed f (H.told host.old) }
 {
     let link = links.remove(place);
     host.end(link.inc);
@@ -155,6 +157,7 @@ fn serve_at<H: Host>(
     links: &mut Vec<Link>,
     place: usize,
     noticed: &mut Option<Told>,
+    buffer: &mut [u8],
 ) -> Result<bool, ScriptFault>
     requires within { place < length links.old.items }
     requires told { IsTold ⟦<H::Disk as Disk>⟧ (H.told host.old) core.old }
@@ -172,9 +175,10 @@ fn serve_at<H: Host>(
     ensures anew { OnOk result ((s : ℕ) → (pace s (H.told host.old)).links ≤ (pace s (H.told host.new)).links) }
     ensures shown { IfErr result (λ fault. Shows ⟦<H::Disk as Disk>⟧ (H.told host.new) fault) }
     ensures holding { (f : ℕ → Bool) → HoldFor f links.old.items → HoldFor f links.new.items }
+    ensures handing { (f : ℕ → Bool) → HoldFor f links.old.items → handed f (H.told host.new) ≡ handed f (H.told host.old) }
     ensures due { (n : ℕ) → HaveHad n (H.told host.old) links.old.items place → OnOk result (HaveHad n (H.told host.new) links.new.items (place + 1)) }
 {
-    serve(alloc, host, core, &mut links[place], noticed)
+    serve(alloc, host, core, &mut links[place], noticed, buffer)
 }
 
 /// A turn of each link, by rising number. A link that doesn't stand is ended.
@@ -184,6 +188,7 @@ fn turn<H: Host>(
     core: &mut ContainerCore,
     links: &mut Vec<Link>,
     noticed: &mut Option<Told>,
+    buffer: &mut [u8],
 ) -> Result<(), ScriptFault>
     requires told { IsTold ⟦<H::Disk as Disk>⟧ (H.told host.old) core.old }
     requires linked { AreLinked (H.told host.old) links.old.items }
@@ -199,11 +204,12 @@ fn turn<H: Host>(
     ensures anew { OnOk result ((s : ℕ) → (pace s (H.told host.old)).links ≤ (pace s (H.told host.new)).links) }
     ensures shown { IfErr result (λ fault. Shows ⟦<H::Disk as Disk>⟧ (H.told host.new) fault) }
     ensures holding { (f : ℕ → Bool) → HoldFor f links.old.items → HoldFor f links.new.items }
+    ensures handing { (f : ℕ → Bool) → HoldFor f links.old.items → handed f (H.told host.new) ≡ handed f (H.told host.old) }
     ensures due { (n : ℕ) → AreDue n (H.told host.old) links.old.items → OnOk result (AreDue (n + 1) (H.told host.new) links.new.items) }
 {
     let mut place = 0;
     while place < links.len() {
-        if serve_at(alloc, host, core, links, place, noticed)? {
+        if serve_at(alloc, host, core, links, place, noticed, buffer)? {
             place += 1;
         } else {
             end_at(alloc, host, core, links, place, noticed)?;
@@ -221,6 +227,7 @@ pub fn turns<H: Host>(
     core: &mut ContainerCore,
     links: &mut Vec<Link>,
     noticed: &mut Option<Told>,
+    buffer: &mut [u8],
 ) -> Result<(), ScriptFault>
     requires told { IsTold ⟦<H::Disk as Disk>⟧ (H.told host.old) core.old }
     requires linked { AreLinked (H.told host.old) links.old.items }
@@ -236,12 +243,13 @@ pub fn turns<H: Host>(
     ensures anew { OnOk result ((s : ℕ) → (pace s (H.told host.old)).links ≤ (pace s (H.told host.new)).links) }
     ensures shown { IfErr result (λ fault. Shows ⟦<H::Disk as Disk>⟧ (H.told host.new) fault) }
     ensures holding { (f : ℕ → Bool) → HoldFor f links.old.items → HoldFor f links.new.items }
+    ensures handing { (f : ℕ → Bool) → HoldFor f links.old.items → handed f (H.told host.new) ≡ handed f (H.told host.old) }
 {
     for done in 0..MOST_TURNS {
         if !is_pending(core, links) {
             return Ok(());
         }
-        turn(alloc, host, core, links, noticed)?;
+        turn(alloc, host, core, links, noticed, buffer)?;
     }
     if is_pending(core, links) {
         return Err(ScriptFault::Stalled);

@@ -11,7 +11,8 @@ use Rattle.script_model.specs.Errors.{behind_hold, is_held}
 use Rattle.script_model.specs.Events.{Event, Stepped}
 use Rattle.script_model.specs.Orders.{HaveBegun, IsBegun, behind_command, behind_commands, orders}
 use Rattle.script_run.specs.Holding.{IsStillHeld, held_in, runs}
-use Rattle.script_run.proofs.Holding.{both_later, held_more, held_now, held_on, hold_later, holds_more}
+use Rattle.script_commands.proofs.Held.{both_later}
+use Rattle.script_run.proofs.Holding.{held_more, held_now, held_on, hold_later, holds_more}
 
 -- Commands begin with those that were carried out, so many of them, and the rest is still to come. The links that hold what comes are
 -- those of the servers that run and are held.
@@ -34,6 +35,11 @@ one_more k n [] c os is = let same : n ≡ k = omega (arith, is) in ap (λ x. be
 one_more k n (x ∷ xs) c os is = one_more (k + 1) n xs c (behind_command x (step.Begins k ∷ os)) (omega (arith, is))
 
 module _ {D : Type 0} where
+  -- the command that comes next
+  pub stands_at : (es : List (Event D)) (ls : List Link) (commands rest more : List ScriptCommand) (c : ScriptCommand) (count place : ℕ) → SoFar es ls commands rest count → rest ≡ c ∷ more → place ≡ count → slice_get commands place ≡ Some c
+  stands_at es ls commands rest more c count place s is at =
+      ap (λ (n : ℕ). slice_get commands n) at ∙ ap (λ (cs : List ScriptCommand). slice_get cs count) (sym s.are ∙ ap (λ (x : List ScriptCommand). s.front ++ x) is) ∙ at_place s.front c more count s.many
+
   pub so_far_first : (es : List (Event D)) (ls : List Link) (commands : List ScriptCommand) (rest : List ScriptCommand) (count : ℕ) → count ≡ 0 → rest ≡ commands → es ≡ [] → AreHeld (λ s. false) ls → SoFar es ls commands rest count
   so_far_first es ls commands rest count none are began free = record {
     front = [];
@@ -48,8 +54,7 @@ module _ {D : Type 0} where
       → mid ≡ Stepped (step.Begins place) ∷ es → orders mid ≡ step.Begins place ∷ orders es → orders after ≡ behind_command c (orders mid) → (course after).begun ≡ (course mid).begun → AreLinked after new
       → ((f : ℕ → Bool) → AreHeld f ls → HoldFor (λ s. behind_hold c s (f s)) new) → SoFar after new commands more next
   so_far_more es mid after ls new commands rest more c count place next s at counts is noted begins carried standing linked holding =
-      let stands : slice_get commands place ≡ Some c =
-      ap (λ (n : ℕ). slice_get commands n) at ∙ ap (λ (cs : List ScriptCommand). slice_get cs count) (sym s.are ∙ ap (λ (x : List ScriptCommand). s.front ++ x) is) ∙ at_place s.front c more count s.many in record {
+      let stands : slice_get commands place ≡ Some c = stands_at es ls commands rest more c count place s is at in record {
         front = s.front ++ c ∷ [];
         many = omega (arith, s.many, counts, ap length (λ t. s.front ++ c ∷ []), lengths s.front);
         are = append_assoc s.front (c ∷ []) more ∙ ap (λ x. s.front ++ x) (sym is) ∙ s.are;

@@ -14,15 +14,11 @@ use Rattle.script_model.specs.Courses.{course}
 use Rattle.script_model.specs.Errors.{before_ends, behind_hold, is_held}
 use Rattle.script_model.specs.Events.{Event, Started, Connected, Sent, Heard, Ended, Opened, Found, Shut, Stepped, running}
 use Rattle.script_texts.specs.Commands.{commands_read}
-use Rattle.script_run.proofs.Coursed.{shut_begun}
-use Rattle.script_run.proofs.Held.{hold_same, none_held}
+use Rattle.script_commands.proofs.Coursed.{shut_begun}
+use Rattle.script_commands.proofs.Held.{hold_same, none_held}
 use Rattle.script_run.specs.Holding.{AreReleased, AreReleasedOf, behind_place, held_in, is_some_of, runs}
 
 -- ---- both are so
-
-pub both_later : (b c : Bool) → (b && c) ≡ true → c ≡ true
-both_later true c is = is
-both_later false c is = absurd (cc)
 
 with_true : (b c : Bool) → b ≡ true → c ≡ (b && c)
 with_true true c is = refl
@@ -55,7 +51,7 @@ held_more s (x ∷ xs) c held = held_more s xs c (behind_hold x s held)
 
 module _ {D : Type 0} (commands : List ScriptCommand) (s : ℕ) where
   -- what is held since the command began that began there
-  abbrev held_at : Option (ℕ × List (Event D)) → Bool
+  abbrev pub held_at : Option (ℕ × List (Event D)) → Bool
   held_at None = false
   held_at (Some b) = behind_place (slice_get commands b.0) s (runs s b.1 && held_in commands b.1 s)
 
@@ -70,7 +66,7 @@ module _ {D : Type 0} (commands : List ScriptCommand) (s : ℕ) where
   by_step (step.Open name w h session objects) es before = before
   by_step step.NoMemory es before = before
 
-  by_begun : (es : List (Event D)) → held_in commands es s ≡ held_at (course es).begun
+  pub by_begun : (es : List (Event D)) → held_in commands es s ≡ held_at (course es).begun
   by_begun [] = refl
   by_begun (Stepped st ∷ es) = by_step st es (by_begun es)
   by_begun (Started session inc ok ∷ es) = by_begun es

@@ -1,13 +1,8 @@
 pub mod Again
 pub mod Came
 pub mod Carried
-pub mod Coursed
 pub mod Faulted
-pub mod Held
+pub mod HeldBack
 pub mod Holding
-pub mod Lines
-pub mod Ordered
-pub mod Reading
 pub mod Settled
-pub mod Starting
 pub mod Writing

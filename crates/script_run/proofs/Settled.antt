@@ -10,7 +10,7 @@ use Rattle.script_container.specs.Told.{IsTold}
 use Rattle.script_links.specs.Links.{AreLinked, is_any_held}
 use Rattle.script_links.specs.Shown.{AreQuiet}
 use Rattle.script_links.specs.declared.links.Link.{Link}
-use Rattle.script_run.proofs.Held.{none_linked}
+use Rattle.script_commands.proofs.Held.{none_linked}
 
 module _ {D : Type 0} {disks : Disks D} where
   -- where no link is held, what isn't answered is of servers that don't run

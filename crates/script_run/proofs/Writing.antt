@@ -17,9 +17,10 @@ use Rattle.script_model.specs.Errors.{before_ends}
 use Rattle.script_model.specs.Events.{Event, Started, Connected, Sent, Heard, Ended, Opened, Found, Shut, Stepped}
 use Rattle.script_texts.specs.Commands.{commands_read}
 use Rattle.script_run.proofs.Carried.{SoFar, at_place}
-use Rattle.script_run.proofs.Coursed.{shut_begun}
+use Rattle.script_commands.proofs.Coursed.{shut_begun}
 use Rattle.script_run.specs.Faulted.{RefusesScript, ShowsOf}
-use Rattle.script_run.specs.Printed.{HasAll, HasEarlier, HasLine, HasLines, HasSome, HasSomeOf, Printed, PrintedBefore}
+use Rattle.script_commands.specs.Lines.{HasLine}
+use Rattle.script_run.specs.Printed.{HasAll, HasEarlier, HasLines, HasSome, HasSomeOf, Printed, PrintedBefore}
 
 -- an error that commands end with: their text was read
 abbrev pub IsOfCommands : ScriptFault → Type 0
@@ -210,3 +211,8 @@ module _ {D : Type 0} (disks : Disks D) where
   pub unread_none : (es : List (Event D)) (input : Option (List ℕ)) (first : Option (List ℕ)) (e : ScriptFault) → RefusesScript input e → IfSome input (λ text. HasSomeOf disks es text first first e)
   unread_none es None first e refused = tt
   unread_none es (Some text) first e refused = unread_some es text first (Some text) e refused
+
+  -- no command began, as there was no memory for it
+  pub none_written : (es : List (Event D)) (input : Option (List ℕ)) (commands : List ScriptCommand) (w : Option (List ℕ)) → IfSome input (λ text. commands_read text ≡ Ok commands) → es ≡ [] → IfSome input (λ text. HasSomeOf disks (before_ends es) text w w fault.NoMemory)
+  none_written es None commands w read none = tt
+  none_written es (Some text) commands w read none = (commands, read, record { lines = []; written = appends_none w; printed = subst (λ (h : List (Event D)). PrintedBefore disks commands (before_ends h) []) (sym none) refl })

@@ -2,6 +2,6 @@ pub mod Again
 pub mod Came
 pub mod Carried
 pub mod Faulted
+pub mod HeldBack
 pub mod Holding
 pub mod Printed
-pub mod Starts

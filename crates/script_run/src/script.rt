@@ -12,6 +12,7 @@ ghost use Rattle.script_model.specs.Settled.{IsSettled};
 ghost use Rattle.script_model.specs.Turns.{AreTurns};
 ghost use Rattle.script_run.specs.Carried.{AreCarriedOut, MayHaveBegun};
 ghost use Rattle.script_run.specs.Faulted.{IsFaultOf, RefusesScript, ShowsOf};
+ghost use Rattle.script_run.specs.HeldBack.{AreHeldBack, AreHeldBackOf};
 ghost use Rattle.script_run.specs.Holding.{AreReleased, AreReleasedOf};
 ghost use Rattle.script_run.specs.Printed.{HasAll, HasLines, HasSome, HasSomeOf};
 ghost use Rattle.script_texts.specs.Commands.{commands_read};
@@ -20,10 +21,10 @@ ghost use Rattle.script_links.specs.Shown.{AreQuiet};
 ghost use Rattle.script_links.specs.Told.{IsTold};
 ghost use Rattle.std.specs.Prelude.{◌≡◌, ◌∷◌, ℕ, [], false, IfErr, IfOk, IfSome, Ok, OnOk, length};
 
-use crate::commands::carry_out;
 use container_core::container::{ContainerCore, Limits};
+use script_commands::commands::carry_out;
 use script_links::fault::ScriptFault;
-use script_links::links::Link;
+use script_links::links::{Link, PIECE};
 use script_links::turns::end_all;
 use script_model::command::ScriptCommand;
 use script_model::host::Host;
@@ -85,6 +86,7 @@ fn carry_out_all<H: Host, W: Write>(
     core: &mut ContainerCore,
     links: &mut Vec<Link>,
     commands: Vec<ScriptCommand>,
+    buffer: &mut [u8],
     writer: &mut W,
 ) -> Result<(), ScriptFault>
     requires told { IsTold ⟦<H::Disk as Disk>⟧ (H.told host.old) core.old }
@@ -100,13 +102,14 @@ fn carry_out_all<H: Host, W: Write>(
     ensures begun { HaveBegun (H.told host.new) commands.items }
     ensures settled { OnOk result (IsSettled (H.told host.new)) }
     ensures released { OnOk result (AreReleased (H.told host.new) commands.items) }
+    ensures held_back { AreHeldBack commands.items (H.told host.new) }
     ensures printed { OnOk result (HasLines ⟦<H::Disk as Disk>⟧ commands.items (length commands.items) (H.told host.new) (W.contents writer.old) (W.contents writer.new)) }
     ensures begun_printed { IfErr result (HasSome ⟦<H::Disk as Disk>⟧ commands.items (H.told host.new) (W.contents writer.old) (W.contents writer.new)) }
     ensures shown { IfErr result (λ fault. ShowsOf ⟦<H::Disk as Disk>⟧ commands.items (H.told host.new) fault) }
 {
     for (place, command) in commands.into_iter().enumerate() {
         begins(host, place);
-        carry_out(alloc, host, core, links, command, writer)?;
+        carry_out(alloc, host, core, links, command, buffer, writer)?;
     }
     if is_any_held(links) {
         return Err(ScriptFault::Stalled);
@@ -127,7 +130,8 @@ fn carry_out_all<H: Host, W: Write>(
 ///
 /// Where it ends well, what was asked for is done (`settled`): no call is pending of a server that ran to the end, and no frame's file
 /// is to be committed, or in doubt. Of frames this holds where each command begins, too (`heard`). And no server that ran to the end is
-/// held (`released`); one that is held ends the script by `Stalled`.
+/// held (`released`); one that is held ends the script by `Stalled`. However it ends, no message of a server is given to the container
+/// while the server is held (`held_back`): it waits until the command that releases the server, or is dropped with the server's end.
 ///
 /// Refused: an input that isn't read or has more than 134,217,728 bytes; the first line that spells no command; and then, as
 /// commands are carried out: a server that isn't started (`Link`); what isn't answered in 1,000 turns, a file that is still to be
@@ -155,6 +159,7 @@ pub fn run_script<H: Host, R: Read, W: Write>(
     ensures begun { IfSome (R.remaining reader.old) (λ text. MayHaveBegun (H.told host.new) text) }
     ensures settled { OnOk result (IsSettled (before_ends (H.told host.new))) }
     ensures released { OnOk result (IfSome (R.remaining reader.old) (λ text. AreReleasedOf (before_ends (H.told host.new)) text)) }
+    ensures held_back { IfSome (R.remaining reader.old) (λ text. AreHeldBackOf (H.told host.new) text) }
     ensures faulted { IfErr result (λ fault. IsFaultOf ⟦<H::Disk as Disk>⟧ (R.remaining reader.old) (H.told host.new) fault) }
     ensures printed { OnOk result (IfSome (R.remaining reader.old) (λ text. HasAll ⟦<H::Disk as Disk>⟧ (before_ends (H.told host.new)) text (W.contents writer.old) (W.contents writer.new))) }
     ensures begun_printed { IfErr result (λ fault. IfSome (R.remaining reader.old) (λ text. HasSomeOf ⟦<H::Disk as Disk>⟧ (before_ends (H.told host.new)) text (W.contents writer.old) (W.contents writer.new) fault)) }
@@ -163,12 +168,23 @@ pub fn run_script<H: Host, R: Read, W: Write>(
         Ok(commands) => commands,
         Err(fault) => return Err(fault),
     };
+    let Ok(mut buffer) = vec![in alloc; 0; PIECE] else {
+        return Err(ScriptFault::NoMemory);
+    };
     let limits = Limits {
         numbers: MOST_NUMBERS,
     };
     let mut core = ContainerCore::new(alloc, limits);
     let mut links = Vec::new(alloc);
-    let told = carry_out_all(alloc, host, &mut core, &mut links, commands, writer);
+    let told = carry_out_all(
+        alloc,
+        host,
+        &mut core,
+        &mut links,
+        commands,
+        &mut buffer,
+        writer,
+    );
     end_all(host, &mut links);
     told
 }

@@ -1,4 +1,5 @@
-use Rattle.std.proofs.Common.{◌≡◌, refl}
+use Rattle.std.proofs.Common.{◌≡◌, ◌∙◌, refl}
+use Rattle.script_container.proofs.Handed.{handed_other}
 use Rattle.script_container.proofs.Noticed.{message_noticed, message_unnoticed, one_message}
 use Rattle.script_container.proofs.container.message.Goals as goal
 
@@ -13,3 +14,6 @@ returns-clause-unnoticed g c =
     let same : c.in-Some.message ≡ c.args.message = one_message c.message_of.result c.args.message c.in-Some.message (c.message_of.ensures c.args.inc c.args.message refl) c.in-Some.is in
     message_unnoticed (g.H.Host.told c.args.host.now) (g.H.Host.told c.note.new.self) (g.H.Host.told c.noted.new.host) c.args.core.now c.args.inc c.args.message c.requires.told.recorded c.note.ensures c.noted.ensures.noticed
     c.session.result c.in-Some.message c.noted.result c.on_message-told.result c.session.ensures same c.noted.ensures.same c.on_message-told.ensures.refused
+
+pub returns-clause-handing : goal.returns-clause-handing
+returns-clause-handing g c = λ f other. c.noted.ensures.handing f ∙ handed_other f (g.H.Host.told c.args.host.now) (g.H.Host.told c.note.new.self) c.args.inc c.args.message c.note.ensures other

@@ -9,6 +9,7 @@ loop-action-preserved g c = record {
   told = c.save_on.ensures.told;
   still = λ s. c.save_on.ensures.still s ∙ c.loop-action.invariant.still s;
   quiet = λ s. c.save_on.ensures.quiet s ∙ c.loop-action.invariant.quiet s;
+  handing = λ f. c.save_on.ensures.handing f ∙ c.loop-action.invariant.handing f;
   paced = λ s. c.save_on.ensures.paced s ∙ c.loop-action.invariant.paced s;
   ordered = c.save_on.ensures.ordered ∙ c.loop-action.invariant.ordered;
   seen = c.in_ok-save_on.ensures.seen;

@@ -1,4 +1,4 @@
-use Rattle.std.proofs.Common.{◌≡◌, rules}
+use Rattle.std.proofs.Common.{◌≡◌, rules, ◌∙◌}
 use Rattle.script_model.specs.Bounds.{pace}
 use Rattle.script_links.proofs.Paces.{heard_on, may_hear, none_heard, sent_within}
 use Rattle.std.specs.Result.{IsErrAnd}
@@ -25,3 +25,6 @@ pub returns-in_err-send_turn-clause-shown : goal.returns-in_err-send_turn-clause
 returns-in_err-send_turn-clause-shown g c =
     let again : IsErrAnd c.from_residual.result (λ x. x ≡ c.in_err-send_turn.field-0.0) = search rules in
     passed_on g.H.Disk.Disk c.from_residual.result c.in_err-send_turn.field-0.0 (g.H.Host.told c.send_turn.new.host) again c.in_err-send_turn.ensures.shown
+
+pub returns-clause-handing : goal.returns-clause-handing
+returns-clause-handing g c = λ f is. c.hear.ensures.handing f is ∙ c.send_turn.ensures.handing f

@@ -1,4 +1,4 @@
-use Rattle.std.proofs.Common.{◌≡◌, Option, rules, sym, subst}
+use Rattle.std.proofs.Common.{◌≡◌, Option, rules, sym, subst, ◌∙◌}
 use Rattle.std.specs.Result.{IsErrAnd}
 use Rattle.script_model.specs.Notices.{Notes, Notice, notices}
 use Rattle.script_container.proofs.Noticed.{seen_first, seen_unless}
@@ -22,3 +22,9 @@ returns-in-Err-clause-seen g c =
 
 pub returns-in-Err-clause-shown : goal.returns-in-Err-clause-shown
 returns-in-Err-clause-shown g c = memory_shown g.H.Disk.Disk c.refused.result (g.H.Host.told c.message.new.host) c.refused.ensures.lacking
+
+pub returns-in_err-save_all-in-Ok-clause-handing : goal.returns-in_err-save_all-in-Ok-clause-handing
+returns-in_err-save_all-in-Ok-clause-handing g c = λ f free. c.save_all.ensures.handing f ∙ c.message.ensures.handing f free
+
+pub returns-in_ok-save_all-in-Ok-clause-handing : goal.returns-in_ok-save_all-in-Ok-clause-handing
+returns-in_ok-save_all-in-Ok-clause-handing g c = λ f free. c.save_all.ensures.handing f ∙ c.message.ensures.handing f free

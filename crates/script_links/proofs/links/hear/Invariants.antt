@@ -1,4 +1,4 @@
-use Rattle.std.proofs.Common.{◌≡◌, ℕ, []}
+use Rattle.std.proofs.Common.{◌≡◌, ℕ, [], Bool}
 use Rattle.script_model.specs.Courses.{course}
 use Rattle.script_model.specs.Notices.{Tells, notices}
 use Rattle.script_model.specs.Bounds.{pace}
@@ -7,6 +7,7 @@ use Rattle.script_model.specs.Origins.{passed}
 use Rattle.script_links.specs.Links.{IsServed, beside}
 use Rattle.script_links.specs.Ready.{GoesOn, pace_beside}
 use Rattle.script_container.specs.Told.{IsTold}
+use Rattle.script_container.specs.Handed.{handed}
 use Rattle.script_links.proofs.links.hear.Given as goal
 
 abbrev pub invariant-loop-reads : goal.invariant-loop-reads
@@ -15,6 +16,7 @@ invariant-loop-reads g l = record {
   still : (s : ℕ) → running s (g.H.Host.told l.host) ≡ running s (g.H.Host.told l.fn.host);
   same : l.link.inc ≡ l.fn.link.inc;
   holding : l.link.held ≡ l.fn.link.held;
+  handing : (f : ℕ → Bool) → f l.fn.link.inc ≡ l.fn.link.held → handed f (g.H.Host.told l.host) ≡ handed f (g.H.Host.told l.fn.host);
   apart : (s : ℕ) → beside l.fn.link.inc s (g.H.Host.told l.host) ≡ beside l.fn.link.inc s (g.H.Host.told l.fn.host);
   aside : (s : ℕ) → pace_beside l.fn.link.inc s (g.H.Host.told l.host) ≡ pace_beside l.fn.link.inc s (g.H.Host.told l.fn.host);
   on : GoesOn (pace l.fn.link.inc (g.H.Host.told l.fn.host)) (pace l.link.inc (g.H.Host.told l.host)) l.reads;

@@ -1,8 +1,9 @@
-use Rattle.std.proofs.Common.{◌≡◌, rules}
+use Rattle.std.proofs.Common.{◌≡◌, rules, ◌∙◌}
 use Rattle.script_model.specs.Bounds.{pace}
 use Rattle.script_links.proofs.Paces.{all_left, left_again, may_link, may_send, may_send_again, turn_again, turn_over, turn_unlinked}
 use Rattle.std.specs.Result.{IsErrAnd}
 use Rattle.script_container.proofs.Shown.{lacking_on, passed_on}
+use Rattle.script_links.proofs.Handing.{told_still}
 use Rattle.script_links.proofs.links.serve.Goals as goal
 
 pub exchange-requires-clause-within : goal.exchange-requires-clause-within
@@ -63,3 +64,15 @@ exchange-requires-2-clause-told g c = c.reconnect.ensures.told c.exchange.new.co
 
 pub returns-then-not-made-clause-told : goal.returns-then-not-made-clause-told
 returns-then-not-made-clause-told g c = c.reconnect.ensures.told c.exchange.new.core c.exchange.ensures.told
+
+pub returns-in_err-made-clause-handing : goal.returns-in_err-made-clause-handing
+returns-in_err-made-clause-handing g c = λ f is. c.reconnect.ensures.handing f ∙ c.exchange.ensures.handing f is
+
+pub returns-then-not-made-clause-handing : goal.returns-then-not-made-clause-handing
+returns-then-not-made-clause-handing g c = λ f is. c.reconnect.ensures.handing f ∙ c.exchange.ensures.handing f is
+
+pub returns-in_err-heard-clause-handing : goal.returns-in_err-heard-clause-handing
+returns-in_err-heard-clause-handing g c = λ f is. c.exchange-2.ensures.handing f (told_still f c.reconnect.new.link c.args.link.now (c.reconnect.ensures.same ∙ c.exchange.ensures.same) (c.reconnect.ensures.holding ∙ c.exchange.ensures.holding) is) ∙ c.reconnect.ensures.handing f ∙ c.exchange.ensures.handing f is
+
+pub returns-clause-handing : goal.returns-clause-handing
+returns-clause-handing g c = λ f is. c.exchange-2.ensures.handing f (told_still f c.reconnect.new.link c.args.link.now (c.reconnect.ensures.same ∙ c.exchange.ensures.same) (c.reconnect.ensures.holding ∙ c.exchange.ensures.holding) is) ∙ c.reconnect.ensures.handing f ∙ c.exchange.ensures.handing f is

@@ -5,6 +5,7 @@ use Rattle.script_links.proofs.Linked.{same_links}
 use Rattle.script_links.proofs.Paces.{had_on, is_next, links_on, single_linked, turn_goes_on}
 use Rattle.script_links.proofs.Served.{placed_served}
 use Rattle.script_links.proofs.Shown.{hold_set}
+use Rattle.script_links.proofs.Handing.{told_at}
 use Rattle.script_links.proofs.turns.serve_at.Goals as goal
 
 pub returns-clause-linked : goal.returns-clause-linked
@@ -47,3 +48,6 @@ returns-clause-holding g c = λ f hold.
 pub returns-clause-anew : goal.returns-clause-anew
 returns-clause-anew g c =
     on_ok_weaker c.serve.result (λ had. links_on (g.H.Host.told c.args.host.now) (g.H.Host.told c.serve.new.host) c.index_mut.result.now.inc c.serve.new.link.inc c.serve.ensures.same c.serve.ensures.aside had) c.serve.ensures.turned
+
+pub returns-clause-handing : goal.returns-clause-handing
+returns-clause-handing g c = λ f hold. c.serve.ensures.handing f (told_at f c.args.links.now.items c.args.place c.index_mut.result.now c.requires.within c.index_mut.ensures.value hold)

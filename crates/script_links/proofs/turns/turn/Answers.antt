@@ -11,6 +11,7 @@ loop-place-preserved-then-branch g c = record {
   served = c.in_ok-serve_at.ensures.served;
   each = λ n ready. c.in_ok-serve_at.ensures.ready n (c.loop-place.invariant.each n ready);
   holding = λ f hold. c.serve_at.ensures.holding f (c.loop-place.invariant.holding f hold);
+  handing = λ f hold. c.serve_at.ensures.handing f (c.loop-place.invariant.holding f hold) ∙ c.loop-place.invariant.handing f hold;
   due = λ n due. c.in_ok-serve_at.ensures.due n (c.loop-place.invariant.due n due);
   ordered = c.serve_at.ensures.ordered ∙ c.loop-place.invariant.ordered;
   seen = c.in_ok-serve_at.ensures.seen;
@@ -30,6 +31,7 @@ loop-place-preserved g c =
       each = λ n ready.
           turn_without n (g.H.Host.told c.serve_at.new.host) (g.H.Host.told c.end_at.new.host) c.serve_at.new.links.items c.loop-place.place within c.end_at.new.links.items c.end_at.ensures.rest c.end_at.ensures.paced
           (c.in_ok-serve_at.ensures.ready n (c.loop-place.invariant.each n ready));
+      handing = λ f hold. c.end_at.ensures.handing f ∙ c.serve_at.ensures.handing f (c.loop-place.invariant.holding f hold) ∙ c.loop-place.invariant.handing f hold;
       holding = λ f hold. c.end_at.ensures.holding f (c.serve_at.ensures.holding f (c.loop-place.invariant.holding f hold));
       due = λ n due.
           had_without n (g.H.Host.told c.serve_at.new.host) (g.H.Host.told c.end_at.new.host) c.serve_at.new.links.items c.loop-place.place within c.end_at.new.links.items c.end_at.ensures.rest c.end_at.ensures.paced
@@ -65,3 +67,9 @@ returns-in_err-serve_at-clause-holding g c = λ f hold. c.serve_at.ensures.holdi
 
 pub returns-in_err-end_at-clause-holding : goal.returns-in_err-end_at-clause-holding
 returns-in_err-end_at-clause-holding g c = λ f hold. c.end_at.ensures.holding f (c.serve_at.ensures.holding f (c.loop-place.invariant.holding f hold))
+
+pub returns-in_err-serve_at-clause-handing : goal.returns-in_err-serve_at-clause-handing
+returns-in_err-serve_at-clause-handing g c = λ f hold. c.serve_at.ensures.handing f (c.loop-place.invariant.holding f hold) ∙ c.loop-place.invariant.handing f hold
+
+pub returns-in_err-end_at-clause-handing : goal.returns-in_err-end_at-clause-handing
+returns-in_err-end_at-clause-handing g c = λ f hold. c.end_at.ensures.handing f ∙ c.serve_at.ensures.handing f (c.loop-place.invariant.holding f hold) ∙ c.loop-place.invariant.handing f hold

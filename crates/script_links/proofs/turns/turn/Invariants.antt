@@ -5,6 +5,7 @@ use Rattle.script_model.specs.Notices.{Tells, notices}
 use Rattle.script_links.specs.Links.{AreLinked, AreServed, HoldFor}
 use Rattle.script_links.specs.Ready.{AreDue, AreReady, HaveHad, IsUnderway}
 use Rattle.script_container.specs.Told.{IsTold}
+use Rattle.script_container.specs.Handed.{handed}
 use Rattle.script_links.proofs.turns.turn.Given as goal
 
 abbrev pub invariant-loop-place : goal.invariant-loop-place
@@ -14,6 +15,7 @@ invariant-loop-place g l = record {
   served : AreServed (g.H.Host.told l.host) l.links.items;
   each : (n : ℕ) → AreReady n (g.H.Host.told l.fn.host) l.fn.links.items → IsUnderway n (g.H.Host.told l.host) l.links.items l.place;
   holding : (f : ℕ → Bool) → HoldFor f l.fn.links.items → HoldFor f l.links.items;
+  handing : (f : ℕ → Bool) → HoldFor f l.fn.links.items → handed f (g.H.Host.told l.host) ≡ handed f (g.H.Host.told l.fn.host);
   due : (n : ℕ) → AreDue n (g.H.Host.told l.fn.host) l.fn.links.items → HaveHad n (g.H.Host.told l.host) l.links.items l.place;
   ordered : course (g.H.Host.told l.host) ≡ course (g.H.Host.told l.fn.host);
   seen : Tells (notices (g.H.Host.told l.host)) l.noticed;

@@ -13,6 +13,7 @@ loop-done-preserved g c = record {
   served = c.in_ok-turn.ensures.served;
   ready = c.in_ok-turn.ensures.ready (c.loop-done.done + 1) c.loop-done.invariant.ready;
   holding = λ f hold. c.turn.ensures.holding f (c.loop-done.invariant.holding f hold);
+  handing = λ f hold. c.turn.ensures.handing f (c.loop-done.invariant.holding f hold) ∙ c.loop-done.invariant.handing f hold;
   due = c.in_ok-turn.ensures.due (c.loop-done.done + 1) c.loop-done.invariant.due;
   ordered = c.turn.ensures.ordered ∙ c.loop-done.invariant.ordered;
   seen = c.in_ok-turn.ensures.seen;
@@ -43,3 +44,6 @@ returns-then-not-is_pending-clause-quiet g c =
 pub returns-clause-quiet : goal.returns-clause-quiet
 returns-clause-quiet g c =
     none_awaited c.loop-done.core.objects c.loop-done.links.items (ap (λ ls. is_any_awaited ls c.loop-done.core.objects) (sym c.deref-2.ensures.value) ∙ sym c.is_pending-2.ensures ∙ c.if-is_pending.false)
+
+pub returns-in_err-turn-clause-handing : goal.returns-in_err-turn-clause-handing
+returns-in_err-turn-clause-handing g c = λ f hold. c.turn.ensures.handing f (c.loop-done.invariant.holding f hold) ∙ c.loop-done.invariant.handing f hold

@@ -5,6 +5,7 @@ use Rattle.script_model.specs.Notices.{Tells, notices}
 use Rattle.script_links.specs.Links.{AreLinked, AreServed, HoldFor}
 use Rattle.script_links.specs.Ready.{AreDue, AreReady}
 use Rattle.script_container.specs.Told.{IsTold}
+use Rattle.script_container.specs.Handed.{handed}
 use Rattle.script_links.proofs.turns.turns.Given as goal
 
 abbrev pub invariant-loop-done : goal.invariant-loop-done
@@ -14,6 +15,7 @@ invariant-loop-done g l = record {
   served : AreServed (g.H.Host.told l.host) l.links.items;
   ready : AreReady (l.done + 1) (g.H.Host.told l.host) l.links.items;
   holding : (f : ℕ → Bool) → HoldFor f l.fn.links.items → HoldFor f l.links.items;
+  handing : (f : ℕ → Bool) → HoldFor f l.fn.links.items → handed f (g.H.Host.told l.host) ≡ handed f (g.H.Host.told l.fn.host);
   due : AreDue (l.done + 1) (g.H.Host.told l.host) l.links.items;
   ordered : course (g.H.Host.told l.host) ≡ course (g.H.Host.told l.fn.host);
   seen : Tells (notices (g.H.Host.told l.host)) l.noticed;

@@ -1,18 +1,21 @@
-use Rattle.std.proofs.Common.{◌≡◌, ◌+◌, ◌∷◌, [], inr, ap, sym, ◌∙◌, rules}
+use Rattle.std.proofs.Common.{◌≡◌, ◌+◌, ◌∷◌, [], inr, ap, sym, ◌∙◌, rules, List, subst}
 use Rattle.std.proofs.lemmas.List.{nil_from_length}
 use Rattle.std.specs.Vec.Iter.{into_iter_items}
 use Rattle.container_model.specs.Record.{Record}
+use Rattle.script_model.specs.Events.{Event}
 use Rattle.script_model.specs.Origins.{passed}
 use Rattle.script_model.specs.Saved.{is_any_unsaved}
 use Rattle.script_links.specs.Links.{is_any_held}
 use Rattle.script_links.proofs.Served.{same_served}
 use Rattle.script_run.proofs.Carried.{last_begun, left_held, so_far_first, so_far_more}
 use Rattle.script_run.proofs.Faulted.{handed_on}
-use Rattle.script_run.proofs.Held.{some_held}
-use Rattle.script_run.proofs.Holding.{released_by}
+use Rattle.script_commands.proofs.Held.{some_held}
+use Rattle.script_run.proofs.HeldBack.{back_more}
+use Rattle.script_run.proofs.Holding.{held_now, released_by}
 use Rattle.script_run.proofs.Settled.{settled_by}
 use Rattle.script_run.proofs.Writing.{lines_all, lines_first, lines_held, lines_left, lines_more}
 use Rattle.std.specs.Result.{IsErrAnd}
+use Rattle.script_run.specs.HeldBack.{AreHeldBack}
 use Rattle.script_run.proofs.script.carry_out_all.Goals as goal
 
 pub loop-place-init : goal.loop-place-init
@@ -26,6 +29,7 @@ loop-place-init g c =
       quiet = c.requires.quiet;
       saved = c.requires.saved;
       lines = lines_first g.H.Disk.Disk c.args.commands.items c.into_iter-place-iterator.result.count (g.H.Host.told c.args.host.now) (g.W.Write.contents c.args.writer.now) count;
+      back = subst (λ (h : List (Event g.H.Host.Disk)). AreHeldBack c.args.commands.items h) (sym c.requires.none) tt;
       so_far = so_far_first (g.H.Host.told c.args.host.now) c.args.links.now.items c.args.commands.items (into_iter_items c.into_iter-place-iterator.result.iter) c.into_iter-place-iterator.result.count count rest c.requires.none c.requires.free;
     }
 
@@ -43,6 +47,9 @@ loop-place-preserved g c =
       lines = lines_more g.H.Disk.Disk (g.H.Host.told c.loop-place.host) (g.H.Host.told c.begins.new.host) (g.H.Host.told c.carry_out.new.host) c.loop-place.links.items c.args.commands.items (into_iter_items c.loop-place.place-iterator.iter)
           (into_iter_items c.next.new.self.iter) c.in-Some.command c.loop-place.place-iterator.count c.in-Some.place c.next.new.self.count (g.W.Write.contents c.args.writer.now) (g.W.Write.contents c.loop-place.writer) (g.W.Write.contents c.carry_out.new.writer)
           c.loop-place.invariant.so_far items at c.begins.ensures.noted c.carry_out.ensures.standing c.loop-place.invariant.lines counts c.in_ok-carry_out.ensures.printed;
+      back = back_more (g.H.Host.told c.loop-place.host) (g.H.Host.told c.begins.new.host) (g.H.Host.told c.carry_out.new.host) c.loop-place.links.items c.args.commands.items (into_iter_items c.loop-place.place-iterator.iter)
+          (into_iter_items c.next.new.self.iter) c.in-Some.command c.loop-place.place-iterator.count c.in-Some.place c.loop-place.invariant.so_far items at c.begins.ensures.noted c.carry_out.ensures.standing
+          (c.carry_out.ensures.handing (held_now c.args.commands.items (g.H.Host.told c.loop-place.host)) c.loop-place.invariant.so_far.holds) c.loop-place.invariant.back;
       so_far = so_far_more (g.H.Host.told c.loop-place.host) (g.H.Host.told c.begins.new.host) (g.H.Host.told c.carry_out.new.host) c.loop-place.links.items c.carry_out.new.links.items c.args.commands.items (into_iter_items c.loop-place.place-iterator.iter)
           (into_iter_items c.next.new.self.iter) c.in-Some.command c.loop-place.place-iterator.count c.in-Some.place c.next.new.self.count c.loop-place.invariant.so_far at counts items c.begins.ensures.noted c.begins.ensures.ordered c.in_ok-carry_out.ensures.ordered c.carry_out.ensures.standing c.carry_out.ensures.linked c.carry_out.ensures.holding;
     }
@@ -105,3 +112,11 @@ returns-clause-printed g c =
     let none : into_iter_items c.loop-place.place-iterator.iter ≡ [] = nil_from_length (into_iter_items c.loop-place.place-iterator.iter) (sym c.loop-place.place-iterator.iter.rest.ok.0 ∙ c.in-None.ensures.steps.0.0) in
     lines_all g.H.Disk.Disk c.loop-place.links.items (g.H.Host.told c.loop-place.host) c.args.commands.items (into_iter_items c.loop-place.place-iterator.iter) c.loop-place.place-iterator.count (g.W.Write.contents c.args.writer.now) (g.W.Write.contents c.loop-place.writer) none
     c.loop-place.invariant.so_far c.loop-place.invariant.lines
+
+pub returns-in_err-carry_out-clause-held_back : goal.returns-in_err-carry_out-clause-held_back
+returns-in_err-carry_out-clause-held_back g c =
+    let items : into_iter_items c.loop-place.place-iterator.iter ≡ c.in-Some.command ∷ into_iter_items c.next.new.self.iter = search rules in
+    let at : c.in-Some.place ≡ c.loop-place.place-iterator.count = search rules in
+    back_more (g.H.Host.told c.loop-place.host) (g.H.Host.told c.begins.new.host) (g.H.Host.told c.carry_out.new.host) c.loop-place.links.items c.args.commands.items (into_iter_items c.loop-place.place-iterator.iter)
+    (into_iter_items c.next.new.self.iter) c.in-Some.command c.loop-place.place-iterator.count c.in-Some.place c.loop-place.invariant.so_far items at c.begins.ensures.noted c.carry_out.ensures.standing
+    (c.carry_out.ensures.handing (held_now c.args.commands.items (g.H.Host.told c.loop-place.host)) c.loop-place.invariant.so_far.holds) c.loop-place.invariant.back

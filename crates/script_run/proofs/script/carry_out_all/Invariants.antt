@@ -6,6 +6,7 @@ use Rattle.script_links.specs.Shown.{AreQuiet}
 use Rattle.script_links.specs.Told.{IsTold}
 use Rattle.script_run.proofs.Carried.{SoFar}
 use Rattle.script_run.specs.Printed.{HasLines}
+use Rattle.script_run.specs.HeldBack.{AreHeldBack}
 use Rattle.script_run.proofs.script.carry_out_all.Given as goal
 
 abbrev pub invariant-loop-place : goal.invariant-loop-place
@@ -16,5 +17,6 @@ invariant-loop-place g l = record {
   quiet : AreQuiet l.core.objects l.links.items;
   saved : is_any_unsaved l.core.frames ≡ false;
   lines : HasLines g.H.Disk.Disk l.fn.commands.items l.place-iterator.count (g.H.Host.told l.host) (g.W.Write.contents l.fn.writer) (g.W.Write.contents l.writer);
+  back : AreHeldBack l.fn.commands.items (g.H.Host.told l.host);
   so_far : SoFar (g.H.Host.told l.host) l.links.items l.fn.commands.items (into_iter_items l.place-iterator.iter) l.place-iterator.count;
 }

@@ -1,0 +1,6 @@
+pub mod Coursed
+pub mod Handing
+pub mod Held
+pub mod Lines
+pub mod Ordered
+pub mod Starting
