@@ -4,3 +4,4 @@ pub mod Steps
 pub mod Cycles
 pub mod Owned
 pub mod Laid
+pub mod Stops
