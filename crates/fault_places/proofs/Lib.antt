@@ -5,3 +5,4 @@ pub mod Cycles
 pub mod Owned
 pub mod Laid
 pub mod Stops
+pub mod Fats

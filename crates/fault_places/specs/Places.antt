@@ -74,6 +74,10 @@ IsExamined table taken chain fault (examined.Whole ns) = ((s : Store) → IsTabl
     × IsUnfaulted table taken chain fault
 IsExamined table taken chain fault examined.Other = IsUnfaulted table taken chain fault × IsNotWhole table chain
 
+-- the same of the directory's chain, which begins with this sector
+abbrev pub IsDirectoryExamined : List ℕ → List ℕ → ℕ → ChainFault → Examined → Type 0
+IsDirectoryExamined table taken first fault found = IsExamined table taken (record { first = first; width = 512; size = 0 }) fault found
+
 -- What is wrong with a file, with the place at which it is: as of a file that is at fault, of the header, the FAT, the
 -- directory's chain, the mini FAT's and the mini stream's.
 abbrev pub IsFaultAt : List ℕ → ChainFault → FaultPlace → Type 0
@@ -86,6 +90,14 @@ IsFaultAt file fault (place.MiniFat link) = (dir : List ℕ) × (d : IsDirectory
 IsFaultAt file fault (place.MiniStream link) = (dir : List ℕ) × (d : IsDirectory file dir) × (mini_fat : List ℕ)
     × IsChainOf (sectors_of file (listed file)) (first_mini_fat file) (512 * mini_fat_count file) mini_fat × (0 < size_of (entry_at dir 0))
     × IsLinkAtFault (sectors_of file (listed file)) (Contains (listed file ++ difat file ++ d.sectors ++ mini_fat)) (first_of (entry_at dir 0)) (size_of (entry_at dir 0)) fault link
+
+-- at no link of this part a file has a fault
+abbrev pub IsUnfaultedAt : List ℕ → ChainFault → (Link → FaultPlace) → Type 0
+IsUnfaultedAt file fault part = (link : Link) → IsFaultAt file fault (part link) → ⊥
+
+-- none of these places has the fault
+abbrev pub IsNowhere : List ℕ → ChainFault → Type 0
+IsNowhere file fault = (where_it_is : FaultPlace) → IsFaultAt file fault where_it_is → ⊥
 
 -- ---- the law
 -- where a place is told, the file is at fault

@@ -4,6 +4,7 @@
 pub mod chains;
 pub mod directory;
 mod ends;
+mod fat_faults;
 pub mod finding;
 pub mod law;
 mod looking;
