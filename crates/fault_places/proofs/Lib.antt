@@ -6,3 +6,5 @@ pub mod Owned
 pub mod Laid
 pub mod Stops
 pub mod Fats
+pub mod OwnFaults
+pub mod Searches

@@ -26,7 +26,7 @@ distinct_few count ns below once =
     length-le_from_distinct_below ns count (IsDistinct-from_AllPairs Decides-eqb ns once) (λ q t. All-contains (λ n. n < count) ns q below (Contains-from_any eqb-true q ns t))
 
 -- ---- marks of a walk
-unmarked : (count n : ℕ) → get_or (replicate count false) n true ≡ true → count ≤ n
+pub unmarked : (count n : ℕ) → get_or (replicate count false) n true ≡ true → count ≤ n
 unmarked zero n h = omega arith
 unmarked (suc count) zero h = absurd (cc h)
 unmarked (suc count) (suc n) h = omega (arith, unmarked count n h)
@@ -37,7 +37,7 @@ pub record IsMarked (count : ℕ) (taken : List ℕ) (marks : List Bool) (ns : L
   pub once : AreDistinct ns
   pub new : All (λ n. Contains taken n → ⊥) ns
 
-only : (at n : ℕ) → Contains (at ∷ []) n → n ≡ at
+pub only : (at n : ℕ) → Contains (at ∷ []) n → n ≡ at
 only at n (zero, l, e) = sym e
 only at n (suc k, l, e) = absurd (omega (arith, l))
 
