@@ -1,12 +1,12 @@
 -- A search that meets each entry once.
-use Rattle.std.proofs.Common.{◌≡◌, ◌≢◌, ◌⊎◌, inl, inr, ◌<◌, ◌≤◌, ◌+◌, ◌-◌, ◌*◌, ◌++◌, ◌∙◌, ℕ, zero, suc, Bool, true, false, List, [], ◌∷◌, arith, get_or, length, length-append, length-replicate, length-set, replicate, reverse, set, refl, ap, subst, sym}
+use Rattle.std.proofs.Common.{◌≡◌, ◌≢◌, ◌⊎◌, inl, inr, ◌<◌, ◌≤◌, ◌+◌, ◌-◌, ◌*◌, ◌++◌, ◌∙◌, ℕ, zero, suc, Bool, true, false, Option, Some, None, IfNone, IfSome, List, [], ◌∷◌, arith, get_or, length, length-append, length-set, replicate, reverse, set, refl, ap, subst, sym}
 use Rattle.std.specs.List.{All, Contains}
 use Rattle.std.proofs.Math.ListN.{get_or-append}
 use Rattle.std.proofs.Math.Seq.{get_or-append_seam}
 use Rattle.std.proofs.lemmas.Bool.{cases_lt}
-use Rattle.std.proofs.lemmas.List.{get_or_default, reverse-append}
+use Rattle.std.proofs.lemmas.List.{get_or_default, length-replicate, reverse-append}
 use Rattle.std.proofs.lemmas.List.Elements.{All-append, All-cons, All-contains, All-nil, All-push, All-weaker, Contains-append_left, Contains-append_right, Contains-push_cases}
-use Rattle.std.proofs.lemmas.Map.Views.{Contains-cons_cases}
+use Rattle.file_model.proofs.Lists.{Contains-cons_cases}
 use Rattle.file_faults.proofs.Lists.{all-from}
 use Rattle.cfb_bytes.specs.Marks.{AreDistinct, set_all}
 use Rattle.cfb_chain.proofs.Marks.{distinct_append, distinct_cons, distinct_head, marked_by, marked_only, set_all-append}
@@ -233,7 +233,9 @@ module _ (dir : List ℕ) (fault : DirFault) (ids parents : List ℕ) (seen : Li
       record { met = last.met; storage = last.storage; reached = reaches_right dir top link.to somebody lt last.reached } in
       let to_left : IsAhead dir ids (record { to = left (entry_at dir link.to); parent = link.parent }) =
       record { met = last.met; storage = last.storage; reached = reaches_left dir top link.to somebody lt last.reached } in
-      All-cons (IsAhead dir ids) _ _ to_right (All-cons (IsAhead dir ids) _ _ to_left (All-nil (IsAhead dir ids)))
+      let right_link : Ahead = record { to = right (entry_at dir link.to); parent = link.parent } in
+      let left_link : Ahead = record { to = left (entry_at dir link.to); parent = link.parent } in
+      All-cons (IsAhead dir ids) right_link (left_link ∷ []) to_right (All-cons (IsAhead dir ids) left_link [] to_left (All-nil (IsAhead dir ids)))
 
   -- the root, to which a link leads as to a child
   module _ (root : link.to ≡ 0) (after : List Ahead)
@@ -326,7 +328,8 @@ module _ (dir : List ℕ) (fault : DirFault) (ids parents : List ℕ) (seen : Li
           subst (All P) (sym is)
           (All-append P _ more
           (All-append P rest _ (All-weaker (IsAhead dir ids) P (λ a h. lifted a h) rest (all_front dir ids rest link s.links))
-          (All-weaker (IsAhead dir ids) P (λ a h. lifted a h) _ (siblings_ahead somebody)))
+          (All-weaker (IsAhead dir ids) P (λ a h. lifted a h)
+          (record { to = right (entry_at dir link.to); parent = link.parent } ∷ record { to = left (entry_at dir link.to); parent = link.parent } ∷ []) (siblings_ahead somebody)))
           (All-weaker (λ (a : Ahead). (a.parent ≡ length ids) × (a.to ≡ child (entry_at dir link.to)) × IsStorage dir link.to) P (λ a h. opened a h) more opening.own))
 
       entry_listed : (n : ℕ) → Contains (ids ++ link.to ∷ []) n → (n ≡ 0) ⊎ Contains (s.linked ++ link.to ∷ []) n
@@ -366,6 +369,19 @@ module _ (dir : List ℕ) (fault : DirFault) (ids parents : List ℕ) (seen : Li
       pub entry_more : (left_over : ℕ) → left_over ≡ unseen - 1 → IsSearch dir fault (ids ++ link.to ∷ []) (parents ++ link.parent ∷ []) (set seen link.to true) after left_over
       entry_more left_over e =
           linked_more after entry_keep entry_left entry_right (ids ++ link.to ∷ []) (parents ++ link.parent ∷ []) left_over e met_more entry_links entry_listed entry_noted entry_free entry_children
+
+-- what a link that leads outside is found to be
+pub outside_met : (dir : List ℕ) (fault : DirFault) (ids parents : List ℕ) (link : Ahead) (v : Option ℕ) → AreMet dir ids parents → IsAhead dir ids link → link.to ≢ NO_STREAM → length dir ≤ 128 * link.to
+    → IfSome v (λ k. (k ≡ link.parent) × (fault ≡ directory.BadEntry)) → IfSome v (λ k. AreMet dir ids parents × IsMetAtFault dir fault ids k)
+outside_met dir fault ids parents link None m a somebody out h = tt
+outside_met dir fault ids parents link (Some k) m a somebody out h =
+    let leads : LeadsOutside dir (get_or ids link.parent 0) = (link.to, a.storage, a.reached, somebody, out) in
+    (m, subst (IsMetAtFault dir fault ids) (sym h.0) (a.met, inr (h.1, leads)))
+
+pub outside_passed : (dir : List ℕ) (fault : DirFault) (ids parents : List ℕ) (seen : List Bool) (rest : List Ahead) (link : Ahead) (unseen : ℕ) (v : Option ℕ)
+    → IsSearch dir fault ids parents seen (rest ++ link ∷ []) unseen → length dir ≤ 128 * link.to → IfNone v (fault ≢ directory.BadEntry) → IfNone v (IsSearch dir fault ids parents seen rest unseen)
+outside_passed dir fault ids parents seen rest link unseen None s out h = passed dir fault ids parents seen rest link unseen s (inr (inl (out, h)))
+outside_passed dir fault ids parents seen rest link unseen (Some k) s out h = tt
 
 -- ---- the beginning
 first_only : (P : ℕ → Type 0) → P 0 → (k : ℕ) → k < 1 → P (get_or (0 ∷ []) k 0)

@@ -6,7 +6,7 @@ ghost use Rattle.fault_places.specs.Searches.{AreMet, IsAhead, IsMetAtFault, IsO
 ghost use Rattle.fault_places.specs.Ways.{IsWay, end_of};
 ghost use Rattle.file_faults.specs.Faults.{IsStorage};
 ghost use Rattle.std.specs.List.{All};
-ghost use Rattle.std.specs.Prelude.{[], ◌∷◌, ◌++◌, ◌≡◌, ◌≢◌, ◌<◌, ◌≤◌, ◌+◌, ◌*◌, IfNone, IfOk, IfSome, List, OnOk, false, length, slice_index, slice_index_or, true, ℕ};
+ghost use Rattle.std.specs.Prelude.{[], ◌∷◌, ◌++◌, ◌≡◌, ◌≢◌, ◌<◌, ◌≤◌, ◌+◌, ◌-◌, ◌*◌, IfNone, IfOk, IfSome, List, OnOk, false, length, slice_index, slice_index_or, true, ℕ};
 
 use crate::own_faults::{has_fault, kind_of, number_of};
 use cfb_names::fault::DirFault;
@@ -188,6 +188,8 @@ fn enter_root(directory: &[u8], search: &mut Search, link: Ahead) -> Result<(), 
     ensures is { OnOk result ((fault : DirFault)
         → IsSearch directory.now fault search.old.ids.items search.old.parents.items search.old.seen.items (search.old.ahead.items ++ link ∷ []) search.old.unseen
         → IsSearch directory.now fault search.new.ids.items search.new.parents.items search.new.seen.items search.new.ahead.items search.new.unseen) }
+    ensures fewer { OnOk result (search.new.unseen ≡ search.old.unseen - 1) }
+    ensures added { OnOk result (length search.new.ahead.items ≡ length search.old.ahead.items + 2) }
 {
     search.seen[0] = true;
     search.unseen = search.unseen.saturating_sub(1);
