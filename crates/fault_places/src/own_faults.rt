@@ -149,6 +149,14 @@ fn has_name_fault(entry: &[u8], fault: DirFault) -> bool
     }
 }
 
+/// Whether a fault is one of an entry and not of its name.
+fn is_of_entry(fault: DirFault) -> bool
+    ensures bad { result ≡ true → fault ≡ BadEntry }
+    ensures other { result ≡ false → fault ≢ BadEntry }
+{
+    fault == DirFault::BadEntry
+}
+
 /// Whether an entry of a directory has a fault of its own.
 pub(crate) fn has_fault(directory: &[u8], id: u32, fault: DirFault) -> bool
     requires { 128 * id + 128 ≤ length directory.now }
@@ -156,7 +164,7 @@ pub(crate) fn has_fault(directory: &[u8], id: u32, fault: DirFault) -> bool
     ensures free { result ≡ false → MayRefuseEntry directory.now id fault → ⊥ }
 {
     let entry = entry_of(directory, id);
-    if fault == DirFault::BadEntry {
+    if is_of_entry(fault) {
         return is_bad(entry, id);
     }
     if id == 0 {

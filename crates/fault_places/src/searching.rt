@@ -193,7 +193,8 @@ fn enter_root(directory: &[u8], search: &mut Search, link: Ahead) -> Result<(), 
 {
     search.seen[0] = true;
     search.unseen = search.unseen.saturating_sub(1);
-    push_around(directory, &mut search.ahead, 0, link.parent)
+    push_around(directory, &mut search.ahead, 0, link.parent)?;
+    Ok(())
 }
 
 /// Follows the last of the links ahead. The place of an entry that was met, where that has the fault.

@@ -1,4 +1,4 @@
-use Rattle.std.proofs.Common.{◌≡◌, ◌≢◌, ◌<◌, ◌≤◌, ◌+◌, ◌*◌, ◌++◌, ◌∷◌, ◌∙◌, [], List, ℕ, ap, arith, get_or, inl, length, length-append, refl, subst, sym}
+use Rattle.std.proofs.Common.{◌≡◌, ◌≢◌, ◌<◌, ◌≤◌, ◌+◌, ◌*◌, ◌++◌, ◌∷◌, ◌∙◌, [], List, ℕ, ap, arith, get_or, inl, length, length-append, set, subst, sym, true}
 use Rattle.std.proofs.Math.Seq.{get_or-append_seam}
 use Rattle.cfb_directory.specs.Entries.{MayRefuseEntry, left, right, entry_at}
 use Rattle.fault_places.specs.Searches.{AreMet, IsOpening, IsSearch}
@@ -19,8 +19,10 @@ returns-then-has_fault-clause-met c =
     met_more dir c.args.fault ids parents c.args.search.now.seen.items c.args.search.now.ahead.items c.args.link c.args.search.now.unseen c.requires.is c.requires.inside c.requires.new c.requires.below c.requires.somebody in
     (
       subst (λ (x : List ℕ). AreMet dir x c.push-2.new.self.items) (sym c.in_ok-push.ensures.items) (subst (λ (x : List ℕ). AreMet dir (ids ++ n ∷ []) x) (sym c.in_ok-push-2.ensures.items) met),
-      omega (arith, place, ap length c.in_ok-push.ensures.items, length-append ids (n ∷ [])),
-      inl (subst (λ (x : ℕ). MayRefuseEntry dir x c.args.fault) (sym is_n) (c.has_fault.ensures.told c.if-has_fault.true)),
+      (
+        omega (arith, place, ap length c.in_ok-push.ensures.items, length-append ids (n ∷ [])),
+        inl (subst (λ (x : ℕ). MayRefuseEntry dir x c.args.fault) (sym is_n) (c.has_fault.ensures.told c.if-has_fault.true)),
+      ),
     )
 
 pub returns-clause-is : goal.returns-clause-is
@@ -35,8 +37,8 @@ returns-clause-is c =
     let more = entry_more dir c.args.fault ids parents c.args.search.now.seen.items c.args.search.now.ahead.items c.args.link c.args.search.now.unseen c.requires.is c.requires.inside c.requires.new c.requires.below
     c.requires.somebody kept.0 c.push_child.new.ahead.items (kept.1 ∙ ap (λ (xs : List Ahead). xs ++ kept.0) c.in_ok-push_around.ensures) opening (c.has_fault.ensures.free c.if-has_fault.false)
     c.saturating_sub-search.result c.saturating_sub-search.ensures in
-    subst (λ (x : List ℕ). IsSearch dir c.args.fault x c.push-2.new.self.items _ c.push_child.new.ahead.items c.saturating_sub-search.result) (sym c.in_ok-push.ensures.items)
-    (subst (λ (x : List ℕ). IsSearch dir c.args.fault (ids ++ n ∷ []) x _ c.push_child.new.ahead.items c.saturating_sub-search.result) (sym c.in_ok-push-2.ensures.items) more)
+    subst (λ (x : List ℕ). IsSearch dir c.args.fault x c.push-2.new.self.items (set c.args.search.now.seen.items n true) c.push_child.new.ahead.items c.saturating_sub-search.result) (sym c.in_ok-push.ensures.items)
+    (subst (λ (x : List ℕ). IsSearch dir c.args.fault (ids ++ n ∷ []) x (set c.args.search.now.seen.items n true) c.push_child.new.ahead.items c.saturating_sub-search.result) (sym c.in_ok-push-2.ensures.items) more)
 
 pub returns-clause-fewer : goal.returns-clause-fewer
 returns-clause-fewer c =
@@ -51,5 +53,6 @@ returns-clause-fewer c =
       length-append c.push_around.new.ahead.items kept.0,
       kept.2.few,
       ap length c.in_ok-push_around.ensures,
-      length-append c.args.search.now.ahead.items _,
+      length-append c.args.search.now.ahead.items
+          (record { to = right (entry_at c.args.directory.now c.args.link.to); parent = c.args.link.parent } ∷ record { to = left (entry_at c.args.directory.now c.args.link.to); parent = c.args.link.parent } ∷ []),
     )

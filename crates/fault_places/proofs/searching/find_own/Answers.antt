@@ -1,9 +1,13 @@
-use Rattle.std.proofs.Common.{◌≡◌, ◌∙◌, [], List, ℕ, ap, get_or, subst, sym, Option, Some}
+use Rattle.std.proofs.Common.{◌≡◌, ◌∙◌, ◌∷◌, [], List, ℕ, ap, arith, get_or, length, refl, subst}
 use Rattle.fault_places.specs.Searches.{AreMet, IsMetAtFault, IsSearch}
 use Rattle.fault_places.specs.declared.searching.Ahead.{Ahead}
 use Rattle.fault_places.proofs.Owned.{some_gives}
 use Rattle.fault_places.proofs.Searches.{found_by, no_way}
 use Rattle.fault_places.proofs.searching.find_own.Goals as goal
+
+empty : (xs : List Ahead) → length xs ≡ 0 → xs ≡ []
+empty [] e = refl
+empty (x ∷ xs) e = absurd (omega (arith, e))
 
 pub loop-alloc-init : goal.loop-alloc-init
 loop-alloc-init c = c.in_ok-search.ensures c.args.fault (c.has_fault.ensures.free c.if-has_fault.false)
@@ -21,7 +25,7 @@ returns-in-Some-clause-there c =
 
 pub returns-clause-nowhere : goal.returns-clause-nowhere
 returns-clause-nowhere c =
-    let none : c.loop-alloc.search.ahead.items ≡ [] = ? in
+    let none : c.loop-alloc.search.ahead.items ≡ [] = empty c.loop-alloc.search.ahead.items ? in
     no_way c.args.directory.now c.args.fault c.loop-alloc.search.ids.items c.loop-alloc.search.parents.items c.loop-alloc.search.seen.items c.loop-alloc.search.unseen
     (subst (λ (a : List Ahead). IsSearch c.args.directory.now c.args.fault c.loop-alloc.search.ids.items c.loop-alloc.search.parents.items c.loop-alloc.search.seen.items a c.loop-alloc.search.unseen) none
     c.loop-alloc.invariant)
