@@ -8,3 +8,4 @@ pub mod Stops
 pub mod Fats
 pub mod OwnFaults
 pub mod Searches
+pub mod Found

@@ -2,7 +2,7 @@
 
 ghost use Rattle.cfb_header.specs.Header.{IsHeader, header_of};
 ghost use Rattle.fault_places.specs.Tables.{AreTablesOf};
-ghost use Rattle.fault_places.specs.Ways.{IsDirectoryOf, IsFaultOfEntry};
+ghost use Rattle.fault_places.specs.Ways.{IsDirectoryOf, IsFaultOfEntry, IsNoEntry, IsOfLinks};
 ghost use Rattle.file_faults.specs.Faults.{IsDirectory};
 ghost use Rattle.std.specs.Prelude.{◌≡◌, IfNone, IfOk, IfSome, List, ℕ};
 
@@ -85,13 +85,15 @@ pub fn read_directory(alloc: Global, file: &[u8]) -> Result<Option<Directory>, A
     directory_of(alloc, &header, file)
 }
 
-/// The place at which the directory of a file has a fault. None where the fault isn't found there.
+/// The place at which the directory of a file has a fault. Where the header is sound, None says that no entry has it, whatever else is
+/// wrong with others; but of two entries of one name, of too many storages in one another and of circles none may be found.
 pub fn find_entry(
     alloc: Global,
     file: &[u8],
     fault: DirFault,
 ) -> Result<Option<EntryPlace>, AllocError>
-    ensures { IfOk result (λ p. IfSome p (IsFaultOfEntry file.now fault)) }
+    ensures there { IfOk result (λ p. IfSome p (IsFaultOfEntry file.now fault)) }
+    ensures nowhere { IsHeader file.now → (IsOfLinks fault → ⊥) → IfOk result (λ p. IfNone p (IsNoEntry file.now fault)) }
 {
     let found = read_directory(alloc, file)?;
     let Some(directory) = found else {

@@ -11,8 +11,8 @@ use cfb_bytes::numbers::{read_u16, read_u32};
 use cfb_names::fault::DirFault;
 use cfb_names::name::is_forbidden;
 
-/// The bytes of an entry.
-const ENTRY: usize = 128;
+/// How many bytes an entry has.
+pub(crate) const ENTRY: usize = 128;
 
 /// The bytes of an entry.
 #[tactic(auto, unfolding(cfb_bytes::specs::Bytes::block))]
@@ -150,7 +150,7 @@ fn has_name_fault(entry: &[u8], fault: DirFault) -> bool
 }
 
 /// Whether a fault is one of an entry and not of its name.
-fn is_of_entry(fault: DirFault) -> bool
+pub(crate) fn is_of_entry(fault: DirFault) -> bool
     ensures bad { result ≡ true → fault ≡ BadEntry }
     ensures other { result ≡ false → fault ≢ BadEntry }
 {

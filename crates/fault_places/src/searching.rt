@@ -8,12 +8,9 @@ ghost use Rattle.file_faults.specs.Faults.{IsStorage};
 ghost use Rattle.std.specs.List.{All};
 ghost use Rattle.std.specs.Prelude.{[], ◌∷◌, ◌++◌, ◌≡◌, ◌≢◌, ◌<◌, ◌≤◌, ◌+◌, ◌-◌, ◌*◌, IfNone, IfOk, IfSome, List, OnOk, false, length, slice_index, slice_index_or, true, ℕ};
 
-use crate::own_faults::{has_fault, kind_of, number_of};
+use crate::own_faults::{ENTRY, has_fault, kind_of, number_of};
 use cfb_names::fault::DirFault;
 use std::alloc::{AllocError, Global};
-
-/// The bytes of an entry.
-const ENTRY: usize = 128;
 
 /// The value of a missing sibling or child.
 const NO_STREAM: u32 = 0xFFFFFFFF;

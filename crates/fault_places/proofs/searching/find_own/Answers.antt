@@ -1,4 +1,4 @@
-use Rattle.std.proofs.Common.{◌≡◌, ◌∙◌, ◌∷◌, [], List, ℕ, ap, arith, get_or, length, refl, subst}
+use Rattle.std.proofs.Common.{◌≡◌, ◌∙◌, ◌∷◌, [], List, ℕ, ap, arith, get_or, length, refl, rules, subst}
 use Rattle.fault_places.specs.Searches.{AreMet, IsMetAtFault, IsSearch}
 use Rattle.fault_places.specs.declared.searching.Ahead.{Ahead}
 use Rattle.fault_places.proofs.Owned.{some_gives}
@@ -25,7 +25,7 @@ returns-in-Some-clause-there c =
 
 pub returns-clause-nowhere : goal.returns-clause-nowhere
 returns-clause-nowhere c =
-    let none : c.loop-alloc.search.ahead.items ≡ [] = empty c.loop-alloc.search.ahead.items ? in
+    let none : c.loop-alloc.search.ahead.items ≡ [] = empty c.loop-alloc.search.ahead.items (search (rules, c.is_empty.ensures, c.loop-alloc-test.false)) in
     no_way c.args.directory.now c.args.fault c.loop-alloc.search.ids.items c.loop-alloc.search.parents.items c.loop-alloc.search.seen.items c.loop-alloc.search.unseen
     (subst (λ (a : List Ahead). IsSearch c.args.directory.now c.args.fault c.loop-alloc.search.ids.items c.loop-alloc.search.parents.items c.loop-alloc.search.seen.items a c.loop-alloc.search.unseen) none
     c.loop-alloc.invariant)
