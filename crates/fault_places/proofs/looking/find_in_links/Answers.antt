@@ -16,5 +16,5 @@ loop-at-init c =
 
 pub returns-in-Err : goal.returns-in-Err
 returns-in-Err c =
-    nowhere_told c.args.directory.now c.args.fault c.nowhere_if.result c.is_told.result c.nowhere_if.ensures
+    nowhere_told c.args.directory.now c.args.fault c.nowhere_if.result c.is_told.result c.nowhere_if.ensures.told
     (λ t. let q = c.is_told.ensures t in load_at_fault c.args.directory.now c.in-Err.found c.args.fault q.0 q.1 c.in-Err.ensures.refused)
