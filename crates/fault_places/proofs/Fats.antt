@@ -20,16 +20,16 @@ front_once xs front count k within longest once there = λ i j d lt below e.
     let cut : length (take k xs) ≤ k = omega (arith, length-take k xs) in
     let all : length (take k xs) ≤ length xs = omega (arith, length-take k xs) in
     let first : (n : ℕ) → n < length (take k xs) → n < front = λ n lt.
-        elim (cases_lt n front) [
-          | inl less ↦ less
-          | inr more ↦
-              let here : front < length (take k xs) = omega (arith, more, lt) in
-              let outside : count ≤ get_or xs front 0 = longest (omega (arith, here, all)) in
-              let inside : get_or (take k xs) front 0 < count = there front 0 here in
-              absurd (omega (arith, outside, inside, get_or-take k xs front 0 (omega (arith, here, cut))))
-        ] in
+    elim (cases_lt n front) [
+      | inl less ↦ less
+      | inr more ↦
+          let here : front < length (take k xs) = omega (arith, more, lt) in
+          let outside : count ≤ get_or xs front 0 = longest (omega (arith, here, all)) in
+          let inside : get_or (take k xs) front 0 < count = there front 0 here in
+          absurd (omega (arith, outside, inside, get_or-take k xs front 0 (omega (arith, here, cut))))
+    ] in
     let at : (n : ℕ) → n < length (take k xs) → get_or (take front xs) n d ≡ get_or (take k xs) n d = λ n lt.
-        get_or-take front xs n d (first n lt) ∙ sym (get_or-take k xs n d (omega (arith, lt, cut))) in
+    get_or-take front xs n d (first n lt) ∙ sym (get_or-take k xs n d (omega (arith, lt, cut))) in
     let i_less : i < length (take k xs) = omega (arith, lt, below) in
     once i j d lt (omega (arith, first j below, long)) (at i i_less ∙ e ∙ sym (at j below))
 

@@ -195,11 +195,7 @@ fn enter_root(directory: &[u8], search: &mut Search, link: Ahead) -> Result<(), 
 }
 
 /// Follows the last of the links ahead. The place of an entry that was met, where that has the fault.
-fn step(
-    directory: &[u8],
-    search: &mut Search,
-    fault: DirFault,
-) -> Result<Option<usize>, AllocError>
+fn step(directory: &[u8], search: &mut Search, fault: DirFault) -> Result<Option<usize>, AllocError>
     requires some { 0 < length search.old.ahead.items }
     requires is { IsSearch directory.now fault search.old.ids.items search.old.parents.items search.old.seen.items search.old.ahead.items search.old.unseen }
     ensures met { IfOk result (λ v. IfSome v (λ k. AreMet directory.now search.new.ids.items search.new.parents.items × IsMetAtFault directory.now fault search.new.ids.items k)) }

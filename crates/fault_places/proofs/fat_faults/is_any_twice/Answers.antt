@@ -21,17 +21,17 @@ loop-k-preserved c =
     let xs : List ℕ = c.args.sectors.now in
     let k : ℕ = c.loop-k.k in
     λ i j d lt below e.
-        elim (cases_lt j k) [
-          | inl less ↦ c.loop-k.invariant i j d lt less e
-          | inr more ↦
-              let here : j ≡ k = omega arith in
-              let long : length (take k xs) ≡ k = length-take-le k xs (omega (arith, c.loop-k-test.true)) in
-              let inside : i < k = omega arith in
-              let same : get_or (take k xs) i 0 ≡ get_or xs k 0 =
-              get_or-take k xs i 0 inside ∙ get_or_default xs i 0 d (omega (arith, c.loop-k-test.true)) ∙ e ∙ ap (λ m. get_or xs m d) here
-              ∙ get_or_default xs k d 0 c.loop-k-test.true in
-              eqb-false (get_or (take k xs) i 0) (get_or xs k 0) (c.if-contains.ensures.cases i 0 (omega arith) (omega arith)) same
-        ]
+    elim (cases_lt j k) [
+      | inl less ↦ c.loop-k.invariant i j d lt less e
+      | inr more ↦
+          let here : j ≡ k = omega arith in
+          let long : length (take k xs) ≡ k = length-take-le k xs (omega (arith, c.loop-k-test.true)) in
+          let inside : i < k = omega arith in
+          let same : get_or (take k xs) i 0 ≡ get_or xs k 0 =
+          get_or-take k xs i 0 inside ∙ get_or_default xs i 0 d (omega (arith, c.loop-k-test.true)) ∙ e ∙ ap (λ m. get_or xs m d) here
+          ∙ get_or_default xs k d 0 c.loop-k-test.true in
+          eqb-false (get_or (take k xs) i 0) (get_or xs k 0) (c.if-contains.ensures.cases i 0 (omega arith) (omega arith)) same
+    ]
 
 pub returns-clause-once : goal.returns-clause-once
 returns-clause-once c = λ _ i j d lt below e. c.loop-k.invariant i j d lt (omega (arith, c.loop-k-test.false)) e

@@ -46,4 +46,3 @@ pub returns-in-ShortChain-clause-free : goal.returns-in-ShortChain-clause-free
 returns-in-ShortChain-clause-free c = λ t file l e h.
     short_free file c.args.lists.now.fat.items c.args.lists.now.difat.items c.args.lists.now.entries.items l c.len-count.result (omega arith) (past c.len.result c.args.wanted t e (omega arith))
     (subst (IsFatAtFault file) c.in-ShortChain.is h)
-

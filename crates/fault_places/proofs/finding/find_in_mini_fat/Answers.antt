@@ -29,8 +29,7 @@ returns-in-AtFault-clause-there c =
     let size_is = ap (λ (x : ℕ). 512 * x) c.mini_fat_count-count.ensures ∙ ap (λ (x : HeaderValue). 512 * x.mini_fat_count) c.requires.same in
     let e : IsExamined table taken chain c.args.fault (examined.AtFault c.in-AtFault.link) =
     examined_by c.deref-2.result.now table c.deref-3.result.now taken chain c.args.fault c.in_ok-found.found (examined.AtFault c.in-AtFault.link) c.deref-2.ensures.value
-    (c.deref-3.ensures.value ∙ c.in_ok-taken.ensures ∙ ap (λ (xs : List ℕ). xs ++ ns) (c.deref.ensures.value ∙ t.lists_are)) c.in-AtFault.is c.in_ok-found.ensures in
-    (
+    (c.deref-3.ensures.value ∙ c.in_ok-taken.ensures ∙ ap (λ (xs : List ℕ). xs ++ ns) (c.deref.ensures.value ∙ t.lists_are)) c.in-AtFault.is c.in_ok-found.ensures in (
       joined (sector file) ns,
       directory_at file c.args.tables.now.fat c.args.tables.now.lists.items table t (joined (sector file) ns) ns c.requires.directory refl,
       counted c.mini_fat_count-count.result (mini_fat_count file) (c.mini_fat_count-count.ensures ∙ ap (λ (x : HeaderValue). x.mini_fat_count) c.requires.same) c.if-count-eq0.false,

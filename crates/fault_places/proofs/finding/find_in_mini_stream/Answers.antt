@@ -21,7 +21,7 @@ returns-then-chain-eq0-clause-mini_stream c =
     let d : dir ≡ joined (sector file) ns =
     c.deref.ensures.value
     ∙ bytes_joined file c.args.tables.now.fat c.args.tables.now.lists.items c.args.tables.now.entries.items c.requires.tables c.in_ok-bytes.bytes.items ns (first_directory file) c.requires.directory
-        c.in_ok-bytes.ensures in
+    c.in_ok-bytes.ensures in
     empty_mini_stream file c.args.fault ns c.requires.directory dir d (sym c.mini_stream_of-chain.ensures.size ∙ c.if-chain-eq0.true)
 
 pub returns-in-AtFault-clause-there : goal.returns-in-AtFault-clause-there

@@ -8,8 +8,7 @@ use Rattle.fault_places.proofs.own_faults.has_forbidden.Goals as goal
 
 pub returns-then-is_refused-clause-forbidden : goal.returns-then-is_refused-clause-forbidden
 returns-then-is_refused-clause-forbidden c = λ _.
-    let lt : c.loop-k.k < name_length c.args.entry.now / 2 - 1 = omega (arith, c.loop-k-test.true, c.count_characters-k-end.ensures) in
-    (
+    let lt : c.loop-k.k < name_length c.args.entry.now / 2 - 1 = omega (arith, c.loop-k-test.true, c.count_characters-k-end.ensures) in (
       omega (arith, c.if-read_u16-gt64.false, c.read_u16.ensures),
       (u16_at c.args.entry.now (2 * c.loop-k.k), unit_contained c.args.entry.now c.loop-k.k lt, ap is_forbidden (sym c.read_u16-in-loop-k.ensures) ∙ sym c.is_refused.ensures ∙ c.if-is_refused.true),
     )

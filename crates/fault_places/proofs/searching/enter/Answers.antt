@@ -16,8 +16,7 @@ returns-then-has_fault-clause-met c =
     let is_n : get_or c.push.new.self.items c.len-place.result 0 ≡ n =
     (λ i. get_or (c.in_ok-push.ensures.items i) (place i) 0) ∙ get_or-append_seam ids n [] 0 in
     let met : AreMet dir (ids ++ n ∷ []) (parents ++ c.args.link.parent ∷ []) =
-    met_more dir c.args.fault ids parents c.args.search.now.seen.items c.args.search.now.ahead.items c.args.link c.args.search.now.unseen c.requires.is c.requires.inside c.requires.new c.requires.below c.requires.somebody in
-    (
+    met_more dir c.args.fault ids parents c.args.search.now.seen.items c.args.search.now.ahead.items c.args.link c.args.search.now.unseen c.requires.is c.requires.inside c.requires.new c.requires.below c.requires.somebody in (
       subst (λ (x : List ℕ). AreMet dir x c.push-2.new.self.items) (sym c.in_ok-push.ensures.items) (subst (λ (x : List ℕ). AreMet dir (ids ++ n ∷ []) x) (sym c.in_ok-push-2.ensures.items) met),
       (
         omega (arith, place, ap length c.in_ok-push.ensures.items, length-append ids (n ∷ [])),

@@ -16,8 +16,7 @@ pub returns-in-Some-clause-there : goal.returns-in-Some-clause-there
 returns-in-Some-clause-there c =
     let met : AreMet c.args.directory.now c.step.new.search.ids.items c.step.new.search.parents.items × IsMetAtFault c.args.directory.now c.args.fault c.step.new.search.ids.items c.in-Some.place =
     some_gives (λ (k : ℕ). AreMet c.args.directory.now c.step.new.search.ids.items c.step.new.search.parents.items × IsMetAtFault c.args.directory.now c.args.fault c.step.new.search.ids.items k) c.in_ok-found.found
-    c.in-Some.place c.in-Some.is c.in_ok-found.ensures.met in
-    (
+    c.in-Some.place c.in-Some.is c.in_ok-found.ensures.met in (
       c.in_ok-way.ensures.way,
       found_by c.args.directory.now c.args.fault c.step.new.search.ids.items c.in_ok-way.way.items c.in-Some.place met.1
           (c.in_ok-way.ensures.end ∙ ap (λ (xs : List ℕ). get_or xs c.in-Some.place 0) c.deref.ensures.value),
