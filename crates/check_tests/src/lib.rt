@@ -3,3 +3,6 @@
 
 #[cfg(test)]
 mod checks;
+
+#[cfg(test)]
+mod searches;

@@ -1,5 +1,5 @@
 -- The parts of a file in which its streams lie, as they are read.
-use Rattle.std.proofs.Common.{◌≡◌, ◌<◌, ◌≤◌, ◌+◌, ◌*◌, ◌/◌, ◌++◌, ◌∙◌, ℕ, zero, suc, Option, Some, None, IfSome, Vec, Global, List, [], arith, length, length-take, get_or, min, take, refl, sym, ap, subst}
+use Rattle.std.proofs.Common.{◌≡◌, ◌<◌, ◌≤◌, ◌+◌, ◌*◌, ◌/◌, ◌++◌, ◌∙◌, ℕ, zero, suc, Option, Some, None, IfNone, IfSome, Vec, Global, List, [], arith, length, length-take, get_or, min, take, refl, sym, ap, subst}
 use Rattle.std.proofs.lemmas.List.Elements.{All-take}
 use Rattle.std.specs.List.{All}
 use Rattle.cfb_header.specs.Bytes.{joined, sector, u32_at}
@@ -11,12 +11,13 @@ use Rattle.cfb_chain.proofs.Chains.{chain_below, joined_same}
 use Rattle.cfb_directory.specs.Entries.{entry_at, first_of, size_of}
 use Rattle.file_model.specs.Denotes.{IsLaidOut, Layout, directory_of, minis, root_of, sectors}
 use Rattle.file_faults.specs.Faults.{base_in}
+use Rattle.fault_places.specs.Places.{IsNotWhole}
 use Rattle.fault_places.specs.Tables.{AreTablesOf, IsTabled}
 use Rattle.fault_places.specs.Streams.{ArePartsOf, IsBaseOf}
 use Rattle.fault_places.specs.declared.parts.Parts.{Parts}
 use Rattle.fault_places.specs.declared.walking.Chain.{Chain}
 use Rattle.fault_places.proofs.Places.{pieces_by, width_by}
-use Rattle.fault_places.proofs.Walks.{chain_of_some}
+use Rattle.fault_places.proofs.Walks.{chain_of_some, some_of_chain}
 
 -- a chain of nothing
 pub chain_none : (s : Store) (start size : ℕ) (ns : List ℕ) → size ≡ 0 → ns ≡ [] → IsChainOf s start size ns
@@ -27,6 +28,11 @@ pub some_chain : (table : List ℕ) (c : Chain) (v : Option (Vec ℕ Global)) �
     → IfSome v (λ ns. (s : Store) → IsTabled table s → s.width ≡ c.width → IsChainOf s c.first c.size ns.items)
 some_chain table c None some h = tt
 some_chain table c (Some ns) some h = λ s t w. chain_of_some s c.first c.size ns.items some (h s t w)
+
+pub no_chain_of : (table : List ℕ) (c : Chain) (v : Option (Vec ℕ Global)) → 0 < c.size → IfNone v (IsNotWhole table c)
+    → IfNone v ((s : Store) → IsTabled table s → s.width ≡ c.width → (ns : List ℕ) → IsChainOf s c.first c.size ns → ⊥)
+no_chain_of table c None some h = λ s t w ns g. h s t w ns (some_of_chain s c.first c.size ns some g)
+no_chain_of table c (Some ns) some h = tt
 
 -- a chain has room
 room_of : (s : Store) (start size : ℕ) (ns : List ℕ) → IsChainOf s start size ns → size ≤ s.width * length ns

@@ -4,3 +4,8 @@ pub mod Steps
 pub mod Cycles
 pub mod Owned
 pub mod Laid
+pub mod Stops
+pub mod Fats
+pub mod OwnFaults
+pub mod Searches
+pub mod Found

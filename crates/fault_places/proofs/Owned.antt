@@ -1,5 +1,5 @@
 -- Streams whose chains are at fault, and whose the sectors are to which they lead.
-use Rattle.std.proofs.Common.{◌≡◌, ◌≢◌, ◌<◌, ◌∙◌, inl, inr, true, false, Option, Some, None, IfSome, ℕ, zero, suc, List, Vec, Global, arith, length, refl, sym, ap, subst}
+use Rattle.std.proofs.Common.{◌≡◌, ◌≢◌, ◌<◌, ◌∙◌, inl, inr, true, false, Option, Some, None, IfNone, IfSome, ℕ, zero, suc, List, Vec, Global, arith, length, refl, sym, ap, subst}
 use Rattle.std.specs.List.{Contains}
 use Rattle.cfb_header.specs.declared.fault.ChainFault.{ChainFault}
 use Rattle.cfb_header.specs.declared.fault.ChainFault.TheVariants as chain
@@ -181,6 +181,9 @@ chain_found parts table c (Some ns) s e tabled a z w = λ b base.
 -- what a value holds that is there
 pub some_gives : {A : Type 0} (P : A → Type 0) (v : Option A) (a : A) → v ≡ Some a → IfSome v P → P a
 some_gives P v a is h = subst (λ (x : Option _). IfSome x P) is h
+
+pub none_gives : {A : Type 0} (P : Type 0) (v : Option A) → v ≡ None → IfNone v P → P
+none_gives P v is h = subst (λ (x : Option _). IfNone x P) is h
 
 pub placed_some : (parts : Parts) (s : Stream) (fault : ChainFault) (taken : List ℕ) (link : Link) (o : Owner) (v : Option StreamPlace) → IsStream parts.directory.items s → 0 < s.size
     → ((b : Base) → IsBaseOf parts b → IsLinkAtFault (store_in b s.size) (Contains taken) s.first s.size fault link)

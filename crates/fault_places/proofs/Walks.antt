@@ -57,3 +57,7 @@ module _ (table : List ℕ) (s : Store) (t : IsTabled table s) where
 pub chain_of_some : (s : Store) (start size : ℕ) (ns : List ℕ) → 0 < size → IsChain s start size ns → IsChainOf s start size ns
 chain_of_some s start zero ns some h = absurd (omega (arith, some))
 chain_of_some s start (suc n) ns some h = h
+
+pub some_of_chain : (s : Store) (start size : ℕ) (ns : List ℕ) → 0 < size → IsChainOf s start size ns → IsChain s start size ns
+some_of_chain s start zero ns some h = absurd (omega (arith, some))
+some_of_chain s start (suc n) ns some h = h

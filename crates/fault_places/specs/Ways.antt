@@ -44,6 +44,17 @@ IsEntryAtFault dir fault (place.Twins way m n) = (fault ≡ directory.DuplicateN
 abbrev pub IsFaultOfEntry : List ℕ → DirFault → EntryPlace → Type 0
 IsFaultOfEntry file fault p = (dir : List ℕ) × IsDirectory file dir × IsEntryAtFault dir fault p
 
+-- the faults of the links between entries, of which a search may miss the place
+abbrev pub IsOfLinks : DirFault → Type 0
+IsOfLinks directory.DuplicateName = Unit {0}
+IsOfLinks directory.TreeCycle = Unit {0}
+IsOfLinks directory.TooNested = Unit {0}
+IsOfLinks _ = ⊥
+
+-- no place of a file's directory has the fault
+abbrev pub IsNoEntry : List ℕ → DirFault → Type 0
+IsNoEntry file fault = (where_it_is : EntryPlace) → IsFaultOfEntry file fault where_it_is → ⊥
+
 -- What looking at the entry of a way finds: the fault, or the children of a storage.
 abbrev pub IsLooked : List ℕ → List ℕ → DirFault → Looked → Type 0
 IsLooked dir way fault (looked.AtFault p) = IsEntryAtFault dir fault p

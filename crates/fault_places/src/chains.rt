@@ -325,10 +325,7 @@ fn refused_stream(
     streams: &[Stream],
     fault: ChainFault,
 ) -> Result<Option<usize>, AllocError> {
-    let root = root_of(alloc, directory)?;
-    let Some((first, size)) = root else {
-        return Ok(None);
-    };
+    let (first, size) = root_of(directory);
     let mut fat = match Fat::load(alloc, header, Image::Whole(file)) {
         Ok(fat) => fat,
         Err(other) => return none_but(other),

@@ -1,11 +1,16 @@
 //! Finding the place at which the directory of a file is at fault.
 
-ghost use Rattle.cfb_header.specs.Header.{header_of};
-ghost use Rattle.fault_places.specs.Ways.{IsDirectoryOf, IsFaultOfEntry};
-ghost use Rattle.std.specs.Prelude.{◌≡◌, IfOk, IfSome};
+ghost use Rattle.cfb_header.specs.Header.{IsHeader, header_of};
+ghost use Rattle.fault_places.specs.Tables.{AreTablesOf};
+ghost use Rattle.fault_places.specs.Ways.{IsDirectoryOf, IsFaultOfEntry, IsNoEntry, IsOfLinks};
+ghost use Rattle.file_faults.specs.Faults.{IsDirectory};
+ghost use Rattle.std.specs.Prelude.{◌≡◌, IfNone, IfOk, IfSome, List, ℕ};
 
+use crate::finding::SECTOR;
 use crate::looking::find_in_entries;
 use crate::place::EntryPlace;
+use crate::tables::{Tables, tables_of};
+use crate::walking::{Chain, chain_at};
 use cfb_chain::fat::Fat;
 use cfb_chain::image::Image;
 use cfb_header::fault::ChainFault;
@@ -22,32 +27,57 @@ pub struct Directory {
     pub bytes: Vec<u8>,
 }
 
-/// The directory of a file with this header. None where the FAT or the directory's chain is at fault.
+/// The directory of a file with this header. None where the FAT is at fault, or the directory's chain has no end.
 fn directory_of(
     alloc: Global,
     header: &Header,
     file: &[u8],
 ) -> Result<Option<Directory>, AllocError>
     requires same { header.now ≡ header_of file.now }
-    ensures { IfOk result (λ d. IfSome d (IsDirectoryOf file.now)) }
+    ensures read { IfOk result (λ d. IfSome d (IsDirectoryOf file.now)) }
+    ensures none { IfOk result (λ d. IfNone d ((dir : List ℕ) → IsDirectory file.now dir → ⊥)) }
 {
-    let mut fat = match Fat::load(alloc, header, Image::Whole(file)) {
+    let fat = match Fat::load(alloc, header, Image::Whole(file)) {
         Ok(fat) => fat,
         Err(ChainFault::NoMemory) => return Err(AllocError),
         Err(_) => return Ok(None),
     };
-    let sectors = match fat.chain(alloc, header.first_directory()) {
-        Ok(sectors) => sectors,
-        Err(ChainFault::NoMemory) => return Err(AllocError),
-        Err(_) => return Ok(None),
-    };
-    let bytes = fat.join(alloc, &sectors)?;
-    Ok(Some(Directory { sectors, bytes }))
+    let tables = tables_of(alloc, header, file, fat)?;
+    directory_by(alloc, header, file, &tables)
 }
 
-/// The directory of a file. None where the header, the FAT or the directory's chain is at fault.
+/// The same of a file with these tables.
+fn directory_by(
+    alloc: Global,
+    header: &Header,
+    file: &[u8],
+    tables: &Tables<'_>,
+) -> Result<Option<Directory>, AllocError>
+    requires same { header.now ≡ header_of file.now }
+    requires tables { AreTablesOf file.now tables.now.fat tables.now.lists.items tables.now.entries.items }
+    ensures read { IfOk result (λ d. IfSome d (IsDirectoryOf file.now)) }
+    ensures none { IfOk result (λ d. IfNone d ((dir : List ℕ) → IsDirectory file.now dir → ⊥)) }
+{
+    let chain = Chain {
+        first: header.first_directory(),
+        width: SECTOR,
+        size: 0,
+    };
+    let found = chain_at(alloc, &tables.entries, chain)?;
+    match found {
+        Some(sectors) => {
+            let bytes = tables.fat.join(alloc, &sectors)?;
+            Ok(Some(Directory { sectors, bytes }))
+        }
+        None => Ok(None),
+    }
+}
+
+/// The directory of a file, whatever else its chain runs into. None where the header or the FAT is at fault, or the directory's
+/// chain has no end.
 pub fn read_directory(alloc: Global, file: &[u8]) -> Result<Option<Directory>, AllocError>
-    ensures { IfOk result (λ d. IfSome d (IsDirectoryOf file.now)) }
+    ensures read { IfOk result (λ d. IfSome d (IsDirectoryOf file.now)) }
+    ensures none { IsHeader file.now → IfOk result (λ d. IfNone d ((dir : List ℕ) → IsDirectory file.now dir → ⊥)) }
 {
     let Ok(header) = Header::read(file) else {
         return Ok(None);
@@ -55,13 +85,15 @@ pub fn read_directory(alloc: Global, file: &[u8]) -> Result<Option<Directory>, A
     directory_of(alloc, &header, file)
 }
 
-/// The place at which the directory of a file has a fault. None where the fault isn't found there.
+/// The place at which the directory of a file has a fault. Where the header is sound, None says that no entry has it, whatever else is
+/// wrong with others; but of two entries of one name, of too many storages in one another and of circles none may be found.
 pub fn find_entry(
     alloc: Global,
     file: &[u8],
     fault: DirFault,
 ) -> Result<Option<EntryPlace>, AllocError>
-    ensures { IfOk result (λ p. IfSome p (IsFaultOfEntry file.now fault)) }
+    ensures there { IfOk result (λ p. IfSome p (IsFaultOfEntry file.now fault)) }
+    ensures nowhere { IsHeader file.now → (IsOfLinks fault → ⊥) → IfOk result (λ p. IfNone p (IsNoEntry file.now fault)) }
 {
     let found = read_directory(alloc, file)?;
     let Some(directory) = found else {

@@ -3,15 +3,17 @@
 ghost use Rattle.cfb_chain.specs.Chain.{IsChain, IsChainOf};
 ghost use Rattle.cfb_chain.specs.Fat.{sectors_of};
 ghost use Rattle.cfb_directory.specs.Entries.{entry_at, first_of, size_of};
-ghost use Rattle.cfb_header.specs.Header.{first_directory, first_mini_fat, header_of, header_read, listed, mini_fat_count};
+ghost use Rattle.cfb_header.specs.Header.{IsHeader, first_directory, first_mini_fat, header_of, header_read, listed, mini_fat_count};
 ghost use Rattle.cfb_header.specs.declared.fault.ChainFault.TheVariants.{NoMemory};
-ghost use Rattle.fault_places.specs.Places.{IsFaultAt};
+ghost use Rattle.fault_places.specs.Places.{IsDirectoryExamined, IsFaultAt, IsNowhere, IsUnfaultedAt};
 ghost use Rattle.fault_places.specs.Tables.{AreTablesOf};
-ghost use Rattle.std.specs.Prelude.{◌*◌, ◌++◌, ◌≡◌, ◌≢◌, Err, IfOk, IfSome, Some, true};
+ghost use Rattle.file_faults.specs.Faults.{IsFatAtFault};
+ghost use Rattle.std.specs.Prelude.{◌*◌, ◌++◌, ◌≡◌, ◌≢◌, ◌≤◌, Err, IfNone, IfOk, IfSome, Some, length, true};
 
+use crate::fat_faults::is_fat_at_fault;
 use crate::parts::root_of;
 use crate::place::FaultPlace;
-use crate::tables::{Tables, tables_of};
+use crate::tables::{Tables, lists_of, tables_of};
 use crate::walking::{Chain, Examined, examine};
 use cfb_chain::fat::Fat;
 use cfb_chain::image::Image;
@@ -45,7 +47,8 @@ fn place_if(found: bool, place: FaultPlace) -> Option<FaultPlace>
 }
 
 /// The place at which a file has a fault of its header, its FAT, or the chain of its directory, its mini FAT or its mini
-/// stream. One of the header is found; of the others none is told where the fault isn't found there.
+/// stream. One of the header is found; where the header is sound, so is one of the others, and None says that none of these has
+/// the fault, whatever else is wrong with them.
 pub fn find_place(
     alloc: Global,
     file: &[u8],
@@ -53,6 +56,7 @@ pub fn find_place(
 ) -> Result<Option<FaultPlace>, AllocError>
     ensures there { IfOk result (λ p. IfSome p (IsFaultAt file.now fault)) }
     ensures header { header_read file.now ≡ Err fault → fault ≢ NoMemory → IfOk result (λ p. p ≡ Some FaultPlace.Header) }
+    ensures nowhere { IsHeader file.now → IfOk result (λ p. IfNone p (IsNowhere file.now fault)) }
 {
     let header = match Header::read(file) {
         Ok(header) => header,
@@ -69,7 +73,11 @@ fn find_in_fat(
     fault: ChainFault,
 ) -> Result<Option<FaultPlace>, AllocError>
     requires same { header.now ≡ header_of file.now }
-    ensures { IfOk result (λ p. IfSome p (IsFaultAt file.now fault)) }
+    ensures there { IfOk result (λ p. IfSome p (IsFaultAt file.now fault)) }
+    ensures nowhere { IfOk result (λ p. IfNone p (IsFatAtFault file.now fault → ⊥)) }
+    ensures directory { IfOk result (λ p. IfNone p (IsUnfaultedAt file.now fault FaultPlace.Directory)) }
+    ensures mini_fat { IfOk result (λ p. IfNone p (IsUnfaultedAt file.now fault FaultPlace.MiniFat)) }
+    ensures mini_stream { IfOk result (λ p. IfNone p (IsUnfaultedAt file.now fault FaultPlace.MiniStream)) }
 {
     match Fat::load(alloc, header, Image::Whole(file)) {
         Ok(fat) => {
@@ -77,8 +85,52 @@ fn find_in_fat(
             find_in_directory(alloc, header, file, &tables, fault)
         }
         Err(ChainFault::NoMemory) => Err(AllocError),
-        Err(other) => Ok(place_if(is_same(other, fault), FaultPlace::Fat)),
+        Err(_) => find_in_lists(alloc, header, file, fault),
     }
+}
+
+/// The same of the FAT and the directory alone, where the FAT is at fault.
+fn find_in_lists(
+    alloc: Global,
+    header: &Header,
+    file: &[u8],
+    fault: ChainFault,
+) -> Result<Option<FaultPlace>, AllocError>
+    requires same { header.now ≡ header_of file.now }
+    ensures there { IfOk result (λ p. IfSome p (IsFaultAt file.now fault)) }
+    ensures nowhere { IfOk result (λ p. IfNone p (IsFatAtFault file.now fault → ⊥)) }
+    ensures directory { IfOk result (λ p. IfNone p (IsUnfaultedAt file.now fault FaultPlace.Directory)) }
+{
+    let lists = lists_of(alloc, header, file)?;
+    let all = both(alloc, &lists.fat, &lists.difat)?;
+    if is_fat_at_fault(&lists, &all, header.fat_count(), fault) {
+        return Ok(Some(FaultPlace::Fat));
+    }
+    let found = examine_directory(alloc, header, &all, &lists.entries, fault)?;
+    match found {
+        Examined::AtFault(link) => Ok(Some(FaultPlace::Directory(link))),
+        Examined::Whole(_) => Ok(None),
+        Examined::Other => Ok(None),
+    }
+}
+
+/// What the directory's chain is found to be, by the entries of a FAT, where these sectors are taken.
+fn examine_directory(
+    alloc: Global,
+    header: &Header,
+    taken: &[u32],
+    entries: &[u32],
+    fault: ChainFault,
+) -> Result<Examined, AllocError>
+    requires few { length entries.now ≤ 0xFFFFFFF9 }
+    ensures { IfOk result (IsDirectoryExamined entries.now taken.now header.now.first_directory fault) }
+{
+    let chain = Chain {
+        first: header.first_directory(),
+        width: SECTOR,
+        size: 0,
+    };
+    examine(alloc, entries, taken, chain, fault)
 }
 
 /// The same in a file with this header and these tables.
@@ -91,14 +143,12 @@ fn find_in_directory(
 ) -> Result<Option<FaultPlace>, AllocError>
     requires same { header.now ≡ header_of file.now }
     requires tables { AreTablesOf file.now tables.now.fat tables.now.lists.items tables.now.entries.items }
-    ensures { IfOk result (λ p. IfSome p (IsFaultAt file.now fault)) }
+    ensures there { IfOk result (λ p. IfSome p (IsFaultAt file.now fault)) }
+    ensures directory { IfOk result (λ p. IfNone p (IsUnfaultedAt file.now fault FaultPlace.Directory)) }
+    ensures mini_fat { IfOk result (λ p. IfNone p (IsUnfaultedAt file.now fault FaultPlace.MiniFat)) }
+    ensures mini_stream { IfOk result (λ p. IfNone p (IsUnfaultedAt file.now fault FaultPlace.MiniStream)) }
 {
-    let chain = Chain {
-        first: header.first_directory(),
-        width: SECTOR,
-        size: 0,
-    };
-    let found = examine(alloc, &tables.entries, &tables.lists, chain, fault)?;
+    let found = examine_directory(alloc, header, &tables.lists, &tables.entries, fault)?;
     match found {
         Examined::AtFault(link) => Ok(Some(FaultPlace::Directory(link))),
         Examined::Whole(sectors) => find_in_mini_fat(alloc, header, file, tables, &sectors, fault),
@@ -141,7 +191,9 @@ fn find_in_mini_fat(
     requires same { header.now ≡ header_of file.now }
     requires tables { AreTablesOf file.now tables.now.fat tables.now.lists.items tables.now.entries.items }
     requires directory { IsChain (sectors_of file.now (listed file.now)) (first_directory file.now) 0 directory.now }
-    ensures { IfOk result (λ p. IfSome p (IsFaultAt file.now fault)) }
+    ensures there { IfOk result (λ p. IfSome p (IsFaultAt file.now fault)) }
+    ensures mini_fat { IfOk result (λ p. IfNone p (IsUnfaultedAt file.now fault FaultPlace.MiniFat)) }
+    ensures mini_stream { IfOk result (λ p. IfNone p (IsUnfaultedAt file.now fault FaultPlace.MiniStream)) }
 {
     let count = header.mini_fat_count();
     if count == 0 {
@@ -163,18 +215,17 @@ fn find_in_mini_fat(
     }
 }
 
-/// The chain of the mini stream, as the root of a directory of these bytes names it. None where there is no root.
-fn mini_stream_of(alloc: Global, directory: &[u8]) -> Result<Option<Chain>, AllocError>
-    ensures { IfOk result (λ v. IfSome v (λ c. (c.first ≡ first_of (entry_at directory.now 0)) × (c.size ≡ size_of (entry_at directory.now 0)) × (c.width ≡ 512))) }
+/// The chain of the mini stream, as the first entry of a directory of these bytes names it.
+fn mini_stream_of(directory: &[u8]) -> Chain
+    ensures first { result.first ≡ first_of (entry_at directory.now 0) }
+    ensures size { result.size ≡ size_of (entry_at directory.now 0) }
+    ensures wide { result.width ≡ 512 }
 {
-    match root_of(alloc, directory) {
-        Ok(Some((first, size))) => Ok(Some(Chain {
-            first,
-            width: SECTOR,
-            size: size as u64,
-        })),
-        Ok(None) => Ok(None),
-        Err(error) => Err(error),
+    let (first, size) = root_of(directory);
+    Chain {
+        first,
+        width: SECTOR,
+        size: size as u64,
     }
 }
 
@@ -190,13 +241,11 @@ fn find_in_mini_stream(
     requires tables { AreTablesOf file.now tables.now.fat tables.now.lists.items tables.now.entries.items }
     requires directory { IsChain (sectors_of file.now (listed file.now)) (first_directory file.now) 0 directory.now }
     requires mini_fat { IsChainOf (sectors_of file.now (listed file.now)) (first_mini_fat file.now) (512 * mini_fat_count file.now) mini_fat.now }
-    ensures { IfOk result (λ p. IfSome p (IsFaultAt file.now fault)) }
+    ensures there { IfOk result (λ p. IfSome p (IsFaultAt file.now fault)) }
+    ensures mini_stream { IfOk result (λ p. IfNone p (IsUnfaultedAt file.now fault FaultPlace.MiniStream)) }
 {
     let bytes = tables.fat.join(alloc, directory)?;
-    let named = mini_stream_of(alloc, &bytes)?;
-    let Some(chain) = named else {
-        return Ok(None);
-    };
+    let chain = mini_stream_of(&bytes);
     if chain.size == 0 {
         return Ok(None);
     }
@@ -204,6 +253,7 @@ fn find_in_mini_stream(
     let found = examine(alloc, &tables.entries, &taken, chain, fault)?;
     match found {
         Examined::AtFault(link) => Ok(Some(FaultPlace::MiniStream(link))),
-        _ => Ok(None),
+        Examined::Whole(_) => Ok(None),
+        Examined::Other => Ok(None),
     }
 }

@@ -4,11 +4,14 @@
 pub mod chains;
 pub mod directory;
 mod ends;
+mod fat_faults;
 pub mod finding;
 pub mod law;
 mod looking;
+mod own_faults;
 mod parts;
 pub mod place;
+mod searching;
 mod streams;
 mod tables;
 mod walking;

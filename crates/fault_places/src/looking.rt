@@ -2,12 +2,14 @@
 
 ghost use Rattle.cfb_directory.specs.Entries.{MayRefuseEntry};
 ghost use Rattle.cfb_names.specs.declared.fault.DirFault.TheVariants.{NoMemory};
-ghost use Rattle.fault_places.specs.Ways.{IsEntryAtFault, IsLooked, IsMet, IsStorageAtFault, IsWay, end_of};
+ghost use Rattle.fault_places.specs.Ways.{IsEntryAtFault, IsLooked, IsMet, IsOfLinks, IsStorageAtFault, IsWay, end_of};
 ghost use Rattle.file_faults.specs.Faults.{IsChild, IsStorage, key_at};
 ghost use Rattle.std.specs.List.{All, Contains};
-ghost use Rattle.std.specs.Prelude.{[], ◌≡◌, ◌≢◌, ◌<◌, ◌*◌, ◌⊎◌, IfOk, IfSome, length, true, ℕ};
+ghost use Rattle.std.specs.Prelude.{[], ◌≡◌, ◌≢◌, ◌<◌, ◌*◌, ◌⊎◌, IfNone, IfOk, IfSome, false, length, true, ℕ};
 
+use crate::own_faults::{ENTRY, is_of_entry};
 use crate::place::EntryPlace;
+use crate::searching::find_own;
 use crate::walking::stands_in;
 use crate::ways::{end_of, push_ways, root_way};
 use cfb_directory::entries::{Entries, EntryKind};
@@ -275,8 +277,9 @@ fn search_of<'a>(alloc: Global, entries: Entries<'a>) -> Result<Search<'a>, Allo
     })
 }
 
-/// The place at which a directory of these bytes has a fault. None where it isn't found.
-pub(crate) fn find_in_entries(
+/// The place at which a directory of these bytes has a fault of the links between entries: two of one name, too many storages in one
+/// another, or a circle. None where it isn't found: storages behind another fault, or too deep, aren't looked at.
+fn find_in_links(
     alloc: Global,
     directory: &[u8],
     fault: DirFault,
@@ -302,9 +305,47 @@ pub(crate) fn find_in_entries(
     Ok(None)
 }
 
+/// Whether a fault is one of the links between entries.
+fn is_of_links(fault: DirFault) -> bool
+    ensures told { result ≡ true → IsOfLinks fault }
+    ensures other { result ≡ false → IsOfLinks fault → ⊥ }
+{
+    match fault {
+        DirFault::TooNested => true,
+        DirFault::DuplicateName => true,
+        DirFault::TreeCycle => true,
+        _ => false,
+    }
+}
+
+/// The place at which a directory of these bytes has a fault. None where no entry has it, if it is none of the links between
+/// entries; of such a one, where it isn't found.
+pub(crate) fn find_in_entries(
+    alloc: Global,
+    directory: &[u8],
+    fault: DirFault,
+) -> Result<Option<EntryPlace>, AllocError>
+    requires { (m : ℕ) × (length directory.now ≡ 128 * m) }
+    ensures there { IfOk result (λ p. IfSome p (IsEntryAtFault directory.now fault)) }
+    ensures nowhere { (IsOfLinks fault → ⊥) → IfOk result (λ p. IfNone p ((where_it_is : EntryPlace) → IsEntryAtFault directory.now fault where_it_is → ⊥)) }
+{
+    if directory.len() < ENTRY {
+        return Ok(nowhere_if(is_of_entry(fault)));
+    }
+    if is_of_links(fault) {
+        return find_in_links(alloc, directory, fault);
+    }
+    match find_own(alloc, directory, fault) {
+        Ok(Some(way)) => Ok(Some(EntryPlace::Entry(way))),
+        Ok(None) => Ok(None),
+        Err(error) => Err(error),
+    }
+}
+
 /// The place of a directory without entries, where that is the fault.
 fn nowhere_if(is_there: bool) -> Option<EntryPlace>
-    ensures { IfSome result (λ p. (is_there ≡ true) × (p ≡ EntryPlace.Nowhere)) }
+    ensures told { IfSome result (λ p. (is_there ≡ true) × (p ≡ EntryPlace.Nowhere)) }
+    ensures other { IfNone result (is_there ≡ false) }
 {
     if is_there {
         return Some(EntryPlace::Nowhere);

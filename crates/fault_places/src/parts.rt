@@ -7,16 +7,17 @@ ghost use Rattle.cfb_directory.specs.Entries.{entry_at, first_of, size_of};
 ghost use Rattle.cfb_header.specs.Header.{first_directory, first_mini_fat, header_of, listed, mini_fat_count};
 ghost use Rattle.fault_places.specs.Streams.{ArePartsOf};
 ghost use Rattle.fault_places.specs.Tables.{AreTablesOf, IsTabled};
-ghost use Rattle.std.specs.Prelude.{◌*◌, ◌<◌, ◌≡◌, ◌≤◌, IfOk, IfSome, List, length, slice_index, take, ℕ};
+ghost use Rattle.std.specs.Prelude.{◌*◌, ◌+◌, ◌++◌, ◌-◌, ◌<◌, ◌≡◌, ◌≤◌, IfNone, IfOk, IfSome, List, length, replicate, slice_index, take, ℕ};
 
 use crate::finding::{SECTOR, all_of};
 use crate::tables::Tables;
 use crate::walking::{Chain, chain_at};
 use cfb_bytes::numbers::read_u32;
-use cfb_directory::entries::Entries;
 use cfb_header::header::Header;
-use cfb_names::fault::DirFault;
 use std::alloc::{AllocError, Global};
+
+/// The bytes of an entry.
+const ENTRY: usize = 128;
 
 /// What is read of a file to find its streams.
 #[derive(Drop)]
@@ -47,7 +48,8 @@ fn numbers(alloc: Global, bytes: &[u8], count: usize) -> Result<Vec<u32>, AllocE
 /// A chain with room for some bytes, or none where there are none. None is told where it isn't whole.
 fn chain_or_none(alloc: Global, table: &[u32], chain: Chain) -> Result<Option<Vec<u32>>, AllocError>
     requires { length table.now ≤ 0xFFFFFFF9 }
-    ensures { IfOk result (λ v. IfSome v (λ ns. (s : Store) → IsTabled table.now s → s.width ≡ chain.width → IsChainOf s chain.first chain.size ns.items)) }
+    ensures whole { IfOk result (λ v. IfSome v (λ ns. (s : Store) → IsTabled table.now s → s.width ≡ chain.width → IsChainOf s chain.first chain.size ns.items)) }
+    ensures other { IfOk result (λ v. IfNone v ((s : Store) → IsTabled table.now s → s.width ≡ chain.width → (ns : List ℕ) → IsChainOf s chain.first chain.size ns → ⊥)) }
 {
     if chain.size == 0 {
         return Ok(Some(Vec::new(alloc)));
@@ -76,20 +78,33 @@ fn mini_table(
     Ok(minis)
 }
 
-/// Where the mini stream begins and how many bytes it has, as the root of a directory of these bytes says. None where there
-/// is no root.
-pub(crate) fn root_of(alloc: Global, directory: &[u8]) -> Result<Option<(u32, u32)>, AllocError>
-    ensures { IfOk result (λ v. IfSome v (λ root. (root.0 ≡ first_of (entry_at directory.now 0)) × (root.1 ≡ size_of (entry_at directory.now 0)))) }
+/// Fewer bytes than an entry has, with zeros behind them.
+fn padded(bytes: &[u8]) -> [u8; ENTRY]
+    requires { length bytes.now < 128 }
+    ensures { result ≡ bytes.now ++ replicate (128 - length bytes.now) 0 }
 {
-    let entries = match Entries::load(alloc, directory) {
-        Ok(entries) => entries,
-        Err(DirFault::NoMemory) => return Err(AllocError),
-        Err(_) => return Ok(None),
-    };
-    let Ok(root) = entries.entry(0) else {
-        return Ok(None);
-    };
-    Ok(Some((root.first, root.size)))
+    let mut entry = [0; ENTRY];
+    entry[..bytes.len()].copy_from_slice(bytes);
+    entry
+}
+
+/// The number at a place of the first entry of a directory of these bytes, zeros standing for what isn't there.
+#[tactic(auto, unfolding(cfb_bytes::specs::Bytes::block))]
+fn root_number(directory: &[u8], at: usize) -> u32
+    requires { at + 4 ≤ 128 }
+    ensures { result ≡ u32_at (entry_at directory.now 0) at }
+{
+    if directory.len() >= ENTRY {
+        return read_u32(directory, at);
+    }
+    read_u32(&padded(directory), at)
+}
+
+/// Where the mini stream begins and how many bytes it has, as the first entry of a directory of these bytes says.
+pub(crate) fn root_of(directory: &[u8]) -> (u32, u32)
+    ensures { (result.0 ≡ first_of (entry_at directory.now 0)) × (result.1 ≡ size_of (entry_at directory.now 0)) }
+{
+    (root_number(directory, 116), root_number(directory, 120))
 }
 
 /// The parts of a file with this header and these tables. None where a chain of one of them isn't whole.
@@ -157,10 +172,7 @@ fn with_mini_stream(
     ensures { IfOk result (λ v. IfSome v (ArePartsOf file.now)) }
 {
     let bytes = tables.fat.join(alloc, directory)?;
-    let root = root_of(alloc, &bytes)?;
-    let Some((first, size)) = root else {
-        return Ok(None);
-    };
+    let (first, size) = root_of(&bytes);
     let chain = Chain {
         first,
         width: SECTOR,

@@ -1,3 +1,4 @@
 pub mod Named
 pub mod Told
 mod Standing
+pub mod Promised

@@ -1,7 +1,7 @@
 -- Where a file is at fault, with the path of the entry and the byte of the file.
-use Rattle.std.specs.Prelude.{◌≡◌, ◌⊎◌, ◌<◌, ◌≤◌, ◌+◌, ◌*◌, ◌/◌, ◌%◌, ◌++◌, ℕ, Bool, true, false, List, [], ◌∷◌, Option, Some, None, IfSome, Err, drop, length, option_map, slice_index, string_bytes, take}
+use Rattle.std.specs.Prelude.{◌≡◌, ◌⊎◌, ◌<◌, ◌≤◌, ◌+◌, ◌*◌, ◌/◌, ◌%◌, ◌++◌, ℕ, Bool, true, false, List, [], ◌∷◌, Option, Some, None, IfNone, IfSome, Err, drop, length, option_map, slice_index, string_bytes, take}
 use Rattle.cfb_header.specs.Bytes.{u32_at}
-use Rattle.cfb_header.specs.Header.{first_mini_fat, header_read, listed}
+use Rattle.cfb_header.specs.Header.{IsHeader, first_mini_fat, header_read, listed}
 use Rattle.cfb_header.specs.declared.fault.ChainFault.{ChainFault}
 use Rattle.cfb_chain.specs.Chain.{IsChain}
 use Rattle.cfb_chain.specs.Fat.{sectors_of}
@@ -10,7 +10,7 @@ use Rattle.text_model.specs.Spelled.{name_text}
 use Rattle.file_faults.specs.Faults.{IsDirectory}
 use Rattle.fault_places.specs.Places.{IsFaultAt}
 use Rattle.fault_places.specs.Streams.{IsFaultOfStream}
-use Rattle.fault_places.specs.Ways.{IsFaultOfEntry, end_of}
+use Rattle.fault_places.specs.Ways.{IsFaultOfEntry, IsOfLinks, end_of}
 use Rattle.fault_places.specs.declared.place.FaultPlace.{FaultPlace}
 use Rattle.fault_places.specs.declared.place.FaultPlace.TheVariants as chain
 use Rattle.fault_places.specs.declared.place.EntryPlace.{EntryPlace}
@@ -33,6 +33,19 @@ IsPlaceOf file (read.Directory fault) (place.Entry p) = IsFaultOfEntry file faul
 IsPlaceOf file read.NoMemory (place.Chain p) = ⊥
 IsPlaceOf file read.NoMemory (place.Stream p) = ⊥
 IsPlaceOf file read.NoMemory (place.Entry p) = ⊥
+
+-- The places of which one is told wherever a file with a sound header has one: those of the FAT and of the system's parts, and those
+-- of entries but for the faults of links between them.
+abbrev pub IsPromised : ReadFault → Place → Type 0
+IsPromised fault (place.Chain p) = Unit {0}
+IsPromised fault (place.Stream p) = ⊥
+IsPromised (read.Directory fault) (place.Entry p) = IsOfLinks fault → ⊥
+IsPromised (read.Chain fault) (place.Entry p) = Unit {0}
+IsPromised read.NoMemory (place.Entry p) = Unit {0}
+
+-- none of these has the fault
+abbrev pub IsNowhere : List ℕ → ReadFault → Type 0
+IsNowhere file fault = (p : Place) → IsPromised fault p → IsPlaceOf file fault p → ⊥
 
 -- ---- the path
 -- the way to the entry of a place; of two with one name it is that of the second
@@ -141,3 +154,7 @@ pub record IsSpotOf (file : List ℕ) (fault : ReadFault) (s : Spot) : Type 0 wh
 -- a fault of the header is told, with the header as its place
 abbrev pub IsHeaderTold : List ℕ → ReadFault → Option Spot → Type 0
 IsHeaderTold file fault at = (e : ChainFault) → header_read file ≡ Err e → fault ≡ read.Chain e → option_map (λ s. s.place) at ≡ Some (place.Chain chain.Header)
+
+-- where no place is told of a file with a sound header, none of those that are promised has the fault
+abbrev pub IsPlaceTold : List ℕ → ReadFault → Option Spot → Type 0
+IsPlaceTold file fault at = IsHeader file → IfNone at (IsNowhere file fault)

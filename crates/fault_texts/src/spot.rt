@@ -1,10 +1,12 @@
 //! The place at which a file is at fault, with the path of its entry and the byte at which it stands.
 
-ghost use Rattle.cfb_header.specs.Header.{header_read};
+ghost use Rattle.cfb_header.specs.Header.{IsHeader, header_read};
 ghost use Rattle.cfb_header.specs.declared.fault.ChainFault.{ChainFault};
 ghost use Rattle.cfb_header.specs.declared.fault.ChainFault.TheVariants.{NoMemory};
-ghost use Rattle.fault_texts.specs.Spots.{IsHeaderTold, IsPathOf, IsPlaceOf, IsSpotOf, way_of};
-ghost use Rattle.std.specs.Prelude.{[], ◌∷◌, ◌≡◌, ◌≢◌, ◌++◌, Err, IfOk, IfSome, Some, string_bytes};
+ghost use Rattle.fault_places.specs.Places.{IsNowhere as IsNoPart};
+ghost use Rattle.fault_places.specs.Ways.{IsNoEntry, IsOfLinks};
+ghost use Rattle.fault_texts.specs.Spots.{IsHeaderTold, IsNowhere, IsPathOf, IsPlaceOf, IsPlaceTold, IsSpotOf, way_of};
+ghost use Rattle.std.specs.Prelude.{[], ◌∷◌, ◌≡◌, ◌≢◌, ◌++◌, Err, IfNone, IfOk, IfSome, Some, string_bytes};
 
 use crate::bytes::byte_of;
 use crate::paths::path_of;
@@ -48,6 +50,7 @@ fn place_in_parts(
 ) -> Result<Option<Place>, AllocError>
     ensures there { IfOk result (λ p. IfSome p (IsPlaceOf file.now (ReadFault.Chain fault))) }
     ensures header { header_read file.now ≡ Err fault → fault ≢ NoMemory → IfOk result (λ p. p ≡ Some (Place.Chain FaultPlace.Header)) }
+    ensures nowhere { IsHeader file.now → IfOk result (λ p. IfNone p (IsNoPart file.now fault)) }
 {
     match find_place(alloc, file, fault) {
         Ok(Some(place)) => Ok(Some(Place::Chain(place))),
@@ -79,6 +82,7 @@ fn place_in_chains(
 ) -> Result<Option<Place>, AllocError>
     ensures there { IfOk result (λ p. IfSome p (IsPlaceOf file.now (ReadFault.Chain fault))) }
     ensures header { header_read file.now ≡ Err fault → fault ≢ NoMemory → IfOk result (λ p. p ≡ Some (Place.Chain FaultPlace.Header)) }
+    ensures nowhere { IsHeader file.now → IfOk result (λ p. IfNone p (IsNoPart file.now fault)) }
 {
     match place_in_parts(alloc, file, fault) {
         Ok(Some(place)) => Ok(Some(place)),
@@ -93,7 +97,8 @@ fn place_in_directory(
     file: &[u8],
     fault: DirFault,
 ) -> Result<Option<Place>, AllocError>
-    ensures { IfOk result (λ p. IfSome p (IsPlaceOf file.now (ReadFault.Directory fault))) }
+    ensures there { IfOk result (λ p. IfSome p (IsPlaceOf file.now (ReadFault.Directory fault))) }
+    ensures nowhere { IsHeader file.now → (IsOfLinks fault → ⊥) → IfOk result (λ p. IfNone p (IsNoEntry file.now fault)) }
 {
     match find_entry(alloc, file, fault) {
         Ok(Some(place)) => Ok(Some(Place::Entry(place))),
@@ -106,6 +111,7 @@ fn place_in_directory(
 fn place_of(alloc: Global, file: &[u8], fault: ReadFault) -> Result<Option<Place>, AllocError>
     ensures there { IfOk result (λ p. IfSome p (IsPlaceOf file.now fault)) }
     ensures header { (e : ChainFault) → header_read file.now ≡ Err e → fault ≡ ReadFault.Chain e → IfOk result (λ p. p ≡ Some (Place.Chain FaultPlace.Header)) }
+    ensures nowhere { IsHeader file.now → IfOk result (λ p. IfNone p (IsNowhere file.now fault)) }
 {
     match fault {
         ReadFault::Chain(chain) => place_in_chains(alloc, file, chain),
@@ -145,12 +151,16 @@ fn known_path(alloc: Global, file: &[u8], place: &Place) -> Result<Option<String
 }
 
 /// The place at which a file has a fault, where one is found, with the path of its entry and the byte, where these are known. That
-/// of a fault of the header is found.
+/// of a fault of the header is found. Where the header is sound, so is a place of the FAT, of the chain of the directory, the mini
+/// FAT or the mini stream, and of an entry that is at fault by itself or from which links lead outside, whatever else is wrong
+/// with the file. It isn't promised that one of a stream's chain is found, nor one of two entries of one name, of too many
+/// storages in one another and of links in a circle.
 ///
 /// Refused for want of memory alone.
 pub fn find_spot(alloc: Global, file: &[u8], fault: ReadFault) -> Result<Option<Spot>, AllocError>
     ensures there { IfOk result (λ s. IfSome s (IsSpotOf file.now fault)) }
     ensures header { IfOk result (IsHeaderTold file.now fault) }
+    ensures told { IfOk result (IsPlaceTold file.now fault) }
 {
     let found = place_of(alloc, file, fault)?;
     let Some(place) = found else {

@@ -8,7 +8,7 @@ use Rattle.stream_io.specs.declared.fault.ReadFault.{ReadFault}
 use Rattle.stream_io.specs.declared.fault.ReadFault.TheVariants as read
 use Rattle.texts.specs.Input.{MayRefuseInput, most}
 use Rattle.fault_texts.specs.Json.{sound_text, told_text}
-use Rattle.fault_texts.specs.Spots.{IsHeaderTold, IsSpotOf}
+use Rattle.fault_texts.specs.Spots.{IsHeaderTold, IsPlaceTold, IsSpotOf}
 use Rattle.fault_texts.specs.declared.spot.Spot.{Spot}
 use Rattle.fault_texts.specs.declared.telling.Form.{Form}
 use Rattle.file_commands.specs.declared.fault.ListFault.{ListFault}
@@ -26,11 +26,13 @@ pub record IsSound (file : List ℕ) (form : Form) (old new : Option (List ℕ))
   pub few : length file ≤ most
   pub written : Appends old new (sound_text form)
 
--- The text of a fault was written. Where it tells a place, the file has the fault there, and of a fault of the header it does.
+-- The text of a fault was written. Where it tells a place, the file has the fault there. Of a fault of the header it tells one, and of
+-- each other place that is promised.
 pub record TellsFault (file : List ℕ) (form : Form) (fault : ReadFault) (old new : Option (List ℕ)) : Type 0 where
   pub at : Option Spot
   pub is_there : IfSome at (IsSpotOf file fault)
   pub header : IsHeaderTold file fault at
+  pub placed : IsPlaceTold file fault at
   pub written : Appends old new (told_text form fault at)
 
 -- what was written where a text isn't: nothing for want of memory

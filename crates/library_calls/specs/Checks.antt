@@ -3,7 +3,7 @@ use Rattle.std.specs.Prelude.{◌≡◌, ◌≢◌, ◌⊎◌, ℕ, List, Option
 use Rattle.storage_tree.specs.Tree.{Tree}
 use Rattle.file_model.specs.Denotes.{Denotes}
 use Rattle.fault_texts.specs.Json.{sound_text, told_text}
-use Rattle.fault_texts.specs.Spots.{IsHeaderTold, IsSpotOf}
+use Rattle.fault_texts.specs.Spots.{IsHeaderTold, IsPlaceTold, IsSpotOf}
 use Rattle.fault_texts.specs.declared.spot.Spot.{Spot}
 use Rattle.fault_texts.specs.declared.telling.Form.{Form}
 use Rattle.stream_io.specs.Reads.{MayRefuseRead}
@@ -16,9 +16,12 @@ use Rattle.library_calls.specs.Numbers.{read_number}
 abbrev pub IsAtFault : List ℕ → ReadFault → Type 0
 IsAtFault file fault = (fault ≢ NoMemory) × MayRefuseRead file fault
 
--- The text of a fault. Where it tells a place, the file has the fault there, and of a fault of the header it does.
+-- The text of a fault. Where it tells a place, the file has the fault there. Of a fault of the header it tells one, and of each other
+-- place that is promised.
 abbrev pub IsTold : List ℕ → Form → ReadFault → List ℕ → Type 0
-IsTold file form fault bytes = (at : Option Spot) × IfSome at (IsSpotOf file fault) × IsHeaderTold file fault at × (bytes ≡ told_text form fault at)
+IsTold file form fault bytes =
+    (at : Option Spot) × IfSome at (IsSpotOf file fault) × IsHeaderTold file fault at × IsPlaceTold file fault at
+    × (bytes ≡ told_text form fault at)
 
 -- The file denotes a tree, and the text says so: no fault is told. Or it is at fault, and the text and the number tell that.
 abbrev pub IsChecked : List ℕ → Form → ℕ → List ℕ → Type 0

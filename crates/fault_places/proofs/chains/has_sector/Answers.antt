@@ -14,5 +14,5 @@ returns-in-Some c = λ t b base.
     c.in_ok-found.found c.in-Some.sectors c.in-Some.is c.in_ok-found.ensures b base in (
       c.in-Some.sectors.items,
       chain_of_some (store_in b c.args.stream.now.size) c.args.stream.now.first c.args.stream.now.size c.in-Some.sectors.items (omega (arith, c.if-stream-eq0.false)) at,
-      subst (λ (xs : List ℕ). Contains xs c.args.n) c.deref.ensures.value (c.stands_in.ensures t),
+      subst (λ (xs : List ℕ). Contains xs c.args.n) c.deref.ensures.value (c.stands_in.ensures.there t),
     )

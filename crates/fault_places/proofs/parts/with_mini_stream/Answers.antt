@@ -15,8 +15,8 @@ join-requires c =
     sectors_below c.args.file.now c.args.tables.now.fat c.args.tables.now.lists.items c.args.tables.now.entries.items c.requires.tables (first_directory c.args.file.now) c.args.directory.now
     c.requires.directory
 
-pub returns-in_ok-table-in-Some-found : goal.returns-in_ok-table-in-Some-found
-returns-in_ok-table-in-Some-found c =
+pub returns-in_ok-table-in-Some : goal.returns-in_ok-table-in-Some
+returns-in_ok-table-in-Some c =
     let file : List ℕ = c.args.file.now in
     let f : FatValue = c.args.tables.now.fat in
     let lists : List ℕ = c.args.tables.now.lists.items in
@@ -26,16 +26,13 @@ returns-in_ok-table-in-Some-found c =
     let seen : c.deref.result.now ≡ c.in_ok-bytes.bytes.items = c.deref.ensures.value in
     let dir_is : c.deref.result.now ≡ joined (sector file) ns =
     seen ∙ bytes_joined file f lists table c.requires.tables c.in_ok-bytes.bytes.items ns (first_directory file) c.requires.directory c.in_ok-bytes.ensures in
-    let own : c.extend_from_slice.new.self.items ≡ lists ++ ns ++ mini_fat ++ c.in-Some-found.mini_stream.items =
-    c.in_ok-extend_from_slice-in-Some-found.ensures.items
-    ∙ (λ i. (c.in_ok-own-in-Some-found.ensures ∙ ap (λ (xs : List ℕ). xs ++ ns ++ mini_fat) c.deref-in-Some-found.ensures.value) i ++ c.deref-in-Some-found-2.ensures.value i) in
-    let root : (c.in-Some.first ≡ first_of (entry_at c.deref.result.now 0)) × (c.in-Some.size ≡ size_of (entry_at c.deref.result.now 0)) =
-    some_gives (λ (r : ℕ × ℕ). (r.0 ≡ first_of (entry_at c.deref.result.now 0)) × (r.1 ≡ size_of (entry_at c.deref.result.now 0))) c.in_ok-root.root (c.in-Some.first, c.in-Some.size)
-    c.in-Some.is c.in_ok-root.ensures in
-    parts_are file f lists table c.requires.tables ns mini_fat c.in-Some-found.mini_stream.items c.deref.result.now c.in-Some.first c.in-Some.size c.args.count
-    (record { table = c.in_ok-table-in-Some-found.table; minis = c.in_ok-minis.minis; own = c.extend_from_slice.new.self; directory = c.in_ok-bytes.bytes })
-    c.requires.directory c.requires.counted c.requires.mini_fat dir_is root.0 root.1
-    (chain_in file f lists table c.requires.tables c.deref-2.result.now (record { first = c.in-Some.first; width = 512; size = c.in-Some.size }) c.in-Some.first c.in-Some.size
-    c.in-Some-found.mini_stream.items c.in-Some-found.mini_stream.items (some_gives (λ (xs : Vec ℕ Global). (s : Store) → IsTabled c.deref-2.result.now s → s.width ≡ 512 → IsChainOf s c.in-Some.first c.in-Some.size xs.items)
-    c.in_ok-found.found c.in-Some-found.mini_stream c.in-Some-found.is c.in_ok-found.ensures) c.deref-2.ensures.value refl refl refl refl)
-    (sym seen) (c.in_ok-table-in-Some-found.ensures.items ∙ c.deref-in-Some-found-3.ensures.value) own c.in_ok-minis.ensures.tabled c.in_ok-minis.ensures.few
+    let own : c.extend_from_slice.new.self.items ≡ lists ++ ns ++ mini_fat ++ c.in-Some.mini_stream.items =
+    c.in_ok-extend_from_slice-in-Some.ensures.items
+    ∙ (λ i. (c.in_ok-own-in-Some.ensures ∙ ap (λ (xs : List ℕ). xs ++ ns ++ mini_fat) c.deref-in-Some.ensures.value) i ++ c.deref-in-Some-2.ensures.value i) in
+    parts_are file f lists table c.requires.tables ns mini_fat c.in-Some.mini_stream.items c.deref.result.now c.root_of-first.result.0 c.root_of-first.result.1 c.args.count
+    (record { table = c.in_ok-table-in-Some.table; minis = c.in_ok-minis.minis; own = c.extend_from_slice.new.self; directory = c.in_ok-bytes.bytes })
+    c.requires.directory c.requires.counted c.requires.mini_fat dir_is c.root_of-first.ensures.0 c.root_of-first.ensures.1
+    (chain_in file f lists table c.requires.tables c.deref-2.result.now (record { first = c.root_of-first.result.0; width = 512; size = c.root_of-first.result.1 }) c.root_of-first.result.0 c.root_of-first.result.1
+    c.in-Some.mini_stream.items c.in-Some.mini_stream.items (some_gives (λ (xs : Vec ℕ Global). (s : Store) → IsTabled c.deref-2.result.now s → s.width ≡ 512 → IsChainOf s c.root_of-first.result.0 c.root_of-first.result.1 xs.items)
+    c.in_ok-found.found c.in-Some.mini_stream c.in-Some.is c.in_ok-found.ensures.whole) c.deref-2.ensures.value refl refl refl refl)
+    (sym seen) (c.in_ok-table-in-Some.ensures.items ∙ c.deref-in-Some-3.ensures.value) own c.in_ok-minis.ensures.tabled c.in_ok-minis.ensures.few

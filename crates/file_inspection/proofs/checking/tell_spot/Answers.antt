@@ -12,6 +12,7 @@ returns-in-Ok-write_all-clause-told g c =
       at = c.in-Ok.spot;
       is_there = c.in-Ok.ensures.there;
       header = c.in-Ok.ensures.header;
+      placed = c.in-Ok.ensures.told;
       written = subst (Appends old new) (c.deref.ensures.value ∙ c.in-Ok-told_text.ensures) c.in-Ok-write_all.ensures;
     } in
     told_fault c.args.file.now c.args.form c.args.fault old new c.requires.its_own told
