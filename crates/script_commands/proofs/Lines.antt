@@ -24,6 +24,7 @@ use Rattle.script_model.specs.declared.answer.Told.TheVariants as told
 use Rattle.script_model.specs.declared.command.ScriptCommand.{ScriptCommand}
 use Rattle.script_model.specs.declared.command.ScriptCommand.TheVariants as script
 use Rattle.script_model.specs.declared.step.Step.TheVariants as step
+use Rattle.script_opens.proofs.Results.{ok_then}
 use Rattle.script_commands.proofs.Held.{both_later}
 use Rattle.script_commands.specs.Lines.{HasLine, IfBegun, IsBeginning, IsBegunWith, IsCut, IsFirst, IsFirstOf, IsShown, told_of_server}
 
