@@ -23,8 +23,13 @@ none_counted : (b : Bool) (n : ℕ) → (if b then n + 1 else n) ≡ 0 → (b �
 none_counted true n none = absurd (omega (arith, none))
 none_counted false n none = (refl, none)
 
-same_before : {D : Type 0} (n place : ℕ) (es before : List (Event D)) → Some (n, es) ≡ Some (place, before) → before ≡ es
-same_before n place es before is = cc
+-- the history before a command that began
+abbrev behind_begun : {D : Type 0} → List (Event D) → Option (ℕ × List (Event D)) → List (Event D)
+behind_begun none None = none
+behind_begun none (Some b) = b.1
+
+same_before : {D : Type 0} (n place : ℕ) (es before : List (Event D)) → ◌≡◌ {A = Option (ℕ × List (Event D))} (Some (n, es)) (Some (place, before)) → before ≡ es
+same_before n place es before is = sym (ap (behind_begun es) is)
 
 module _ {D : Type 0} (commands : List ScriptCommand) (place : ℕ) (before : List (Event D)) (back : AreHeldBack commands before) where
   -- whether a server is held since the command of this place began there

@@ -19,7 +19,7 @@ ghost use Rattle.script_texts.specs.Commands.{commands_read};
 ghost use Rattle.script_links.specs.Links.{AreHeld, AreLinked, AreServed, is_any_held};
 ghost use Rattle.script_links.specs.Shown.{AreQuiet};
 ghost use Rattle.script_links.specs.Told.{IsTold};
-ghost use Rattle.std.specs.Prelude.{◌≡◌, ◌∷◌, ℕ, [], false, IfErr, IfOk, IfSome, Ok, OnOk, length};
+ghost use Rattle.std.specs.Prelude.{◌≡◌, ◌∷◌, ℕ, [], false, IfErr, IfOk, IfSome, Ok, OnOk, length, vec_len};
 
 use container_core::container::{ContainerCore, Limits};
 use script_commands::commands::carry_out;
@@ -30,7 +30,7 @@ use script_model::command::ScriptCommand;
 use script_model::host::Host;
 use script_model::step::Step;
 use script_texts::commands::Commands;
-use std::alloc::Global;
+use std::alloc::{AllocError, Global};
 use std::io::{Read, Write};
 use store_model::disk::Disk;
 use texts::input::read_all;
@@ -52,6 +52,15 @@ fn read_script<R: Read>(alloc: Global, reader: &mut R) -> Result<Vec<ScriptComma
         Ok(commands) => Ok(commands),
         Err((line, fault)) => Err(ScriptFault::Line(line, fault)),
     }
+}
+
+/// Room for what is read of a link at once.
+///
+/// Refused for want of memory alone.
+fn take_buffer(alloc: Global) -> Result<Vec<u8>, AllocError>
+    ensures { IfOk result (λ buffer. vec_len buffer ≡ PIECE) }
+{
+    vec![in alloc; 0; PIECE]
 }
 
 /// Notes that the command of this place begins.
@@ -168,7 +177,7 @@ pub fn run_script<H: Host, R: Read, W: Write>(
         Ok(commands) => commands,
         Err(fault) => return Err(fault),
     };
-    let Ok(mut buffer) = vec![in alloc; 0; PIECE] else {
+    let Ok(mut buffer) = take_buffer(alloc) else {
         return Err(ScriptFault::NoMemory);
     };
     let limits = Limits {

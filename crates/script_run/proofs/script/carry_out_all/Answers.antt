@@ -29,7 +29,7 @@ loop-place-init g c =
       quiet = c.requires.quiet;
       saved = c.requires.saved;
       lines = lines_first g.H.Disk.Disk c.args.commands.items c.into_iter-place-iterator.result.count (g.H.Host.told c.args.host.now) (g.W.Write.contents c.args.writer.now) count;
-      back = subst (λ (h : List (Event g.H.Host.Disk)). AreHeldBack c.args.commands.items h) (sym c.requires.none) tt;
+      back = subst (λ (h : List (Event _)). AreHeldBack c.args.commands.items h) (sym c.requires.none) tt;
       so_far = so_far_first (g.H.Host.told c.args.host.now) c.args.links.now.items c.args.commands.items (into_iter_items c.into_iter-place-iterator.result.iter) c.into_iter-place-iterator.result.count count rest c.requires.none c.requires.free;
     }
 
