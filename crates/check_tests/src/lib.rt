@@ -3,6 +3,5 @@
 
 #[cfg(test)]
 mod checks;
-
 #[cfg(test)]
 mod searches;

@@ -227,7 +227,9 @@ fn is_extracted(alloc: Global, file: &[u8], calls: usize, count: usize, is_cut: 
     match extract_file(alloc, &mut source, &[], &mut folder) {
         Ok(made) => !is_cut && made == count && folder.room.saturating_add(count) == 10,
         Err(stop) => match &stop.fault {
-            ExtractFault::Cut => is_cut && stop.made == count && folder.room.saturating_add(count) == 10,
+            ExtractFault::Cut => is_cut
+                && stop.made == count
+                && folder.room.saturating_add(count) == 10,
             _ => false,
         },
     }
