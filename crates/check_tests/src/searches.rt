@@ -22,7 +22,7 @@ fn file_of(rt: &impl Abort, alloc: Global) -> Vec<u8> {
 fn change(file: &mut [u8], at: usize, to: u32) {
     let bytes = to.to_le_bytes();
     for k in 0..4 {
-        if let Some(byte) = file.get_mut(at + k) {
+        if let Some(byte) = file.get_mut(at.saturating_add(k)) {
             *byte = bytes[k];
         }
     }
