@@ -1,5 +1,7 @@
 -- What a header's bytes say.
-use Rattle.std.proofs.Common.{append-nil, inl, inr, min, ◌≡◌, ◌<◌, ◌≤◌, ◌+◌, ◌++◌, ◌-◌, ◌*◌, ℕ, List, [], Bool, false, cond, not, nat_lt, nat_eq, Ok, length, take, drop, replicate, get_or, map, refl, sym, ap, ◌∙◌, arith}
+use Rattle.std.proofs.Common.{append-nil, inl, inr, min, ◌≡◌, ◌<◌, ◌≤◌, ◌+◌, ◌++◌, ◌-◌, ◌*◌, ℕ, List, [], Bool, false}
+use Rattle.std.proofs.Common.{cond, not, nat_lt, nat_eq, Ok, length, take, drop, replicate, get_or, map, refl, sym, ap}
+use Rattle.std.proofs.Common.{◌∙◌, arith}
 use Rattle.std.specs.List.{range_with_len, starts_with, flat_map}
 use Rattle.std.specs.Int.{w16, w32, to_le_bytes}
 use Rattle.std.proofs.lemmas.List.FromFn.{fill_by_all, take-map-range_with_len}
@@ -9,7 +11,8 @@ use Rattle.std.proofs.lemmas.List.{drop_all, length-replicate, length-take, take
 use Rattle.std.proofs.lemmas.Bool.Decides.{Decides-eqb, nat_tests}
 use Rattle.std.proofs.lemmas.Slice.Eq.{slice_eq-Decides}
 use Rattle.cfb_header.specs.Bytes.{u16_at, u32_at}
-use Rattle.cfb_header.specs.Header.{HeaderValue, IsHeader, header_bytes, header_read, header_of, signature, fat_count, difat_count, MOST_FAT_SECTORS, MOST_DIFAT_SECTORS}
+use Rattle.cfb_header.specs.Header.{HeaderValue, IsHeader, header_bytes, header_read, header_of, signature, fat_count}
+use Rattle.cfb_header.specs.Header.{difat_count, MOST_FAT_SECTORS, MOST_DIFAT_SECTORS}
 use borrow.Rule.Slice.PartMut.{put_mid}
 
 -- the front of a list that is known at each index
@@ -23,9 +26,11 @@ pub first_by_index : (f : ℕ → ℕ) (xs : List ℕ) (n : ℕ) → length xs �
     → ((k : ℕ) → k < 109 → get_or xs k 0 ≡ f k) → take n xs ≡ map f (range_with_len 0 (min n 109))
 first_by_index f xs n len each =
     elim (cases_lt n 109) [
-      | inl less ↦ let e : min n 109 ≡ n = omega (arith, less) in take_by_index f xs 109 n len (omega (arith, less)) each ∙ ap (λ m. map f (range_with_len 0 m)) (sym e)
+      | inl less ↦ let e : min n 109 ≡ n = omega (arith, less) in
+          take_by_index f xs 109 n len (omega (arith, less)) each ∙ ap (λ m. map f (range_with_len 0 m)) (sym e)
       | inr more ↦ let e : min n 109 ≡ 109 = omega (arith, more) in let le : length xs ≤ n = omega (arith, len, more) in
-          take_all n xs le ∙ sym (take_all 109 xs (omega (arith, len))) ∙ take_by_index f xs 109 109 len (omega arith) each ∙ ap (λ m. map f (range_with_len 0 m)) (sym e)
+          take_all n xs le ∙ sym (take_all 109 xs (omega (arith, len)))
+          ∙ take_by_index f xs 109 109 len (omega arith) each ∙ ap (λ m. map f (range_with_len 0 m)) (sym e)
     ]
 
 -- the front of a list, in a list of 109
@@ -38,11 +43,14 @@ first_listed_is fat part count e is =
     elim (cases_lt (length fat) 109) [
       | inl less ↦
           let same : length fat ≡ length part = omega (arith, long, less) in
-          ap (λ n. take n (part ++ drop count (replicate 109 0))) same ∙ take-append_seam part (drop count (replicate 109 0)) ∙ all
+          ap (λ n. take n (part ++ drop count (replicate 109 0))) same
+          ∙ take-append_seam part (drop count (replicate 109 0)) ∙ all
       | inr more ↦
-          let none : drop count (replicate 109 0) ≡ [] = drop_all count (replicate 109 0) (omega (arith, e, more, length-replicate {A = ℕ} 109 0)) in
+          let none : drop count (replicate 109 0) ≡ [] = drop_all count (replicate 109 0)
+          (omega (arith, e, more, length-replicate {A = ℕ} 109 0)) in
           let le : length part ≤ length fat = omega (arith, long, more) in
-          ap (λ xs. take (length fat) (part ++ xs)) none ∙ ap (take (length fat)) (append-nil part) ∙ take_all (length fat) part le ∙ all
+          ap (λ xs. take (length fat) (part ++ xs)) none ∙ ap (take (length fat)) (append-nil part)
+          ∙ take_all (length fat) part le ∙ all
     ]
 
 pub cond_false : {X : Type 0} (b : Bool) (x y : X) → b ≡ false → cond b x y ≡ y
@@ -58,14 +66,18 @@ is_eq a b h = grind (arith, nat_tests)
 pub read_whole : (file : List ℕ) → IsHeader file → header_read file ≡ Ok (header_of file)
 read_whole file h =
     cond_false (nat_lt (length file) 512) _ _ (is_not_lt (length file) 512 h.whole)
-    ∙ cond_false (not (starts_with nat_eq file signature)) _ _ (ap not ((slice_eq-Decides Decides-eqb signature (take 8 file) (starts_with nat_eq file signature) refl).1 (sym h.signed)))
+    ∙ cond_false (not (starts_with nat_eq file signature)) _ _
+    (ap not ((slice_eq-Decides Decides-eqb signature (take 8 file) (starts_with nat_eq file signature) refl).1
+    (sym h.signed)))
     ∙ cond_false (not (nat_eq (u16_at file 26) 3)) _ _ (is_eq (u16_at file 26) 3 h.major_version)
     ∙ cond_false (not (nat_eq (u16_at file 28) 0xFFFE)) _ _ (is_eq (u16_at file 28) 0xFFFE h.byte_order)
     ∙ cond_false (not (nat_eq (u16_at file 30) 9)) _ _ (is_eq (u16_at file 30) 9 h.sector_shift)
     ∙ cond_false (not (nat_eq (u16_at file 32) 6)) _ _ (is_eq (u16_at file 32) 6 h.mini_sector_shift)
     ∙ cond_false (not (nat_eq (u32_at file 56) 4096)) _ _ (is_eq (u32_at file 56) 4096 h.cutoff)
-    ∙ cond_false (nat_lt MOST_FAT_SECTORS (fat_count file)) _ _ (is_not_lt MOST_FAT_SECTORS (fat_count file) h.fat_sectors)
-    ∙ cond_false (nat_lt MOST_DIFAT_SECTORS (difat_count file)) _ _ (is_not_lt MOST_DIFAT_SECTORS (difat_count file) h.difat_sectors)
+    ∙ cond_false (nat_lt MOST_FAT_SECTORS (fat_count file)) _ _
+    (is_not_lt MOST_FAT_SECTORS (fat_count file) h.fat_sectors)
+    ∙ cond_false (nat_lt MOST_DIFAT_SECTORS (difat_count file)) _ _
+    (is_not_lt MOST_DIFAT_SECTORS (difat_count file) h.difat_sectors)
 
 -- a list with a part written into it
 abbrev pub put : ℕ → List ℕ → List ℕ → List ℕ
@@ -74,7 +86,8 @@ put at part bytes = take at bytes ++ part ++ drop (at + length part) bytes
 -- the fields as they are written one after another
 abbrev pub fields_of : (count directory mini_fat minis difat difats : ℕ) → List ℕ
 fields_of count directory mini_fat minis difat difats =
-    put 72 (to_le_bytes w32 difats) (put 68 (to_le_bytes w32 difat) (put 64 (to_le_bytes w32 minis) (put 60 (to_le_bytes w32 mini_fat)
+    put 72 (to_le_bytes w32 difats)
+    (put 68 (to_le_bytes w32 difat) (put 64 (to_le_bytes w32 minis) (put 60 (to_le_bytes w32 mini_fat)
     (put 56 (to_le_bytes w32 4096) (put 48 (to_le_bytes w32 directory) (put 44 (to_le_bytes w32 count)
     (put 32 (to_le_bytes w16 6) (put 30 (to_le_bytes w16 9) (put 28 (to_le_bytes w16 0xFFFE) (put 26 (to_le_bytes w16 3)
     (put 24 (to_le_bytes w16 0x3E) (put 0 signature (replicate 512 0)))))))))))))
@@ -90,5 +103,6 @@ unfolding header_bytes
 fields_written h bytes entries e f =
     let list : List ℕ = flat_map (to_le_bytes w32) h.fat ++ replicate (436 - 4 * length h.fat) 255 in
     let g : entries ≡ list =
-    f ∙ ap (λ b. flat_map (to_le_bytes w32) h.fat ++ replicate (length (take 436 (drop 76 b)) - 4 * length h.fat) 255) e in
+    f ∙ ap (λ b. flat_map (to_le_bytes w32) h.fat ++ replicate (length (take 436 (drop 76 b)) - 4 * length h.fat)
+    255) e in
     (λ i. put_mid 76 436 (e i) (g i)) ∙ ap (λ x. take 76 (fields h) ++ x) (append-nil list)

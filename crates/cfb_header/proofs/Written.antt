@@ -1,5 +1,7 @@
 -- What a written header reads as.
-use Rattle.std.proofs.Common.{◌≡◌, ◌<◌, ◌≤◌, ◌+◌, ◌-◌, ◌*◌, ◌^◌, ◌++◌, ◌∷◌, [], ℕ, zero, suc, List, Ok, length, drop, get_or, map, replicate, refl, sym, subst, ap, ◌∙◌, arith, min, append_assoc, length-append, length-drop}
+use Rattle.std.proofs.Common.{◌≡◌, ◌<◌, ◌≤◌, ◌+◌, ◌-◌, ◌*◌, ◌^◌, ◌++◌, ◌∷◌, [], ℕ, zero, suc, List, Ok, length, drop}
+use Rattle.std.proofs.Common.{get_or, map, replicate, refl, sym, subst, ap, ◌∙◌, arith, min, append_assoc}
+use Rattle.std.proofs.Common.{length-append, length-drop}
 use Rattle.std.proofs.Math.Seq.{drop-append-add}
 use Rattle.std.proofs.lemmas.List.{length-replicate, drop-append-le, take-append-le}
 use Rattle.std.proofs.lemmas.List.FromFn.{fill_by_all}
@@ -7,7 +9,9 @@ use Rattle.std.proofs.lemmas.Nat.{from_le_bytes-to_le_bytes_4}
 use Rattle.std.specs.Int.{w32, to_le_bytes}
 use Rattle.std.specs.List.{All, flat_map, range_with_len}
 use Rattle.cfb_header.specs.Bytes.{u16_at, u32_at}
-use Rattle.cfb_header.specs.Header.{FitsHeader, HeaderValue, IsHeader, MOST_DIFAT_SECTORS, MOST_FAT_SECTORS, difat_count, fat_count, first_difat, first_directory, first_mini_fat, header_bytes, header_of, header_read, listed_first, mini_fat_count, signature}
+use Rattle.cfb_header.specs.Header.{FitsHeader, HeaderValue, IsHeader, MOST_DIFAT_SECTORS, MOST_FAT_SECTORS}
+use Rattle.cfb_header.specs.Header.{difat_count, fat_count, first_difat, first_directory, first_mini_fat, header_bytes}
+use Rattle.cfb_header.specs.Header.{header_of, header_read, listed_first, mini_fat_count, signature}
 use Rattle.cfb_header.proofs.Headers.{read_whole}
 
 -- a number lies in the front, or behind it
@@ -33,7 +37,8 @@ u32_at_number [] rest k fits h = absurd (omega arith)
 u32_at_number (n ∷ ns) rest zero fits h = four n (flat_map (to_le_bytes w32) ns ++ rest) (fits 0 0 (omega arith))
 u32_at_number (n ∷ ns) rest (suc k) fits h =
     let e : 4 * suc k ≡ 4 + 4 * k = omega arith in
-    rw e (u32_at_behind (to_le_bytes w32 n) (flat_map (to_le_bytes w32) ns ++ rest) (4 * k) ∙ u32_at_number ns rest k (λ i d l. fits (suc i) d (omega arith)) (omega arith))
+    rw e (u32_at_behind (to_le_bytes w32 n) (flat_map (to_le_bytes w32) ns ++ rest) (4 * k)
+    ∙ u32_at_number ns rest k (λ i d l. fits (suc i) d (omega arith)) (omega arith))
 
 -- the fields of a written header, before its list
 abbrev pub front : HeaderValue → List ℕ
@@ -114,7 +119,15 @@ module _ (h : HeaderValue) (rest : List ℕ) (fits : FitsHeader h) where
   }
 
   pub written_header : header_of (header_bytes h ++ rest) ≡ h
-  written_header = λ i. record { fat_count = written_fat_count i; fat = written_listed i; first_difat = written_first_difat i; difat_count = written_difat_count i; first_directory = written_first_directory i; first_mini_fat = written_first_mini_fat i; mini_fat_count = written_mini_fat_count i }
+  written_header = λ i. record {
+    fat_count = written_fat_count i;
+    fat = written_listed i;
+    first_difat = written_first_difat i;
+    difat_count = written_difat_count i;
+    first_directory = written_first_directory i;
+    first_mini_fat = written_first_mini_fat i;
+    mini_fat_count = written_mini_fat_count i;
+  }
 
   pub written_read : header_read (header_bytes h ++ rest) ≡ Ok h
   written_read = read_whole (header_bytes h ++ rest) written_is_header ∙ ap Ok written_header

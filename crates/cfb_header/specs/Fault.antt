@@ -1,7 +1,8 @@
 -- The names of the faults.
 use Rattle.std.specs.Prelude.{ℕ, List, codes}
 use Rattle.cfb_header.specs.declared.fault.ChainFault.{ChainFault}
-use Rattle.cfb_header.specs.declared.fault.ChainFault.TheVariants.{Truncated, BadSignature, Unsupported, OutOfFile, Cycle, CrossLinked, ShortChain, TooBig, NoMemory}
+use Rattle.cfb_header.specs.declared.fault.ChainFault.TheVariants.{Truncated, BadSignature, Unsupported, OutOfFile}
+use Rattle.cfb_header.specs.declared.fault.ChainFault.TheVariants.{Cycle, CrossLinked, ShortChain, TooBig, NoMemory}
 
 abbrev pub name_of : ChainFault → List ℕ
 name_of Truncated = codes "Truncated"

@@ -1,5 +1,6 @@
 -- The header of a compound file, its first 512 bytes (MS-CFB 2.2).
-use Rattle.std.specs.Prelude.{◌≡◌, ◌≤◌, ◌<◌, ◌^◌, ◌+◌, ◌-◌, ◌*◌, ◌++◌, ℕ, zero, suc, List, [], ◌∷◌, length, min, take, map, replicate, Result, Ok, Err, cond, not, nat_lt, nat_eq}
+use Rattle.std.specs.Prelude.{◌≡◌, ◌≤◌, ◌<◌, ◌^◌, ◌+◌, ◌-◌, ◌*◌, ◌++◌, ℕ, zero, suc, List, [], ◌∷◌, length, min, take}
+use Rattle.std.specs.Prelude.{map, replicate, Result, Ok, Err, cond, not, nat_lt, nat_eq}
 use Rattle.std.specs.List.{All, range_with_len, flat_map, starts_with}
 use Rattle.std.specs.Int.{w32, to_le_bytes}
 use Rattle.cfb_header.specs.Bytes.{u16_at, u32_at, sector}
@@ -85,7 +86,15 @@ pub record FitsHeader (h : HeaderValue) : Type 0 where
   pub mini_fat_count : h.mini_fat_count < 2 ^ 32
 
 abbrev pub header_of : List ℕ → HeaderValue
-header_of file = record { fat_count = fat_count file; fat = listed_first file; first_difat = first_difat file; difat_count = difat_count file; first_directory = first_directory file; first_mini_fat = first_mini_fat file; mini_fat_count = mini_fat_count file }
+header_of file = record {
+  fat_count = fat_count file;
+  fat = listed_first file;
+  first_difat = first_difat file;
+  difat_count = difat_count file;
+  first_directory = first_directory file;
+  first_mini_fat = first_mini_fat file;
+  mini_fat_count = mini_fat_count file;
+}
 
 -- The DIFAT's sectors, so many from one on: each names the next in its last four bytes (MS-CFB 2.5).
 abbrev pub difat_from : List ℕ → ℕ → ℕ → List ℕ

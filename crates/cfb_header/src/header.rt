@@ -1,12 +1,13 @@
 //! The header of a compound file, its first 512 bytes (MS-CFB 2.2).
 
-ghost use Rattle.cfb_header.specs.Header.{END_OF_CHAIN as END, FitsHeader, HeaderValue, LISTED, MOST_DIFAT_SECTORS, MOST_FAT_SECTORS, header_bytes, header_read};
+ghost use Rattle.cfb_header.specs.Header.{END_OF_CHAIN as END, FitsHeader, HeaderValue, LISTED, MOST_DIFAT_SECTORS};
+ghost use Rattle.cfb_header.specs.Header.{MOST_FAT_SECTORS, header_bytes, header_read, IsHeader};
 ghost use Rattle.cfb_header.specs.declared.fault.ChainFault.TheVariants.{TooBig};
-ghost use Rattle.cfb_header.specs.Header.{IsHeader};
 ghost use Rattle.cfb_header.specs.Bytes.{u32_at};
 ghost use Rattle.std.specs.Int.{to_le_bytes, w32};
 ghost use Rattle.std.specs.List.{flat_map};
-ghost use Rattle.std.specs.Prelude.{◌*◌, ◌+◌, ◌++◌, ◌-◌, ◌<◌, ◌≡◌, ◌≤◌, ◌↔◌, ◌⊎◌, IfErr, IfOk, IsOk, List, length, min, replicate, slice_index, slice_index_or, take, ℕ};
+ghost use Rattle.std.specs.Prelude.{◌*◌, ◌+◌, ◌++◌, ◌-◌, ◌<◌, ◌≡◌, ◌≤◌, ◌↔◌, ◌⊎◌, IfErr, IfOk, IsOk, List, length, min};
+ghost use Rattle.std.specs.Prelude.{replicate, slice_index, slice_index_or, take, ℕ};
 
 use crate::bytes::{write_u16, write_u32};
 use crate::fault::ChainFault;
@@ -69,7 +70,8 @@ fn first_of(sectors: &[u32]) -> u32
 /// Writes the FAT's sectors, behind which the entries are free.
 fn write_listed(entries: &mut [u8], fat: &[u32])
     requires { 4 * length fat.now ≤ length entries.old }
-    ensures { entries.new ≡ flat_map (to_le_bytes w32) fat.now ++ replicate (length entries.old - 4 * length fat.now) 255 }
+    ensures { entries.new ≡ flat_map (to_le_bytes w32) fat.now
+        ++ replicate (length entries.old - 4 * length fat.now) 255 }
 {
     entries.fill(0xff);
     LittleEndian::write_u32_into(fat, &mut entries[..4 * fat.len()]);
@@ -94,7 +96,15 @@ impl Model for Header {
 
     ghost Value = { HeaderValue };
 
-    ghost view = { λ h. record { fat_count = h.fat_count; fat = take h.fat_count h.fat; first_difat = h.first_difat; difat_count = h.difat_count; first_directory = h.first_directory; first_mini_fat = h.first_mini_fat; mini_fat_count = h.mini_fat_count } };
+    ghost view = { λ h. record {
+      fat_count = h.fat_count;
+      fat = take h.fat_count h.fat;
+      first_difat = h.first_difat;
+      difat_count = h.difat_count;
+      first_directory = h.first_directory;
+      first_mini_fat = h.first_mini_fat;
+      mini_fat_count = h.mini_fat_count;
+    } };
 
     ghost invariant = { λ h. (h.fat_count ≤ MOST_FAT_SECTORS) × (h.difat_count ≤ MOST_DIFAT_SECTORS) };
 }
@@ -111,8 +121,17 @@ impl Header {
         first_mini_fat: u32,
         mini_fat_count: u32,
     ) -> Result<Header, ChainFault>
-        ensures made { IfOk result (λ h. h ≡ record { fat_count = length fat.now; fat = take LISTED fat.now; first_difat = slice_index_or difat.now 0 END; difat_count = length difat.now; first_directory = first_directory; first_mini_fat = first_mini_fat; mini_fat_count = mini_fat_count }) }
-        ensures refused { IfErr result (λ e. (e ≡ TooBig) × ((MOST_FAT_SECTORS < length fat.now) ⊎ (MOST_DIFAT_SECTORS < length difat.now))) }
+        ensures made { IfOk result (λ h. h ≡ record {
+          fat_count = length fat.now;
+          fat = take LISTED fat.now;
+          first_difat = slice_index_or difat.now 0 END;
+          difat_count = length difat.now;
+          first_directory = first_directory;
+          first_mini_fat = first_mini_fat;
+          mini_fat_count = mini_fat_count;
+        }) }
+        ensures refused { IfErr result (λ e. (e ≡ TooBig)
+            × ((MOST_FAT_SECTORS < length fat.now) ⊎ (MOST_DIFAT_SECTORS < length difat.now))) }
     {
         if fat.len() > MOST_FAT_SECTORS as usize {
             return Err(ChainFault::TooBig);
@@ -131,12 +150,13 @@ impl Header {
         })
     }
 
-    /// The header of a file, from its first 512 bytes. The fields that MS-CFB 2.2 leaves to the writer are not looked at.
+    /// The header of a file, from its first 512 bytes. The fields that MS-CFB 2.2 leaves to the writer are not looked
+    /// at.
     ///
     /// Refused, in this order: `Truncated` for fewer than 512 bytes, `BadSignature` for other first eight bytes,
-    /// `Unsupported` with the field's offset where the major version (26) isn't 3, the byte order (28) isn't 0xFFFE, the
-    /// sector shift (30) isn't 9, the mini sector shift (32) isn't 6 or the cutoff (56) isn't 4096, `TooBig` for more than
-    /// 1,125 FAT sectors or 8 DIFAT sectors.
+    /// `Unsupported` with the field's offset where the major version (26) isn't 3, the byte order (28) isn't 0xFFFE,
+    /// the sector shift (30) isn't 9, the mini sector shift (32) isn't 6 or the cutoff (56) isn't 4096, `TooBig` for
+    /// more than 1,125 FAT sectors or 8 DIFAT sectors.
     pub fn read(bytes: &[u8]) -> Result<Header, ChainFault>
         ensures read { result ≡ header_read bytes.now }
         ensures whole { IsOk result ↔ IsHeader bytes.now }

@@ -1,7 +1,8 @@
 -- How faults are printed.
 use Rattle.std.specs.Prelude.{List, ℕ, codes}
 use Rattle.cfb_names.specs.declared.fault.DirFault.{DirFault}
-use Rattle.cfb_names.specs.declared.fault.DirFault.TheVariants.{NameEmpty, NameTooLong, NameNotAscii, NameForbidden, DuplicateName, BadEntry, TreeCycle, TooNested, NoMemory}
+use Rattle.cfb_names.specs.declared.fault.DirFault.TheVariants.{NameEmpty, NameTooLong, NameNotAscii, NameForbidden}
+use Rattle.cfb_names.specs.declared.fault.DirFault.TheVariants.{DuplicateName, BadEntry, TreeCycle, TooNested, NoMemory}
 
 abbrev pub name_of_fault : DirFault → List ℕ
 name_of_fault NameEmpty = codes "NameEmpty"

@@ -3,7 +3,8 @@
 ghost use Rattle.cfb_names.specs.Names.{key_cmp};
 ghost use Rattle.cfb_names.specs.Numbers.{AreBytes, eight};
 ghost use Rattle.std.specs.Cmp.{partial_equiv_from_equiv};
-ghost use Rattle.std.specs.Cmp.Lexicographic.{nat_list_cmp_total, nat_list_eq_equiv, pointwise, slice_cmp, texts_po, texts_ties};
+ghost use Rattle.std.specs.Cmp.Lexicographic.{nat_list_cmp_total, nat_list_eq_equiv, pointwise, slice_cmp, texts_po};
+ghost use Rattle.std.specs.Cmp.Lexicographic.{texts_ties};
 ghost use Rattle.std.specs.Ordering.{nat_cmp};
 ghost use Rattle.std.specs.Prelude.{◌+◌, ◌≡◌, ◌≤◌, Some, nat_eq, refl};
 
@@ -26,8 +27,8 @@ impl Model for Key {
     ghost inverse = { λ units. record { units = units } };
 }
 
-/// Eight bytes of a key as a number, of which the first is worth most. Where they stand is known when this is compiled, and
-/// each half is small enough for its sum to be seen not to overflow: so nothing is tested when it runs.
+/// Eight bytes of a key as a number, of which the first is worth most. Where they stand is known when this is compiled,
+/// and each half is small enough for its sum to be seen not to overflow: so nothing is tested when it runs.
 fn number<const AT: usize>(units: &[u8; 32]) -> u64
     requires { AT + 8 ≤ 32 }
     ensures number { result ≡ eight units.now AT }

@@ -79,8 +79,8 @@ pub fn keys_agree()
     ensures { KeysAgree }
 {}
 
-// A type is read with all of its methods by whoever holds a value of it. So what leads from names to faults and keys, which
-// few need who hold names, are no methods.
+// A type is read with all of its methods by whoever holds a value of it. So what leads from names to faults and keys,
+// which few need who hold names, are no methods.
 /// The name of these characters.
 ///
 /// Refused, in this order: `NameEmpty`; `NameTooLong` for more than 31; `NameNotAscii` for one past 127;

@@ -1,18 +1,20 @@
 //! What steps are refused for.
 
 ghost use Rattle.std.specs.Prelude.{◌&&◌, ◌+◌, ◌≡◌, ◌≤◌, ◌||◌, All, length};
-ghost use Rattle.container_model.specs.Commands.{all_have_numbers, any_busy, is_empty_area, is_known_class, is_name, is_named, is_named_beside, is_size};
-ghost use Rattle.container_model.specs.Record.{count_objects, has_numbers, is_asked, is_busy, is_claim, is_doubtful, is_moving, is_saving, link_has_numbers};
+ghost use Rattle.container_model.specs.Commands.{all_have_numbers, any_busy, is_empty_area, is_known_class, is_name};
+ghost use Rattle.container_model.specs.Commands.{is_named, is_named_beside, is_size};
+ghost use Rattle.container_model.specs.Record.{count_objects, has_numbers, is_asked, is_busy, is_claim, is_doubtful};
+ghost use Rattle.container_model.specs.Record.{is_moving, is_saving, link_has_numbers};
 ghost use Rattle.container_model.specs.Room.{IfLinked};
 ghost use Rattle.container_model.specs.Saves.{has_image, is_committing};
-ghost use Rattle.grant_core.specs.Grants.{waiting};
+ghost use Rattle.object_state.specs.Grants.{waiting};
 
 use container_model::record::{Frame, Link, Object, Phase};
-use embed_core::classes;
-use grant_core::{Claim, GrantState};
-use object_parts::area::Area;
-use stored_values::bytes::Bytes;
-use stored_values::class_id::ClassId;
+use object_core::classes;
+use object_state::{Claim, GrantState};
+use tree_streams::area::Area;
+use tree_values::bytes::Bytes;
+use tree_values::class_id::ClassId;
 
 /// How many numbers an activation that gets operations has left at least.
 pub const MARGIN: usize = 8;

@@ -4,7 +4,7 @@ ghost use Rattle.std.specs.Prelude.{◌≡◌};
 ghost use Rattle.container_model.specs.Saves.{kept};
 
 use container_model::record::Object;
-use stored_streams::stored::Stored;
+use tree_streams::stored::Stored;
 
 /// The content that a save counts: what was answered in it, or the work content where none was.
 pub fn kept(object: &Object) -> &Stored

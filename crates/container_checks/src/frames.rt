@@ -1,9 +1,10 @@
 //! The frames of a container.
 
-ghost use Rattle.std.specs.Prelude.{◌≡◌, ◌<◌, ◌++◌, ◌∷◌, [], MatchOption, None, OnErr, OnOk, length, option_copied, slice_index_or};
+ghost use Rattle.std.specs.Prelude.{◌≡◌, ◌<◌, ◌++◌, ◌∷◌, [], MatchOption, None, OnErr, OnOk, length, option_copied};
+ghost use Rattle.std.specs.Prelude.{slice_index_or};
 ghost use Rattle.std.specs.Borrow.{sem};
 ghost use Rattle.container_model.specs.Numbered.{IsNth};
-ghost use Rattle.wire_msgs.specs.Found.{nth};
+ghost use Rattle.message_values.specs.Found.{nth};
 
 use crate::lookups;
 use container_model::record::Frame;
@@ -11,8 +12,8 @@ use std::alloc::{AllocError, Global};
 use std::marker::Model;
 use std::ops::{Index, IndexMut};
 
-/// Frames, by their numbers from 1: a frame is never dropped, so one of number `n` stands at place `n - 1`, and is found there
-/// without a walk.
+/// Frames, by their numbers from 1: a frame is never dropped, so one of number `n` stands at place `n - 1`, and is
+/// found there without a walk.
 #[derive(Drop)]
 pub struct Frames {
     list: Vec<Frame>,

@@ -1,5 +1,5 @@
-//! What a container's steps look up and check: where frames and objects stand, which servers run, what a verb asks, and what a
-//! command is refused for.
+//! What a container's steps look up and check: where frames and objects stand, which servers run, what a verb asks, and
+//! what a command is refused for.
 #![tactic(auto)]
 
 pub mod checks;

@@ -2,7 +2,7 @@
 
 ghost use Rattle.std.specs.List.{range_with_len};
 ghost use Rattle.std.specs.Prelude.{◌≡◌, ◌≤◌, ◌&&◌, ◌==◌, IfOk, IfSome, MatchOption, None, length, map};
-ghost use Rattle.wire_msgs.specs.Found.{find, nth, IsPlace};
+ghost use Rattle.message_values.specs.Found.{find, nth, IsPlace};
 ghost use Rattle.container_model.specs.Record.{is_linked, is_object};
 ghost use Rattle.container_model.specs.Numbered.{IsNth, IsObjectAt};
 
@@ -27,7 +27,8 @@ pub fn place<T>(items: &[T], number: u32) -> Option<usize>
 
 /// Where the object of this number stands, in as many steps as the list can be halved.
 pub fn place_object(objects: &Objects, number: u32) -> Option<usize>
-    ensures found { MatchOption result (find (is_object number) objects.now.list.items ≡ None) (IsPlace (is_object number) objects.now.list.items) }
+    ensures found { MatchOption result (find (is_object number) objects.now.list.items ≡ None)
+        (IsPlace (is_object number) objects.now.list.items) }
     ensures own { IfSome result (IsObjectAt objects.now.list.items) }
 {
     objects
@@ -38,7 +39,8 @@ pub fn place_object(objects: &Objects, number: u32) -> Option<usize>
 
 /// Where the object of this activation stands.
 pub fn place_linked(objects: &[Object], inc: u32, act: u32) -> Option<usize>
-    ensures { MatchOption result (find (is_linked inc act) objects.now ≡ None) (IsPlace (is_linked inc act) objects.now) }
+    ensures { MatchOption result (find (is_linked inc act) objects.now ≡ None)
+        (IsPlace (is_linked inc act) objects.now) }
 {
     for (i, object) in objects.iter().enumerate() {
         if is_linked(object, inc, act) {

@@ -1,6 +1,7 @@
 //! The objects of a container.
 
-ghost use Rattle.std.specs.Prelude.{◌≡◌, ◌<◌, ◌≤◌, ◌+◌, ◌++◌, ◌∷◌, [], OnErr, OnOk, length, map, remove, vec_capacity, vec_len};
+ghost use Rattle.std.specs.Prelude.{◌≡◌, ◌<◌, ◌≤◌, ◌+◌, ◌++◌, ◌∷◌, [], OnErr, OnOk, length, map, remove, vec_capacity};
+ghost use Rattle.std.specs.Prelude.{vec_len};
 ghost use Rattle.std.specs.List.Sorted.{IsStrictlySortedBy};
 ghost use Rattle.std.specs.Ordering.{nat_cmp};
 ghost use Rattle.std.proofs.Props.{props};
@@ -50,7 +51,8 @@ impl Objects {
 
     /// More of them, whose numbers rise past all others, for which there is room. It takes no memory.
     pub fn append_reserved(&mut self, more: Vec<Object>)
-        requires rising { IsStrictlySortedBy nat_cmp (map (λ o. o.number) self.old.list.items ++ map (λ o. o.number) more.items) }
+        requires rising { IsStrictlySortedBy nat_cmp
+            (map (λ o. o.number) self.old.list.items ++ map (λ o. o.number) more.items) }
         requires places { vec_len self.old.list + vec_len more ≤ vec_capacity self.old.list }
         ensures { self.new.list.items ≡ self.old.list.items ++ more.items }
     {

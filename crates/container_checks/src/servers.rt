@@ -2,7 +2,7 @@
 
 ghost use Rattle.std.specs.Prelude.{◌≡◌, ◌+◌, ◌++◌, [], ◌∷◌, OnErr, OnOk, false, length, true};
 ghost use Rattle.container_model.specs.Record.{count_alive, is_unreaped};
-ghost use Rattle.wire_msgs.specs.Found.{nth, set_nth};
+ghost use Rattle.message_values.specs.Found.{nth, set_nth};
 
 use crate::lookups::place;
 use std::alloc::{AllocError, Global};

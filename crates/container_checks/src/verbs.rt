@@ -4,7 +4,8 @@ ghost use Rattle.std.specs.Prelude.{◌+◌, ◌≡◌, ◌≤◌, All, IfErr, I
 ghost use Rattle.container_checks.specs.Went.{verb_went};
 ghost use Rattle.container_model.specs.Record.{Record, Refuses};
 ghost use Rattle.container_model.specs.Room.{IfLinked};
-ghost use Rattle.container_model.specs.Verbs.{before_taking, holder_has_numbers, holder_of, steps_now, steps_of, takes, verb_framed, verb_linked, wants_ui};
+ghost use Rattle.container_model.specs.Verbs.{before_taking, holder_has_numbers, holder_of, steps_now, steps_of, takes};
+ghost use Rattle.container_model.specs.Verbs.{verb_framed, verb_linked, wants_ui};
 ghost use Rattle.container_model.specs.declared.record.Frame.{Frame};
 ghost use Rattle.container_model.specs.declared.record.Object.{Object};
 ghost use Rattle.object_state.specs.Verbs.{verb_of};
@@ -14,8 +15,7 @@ use crate::lookups::place_object;
 use crate::objects::Objects;
 use container_model::fault::ContainerFault;
 use container_model::record::{Frame, Object};
-use grant_core::GrantState;
-use object_state::{ObjectState, Step, Verb};
+use object_state::{GrantState, ObjectState, Step, Verb};
 
 /// The verb of a number (OLEIVERB), none where it is no verb's.
 pub fn verb_of(number: i64) -> Option<Verb>
@@ -99,7 +99,8 @@ pub fn holder_of(state: &GrantState) -> Option<u32>
 /// Whether the object that has the frame, if any, has numbers left for operations.
 pub fn holder_has_numbers(numbers: u32, objects: &Objects, holder: Option<u32>) -> bool
     requires { All (λ o. IfLinked (λ l. l.last + length l.waiting ≤ 1000000) o.link) objects.now.list.items }
-    ensures { (r : Record) → r.numbers ≡ numbers → r.objects ≡ objects.now.list.items → result ≡ holder_has_numbers r holder }
+    ensures { (r : Record) → r.numbers ≡ numbers → r.objects ≡ objects.now.list.items
+        → result ≡ holder_has_numbers r holder }
 {
     let Some(holder) = holder else {
         return true;
@@ -114,7 +115,8 @@ pub fn holder_has_numbers(numbers: u32, objects: &Objects, holder: Option<u32>) 
 ///
 /// Refused: `Busy` where it leads to menus and border while these pass from object to object.
 pub fn may_move(frame: &Frame, verb: Option<Verb>) -> Result<(), ContainerFault>
-    ensures may { OnOk result ((r : Record) (o : Object) → verb_framed r verb o frame.now ≡ verb_linked r frame.now o verb o.link) }
+    ensures may { OnOk result ((r : Record) (o : Object) → verb_framed r verb o frame.now
+        ≡ verb_linked r frame.now o verb o.link) }
     ensures refused { IfErr result (λ e. (r : Record) (o : Object) → Refuses (verb_framed r verb o frame.now) e) }
 {
     let state = frame.ui.state();
@@ -126,17 +128,21 @@ pub fn may_move(frame: &Frame, verb: Option<Verb>) -> Result<(), ContainerFault>
 
 /// The steps that a verb asks of an object: none where there is nothing to do.
 ///
-/// Refused: `NotRunning` where the object is passive; `WrongState` where the verb has no steps in its state, or is none;
-/// `NumbersSpent` where there is something to do.
+/// Refused: `NotRunning` where the object is passive; `WrongState` where the verb has no steps in its state, or is
+/// none; `NumbersSpent` where there is something to do.
 pub fn verb_steps(
     numbers: u32,
     object: &Object,
     verb: Option<Verb>,
 ) -> Result<&'static [Step], ContainerFault>
     requires { IfLinked (λ l. l.last + length l.waiting ≤ 1000000) object.now.link }
-    ensures taken { IfOk result (λ steps. IsSomeAnd object.now.link (λ l. (r : Record) (frame : Frame) → r.numbers ≡ numbers → verb_linked r frame object.now verb object.now.link ≡ verb_went r frame object.now l steps.now)) }
-    ensures steps { IfOk result (λ steps. IfSome object.now.link (λ l. steps_of verb l.states.object ≡ Some steps.now)) }
-    ensures refused { IfErr result (λ e. (r : Record) (frame : Frame) → r.numbers ≡ numbers → Refuses (verb_linked r frame object.now verb object.now.link) e) }
+    ensures taken { IfOk result (λ steps. IsSomeAnd object.now.link (λ l. (r : Record) (frame : Frame)
+        → r.numbers ≡ numbers → verb_linked r frame object.now verb object.now.link
+        ≡ verb_went r frame object.now l steps.now)) }
+    ensures steps { IfOk result
+        (λ steps. IfSome object.now.link (λ l. steps_of verb l.states.object ≡ Some steps.now)) }
+    ensures refused { IfErr result (λ e. (r : Record) (frame : Frame) → r.numbers ≡ numbers
+        → Refuses (verb_linked r frame object.now verb object.now.link) e) }
 {
     let Some(link) = &object.link else {
         return Err(ContainerFault::NotRunning);

@@ -1,5 +1,6 @@
 -- The steps of verbs and closes: what queues they make.
-use Rattle.std.proofs.Common.{◌≡◌, ℕ, true, false, List, [], ◌∷◌, map, Option, Some, None, Result, Ok, Err, refl, ap, subst}
+use Rattle.std.proofs.Common.{◌≡◌, ℕ, true, false, List, [], ◌∷◌, map, Option, Some, None, Result, Ok, Err, refl, ap}
+use Rattle.std.proofs.Common.{subst}
 use Rattle.std.specs.Prelude.{IfSome}
 use Rattle.std.specs.List.{AllByRecursion}
 use Rattle.object_state.specs.Both as both
@@ -11,43 +12,53 @@ use Rattle.object_state.specs.declared.operations.CloseOption.{CloseOption}
 use Rattle.object_state.specs.declared.operations.Op.TheVariants as op
 use Rattle.object_state.specs.declared.persist_states.PersistState.TheVariants.{Normal}
 use Rattle.object_state.specs.declared.object_states.ObjectState.{ObjectState}
-use Rattle.object_state.specs.declared.object_states.ObjectState.TheVariants.{Passive, Loaded, Running, InPlaceActive, UiActive, Open}
+use Rattle.object_state.specs.declared.object_states.ObjectState.TheVariants.{Passive, Loaded, Running, InPlaceActive}
+use Rattle.object_state.specs.declared.object_states.ObjectState.TheVariants.{UiActive, Open}
 use Rattle.object_state.specs.declared.verbs.Verb.{Verb}
 use Rattle.object_state.specs.declared.verbs.Verb.TheVariants.{Primary, Show, Hide, InPlaceActivate}
 use Rattle.object_state.specs.declared.verbs.Verb.TheVariants as verb
 use Rattle.object_state.specs.declared.verbs.Step.{Step}
 use Rattle.object_state.specs.declared.verbs.Step.TheVariants as step
 use Rattle.object_state.proofs.Tables.{verbs-lead, closes-end}
-use Rattle.stored_streams.specs.declared.stored.Stored.{Stored}
+use Rattle.tree_streams.specs.declared.stored.Stored.{Stored}
 use Rattle.container_model.specs.declared.record.Phase.TheVariants.{Idle}
 use Rattle.container_model.specs.Verbs.{operation_of, takes, gives_up}
-use Rattle.container_steady.specs.Roles.{IsPlain}
-use Rattle.container_steady.specs.Steady.{ended, IsTimely}
+use Rattle.container_queues.specs.Roles.{IsPlain}
+use Rattle.container_queues.specs.Steady.{ended, IsTimely}
 use Rattle.container_queues.proofs.SteadyRoles.{is_ui}
 
 -- what both tables make of steps, where the storage may be written into
-steps_run : (g : ℕ) (ts : List Step) (last : Option ℕ) (r : Result ObjectState StateFault) (t : ObjectState) → then_run (map (op_of g) ts) r ≡ Ok t
-    → ended (both.joined (Ok (record { state = Normal; last_save = last })) r) (map (operation_of g) ts) ≡ Ok (record { persist = record { state = Normal; last_save = last }; object = t })
+steps_run : (g : ℕ) (ts : List Step) (last : Option ℕ) (r : Result ObjectState StateFault) (t : ObjectState)
+    → then_run (map (op_of g) ts) r ≡ Ok t
+    → ended (both.joined (Ok (record { state = Normal; last_save = last })) r) (map (operation_of g) ts)
+    ≡ Ok (record { persist = record { state = Normal; last_save = last }; object = t })
 steps_run g [] last (Ok s) t e = ap (both.joined (Ok (record { state = Normal; last_save = last }))) e
 steps_run g [] last (Err fault) t e = cc
 steps_run g (x ∷ ts) last (Err fault) t e = cc
 steps_run g (step.InPlace ∷ ts) last (Ok s) t e = steps_run g ts last (object.table op.InPlace s) t e
 steps_run g (step.UiActivate ∷ ts) last (Ok s) t e = steps_run g ts last (object.table (op.UiActivate g) s) t e
 steps_run g (step.UiDeactivate ∷ ts) last (Ok s) t e = steps_run g ts last (object.table op.UiDeactivate s) t e
-steps_run g (step.InPlaceDeactivate ∷ ts) last (Ok s) t e = steps_run g ts last (object.table op.InPlaceDeactivate s) t e
+steps_run g (step.InPlaceDeactivate ∷ ts) last (Ok s) t e =
+    steps_run g ts last (object.table op.InPlaceDeactivate s) t e
 steps_run g (step.OpenWindow ∷ ts) last (Ok s) t e = steps_run g ts last (object.table op.OpenWindow s) t e
 steps_run g (step.Close option ∷ ts) last (Ok s) t e = steps_run g ts last (object.table (op.Close option) s) t e
 
 pub verb_runs : (v : Verb) (g : ℕ) (s : ObjectState) (ts : List Step) (last : Option ℕ) → steps v s ≡ Some ts
-    → ended (Ok (record { persist = record { state = Normal; last_save = last }; object = s })) (map (operation_of g) ts) ≡ Ok (record { persist = record { state = Normal; last_save = last }; object = goal_of v })
+    → ended (Ok (record { persist = record { state = Normal; last_save = last }; object = s }))
+    (map (operation_of g) ts)
+    ≡ Ok (record { persist = record { state = Normal; last_save = last }; object = goal_of v })
 verb_runs v g s ts last e = steps_run g ts last (Ok s) (goal_of v) (verbs-lead v s ts g e)
 
-pub close_runs : (option : CloseOption) (g : ℕ) (s : ObjectState) (ts : List Step) (last : Option ℕ) → close_steps option s ≡ Some ts
-    → ended (Ok (record { persist = record { state = Normal; last_save = last }; object = s })) (map (operation_of g) ts) ≡ Ok (record { persist = record { state = Normal; last_save = last }; object = Passive })
+pub close_runs : (option : CloseOption) (g : ℕ) (s : ObjectState) (ts : List Step) (last : Option ℕ)
+    → close_steps option s ≡ Some ts
+    → ended (Ok (record { persist = record { state = Normal; last_save = last }; object = s }))
+    (map (operation_of g) ts)
+    ≡ Ok (record { persist = record { state = Normal; last_save = last }; object = Passive })
 close_runs option g s ts last e = steps_run g ts last (Ok s) Passive (closes-end option s ts g e)
 
 -- they may stand in a queue of an idle frame
-pub steps_timely : (g : ℕ) (saved : Option Stored) (ts : List Step) → AllByRecursion (IsTimely Idle saved) (map (operation_of g) ts)
+pub steps_timely : (g : ℕ) (saved : Option Stored) (ts : List Step)
+    → AllByRecursion (IsTimely Idle saved) (map (operation_of g) ts)
 steps_timely g saved [] = tt
 steps_timely g saved (step.InPlace ∷ ts) = (tt, steps_timely g saved ts)
 steps_timely g saved (step.UiActivate ∷ ts) = (tt, steps_timely g saved ts)
@@ -103,14 +114,17 @@ row_at : (P : List Step → Type 0) (row : Option (List Step)) (ts : List Step) 
 row_at P None ts e h = cc
 row_at P (Some us) ts e h = (let same : us ≡ ts = cc in subst P same h)
 
-pub taking_from : (v : Verb) (s : ObjectState) (ts : List Step) → steps v s ≡ Some ts → takes ts ≡ true → TakesFrom v s ts
+pub taking_from : (v : Verb) (s : ObjectState) (ts : List Step) → steps v s ≡ Some ts → takes ts ≡ true
+    → TakesFrom v s ts
 taking_from v s ts e = row_at (λ (us : List Step). takes us ≡ true → TakesFrom v s us) (steps v s) ts e (taking_row v s)
 
 -- Other steps begin with giving up the frame where the object has its menus and border, and are plain behind it.
 pub data LeavesFrom : ObjectState → List Step → Type 0 where
   leaves_nothing : {s : ObjectState} → LeavesFrom s []
-  leaves_frame : {ts : List Step} → AllByRecursion IsPlain (map (operation_of 0) ts) → LeavesFrom UiActive (step.UiDeactivate ∷ ts)
-  leaves_plain : {s : ObjectState} {ts : List Step} → is_ui s ≡ false → gives_up ts ≡ false → AllByRecursion IsPlain (map (operation_of 0) ts) → LeavesFrom s ts
+  leaves_frame : {ts : List Step} → AllByRecursion IsPlain (map (operation_of 0) ts)
+      → LeavesFrom UiActive (step.UiDeactivate ∷ ts)
+  leaves_plain : {s : ObjectState} {ts : List Step} → is_ui s ≡ false → gives_up ts ≡ false
+      → AllByRecursion IsPlain (map (operation_of 0) ts) → LeavesFrom s ts
 
 leaving_row : (v : Verb) (s : ObjectState) → IfSome (steps v s) (λ (ts : List Step). takes ts ≡ false → LeavesFrom s ts)
 leaving_row Primary Passive = tt
@@ -150,8 +164,10 @@ leaving_row InPlaceActivate InPlaceActive = λ t. leaves_nothing
 leaving_row InPlaceActivate UiActive = λ t. leaves_frame tt
 leaving_row InPlaceActivate Open = tt
 
-pub leaving_from : (v : Verb) (s : ObjectState) (ts : List Step) → steps v s ≡ Some ts → takes ts ≡ false → LeavesFrom s ts
-leaving_from v s ts e = row_at (λ (us : List Step). takes us ≡ false → LeavesFrom s us) (steps v s) ts e (leaving_row v s)
+pub leaving_from : (v : Verb) (s : ObjectState) (ts : List Step) → steps v s ≡ Some ts → takes ts ≡ false
+    → LeavesFrom s ts
+leaving_from v s ts e = row_at (λ (us : List Step). takes us ≡ false → LeavesFrom s us) (steps v s) ts e
+    (leaving_row v s)
 
 closing_row : (option : CloseOption) (s : ObjectState) → IfSome (close_steps option s) (LeavesFrom s)
 closing_row option Passive = tt
@@ -161,5 +177,6 @@ closing_row option InPlaceActive = leaves_plain refl refl (tt, (tt, tt))
 closing_row option UiActive = leaves_frame (tt, (tt, tt))
 closing_row option Open = leaves_plain refl refl (tt, (tt, tt))
 
-pub closing_from : (option : CloseOption) (s : ObjectState) (ts : List Step) → close_steps option s ≡ Some ts → LeavesFrom s ts
+pub closing_from : (option : CloseOption) (s : ObjectState) (ts : List Step) → close_steps option s ≡ Some ts
+    → LeavesFrom s ts
 closing_from option s ts e = row_at (LeavesFrom s) (close_steps option s) ts e (closing_row option s)

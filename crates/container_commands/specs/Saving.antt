@@ -8,7 +8,8 @@ use Rattle.container_model.specs.Commands.{any_busy, is_named_beside, save_numbe
 use Rattle.container_model.specs.Record.{Record, Took, is_doubtful, is_moving, is_saving, unless}
 
 abbrev pub unready : Record → ℕ → Frame → Result Took ContainerFault → Result Took ContainerFault
-unready r f frame next = unless (is_doubtful frame.phase) InDoubt (unless (is_saving frame.phase || is_moving frame.ui.state || any_busy f frame.ui.state r.objects) Busy next)
+unready r f frame next = unless (is_doubtful frame.phase) InDoubt
+    (unless (is_saving frame.phase || is_moving frame.ui.state || any_busy f frame.ui.state r.objects) Busy next)
 
 -- under its own name: not before the container has a session
 abbrev pub plain : Record → ℕ → Frame → Result Took ContainerFault

@@ -1,20 +1,21 @@
 -- How many calls may be pending: at most one for each object, and each frame has so many objects at most.
-use Rattle.std.proofs.Common.{◌≡◌, ◌≤◌, ◌+◌, ◌*◌, ◌==◌, ℕ, zero, suc, true, false, List, [], ◌∷◌, length, Option, Some, None, Result, Ok, Err, refl, sym, subst, arith, if◌then◌else◌}
+use Rattle.std.proofs.Common.{◌≡◌, ◌≤◌, ◌+◌, ◌*◌, ◌==◌, ℕ, zero, suc, true, false, List, [], ◌∷◌, length, Option, Some}
+use Rattle.std.proofs.Common.{None, Result, Ok, Err, refl, sym, subst, arith, if◌then◌else◌}
 use Rattle.std.proofs.lemmas.Bool.{eqb-false}
 use Rattle.std.proofs.lemmas.List.{length-append}
 use Rattle.std.proofs.lemmas.Option.{slice_get_within}
 use Rattle.std.specs.Prelude.{IfOk}
 use Rattle.std.specs.List.{AllByRecursion}
-use Rattle.wire_msgs.specs.Found.{nth}
-use Rattle.wire_msgs.specs.declared.message.Message.{Message}
-use Rattle.wire_msgs.specs.declared.operation.Operation.{Operation}
+use Rattle.message_values.specs.Found.{nth}
+use Rattle.message_values.specs.declared.message.Message.{Message}
+use Rattle.message_values.specs.declared.operation.Operation.{Operation}
 use Rattle.container_model.specs.declared.record.Link.{Link}
 use Rattle.container_model.specs.declared.record.Object.{Object}
 use Rattle.container_model.specs.Record.{Record, count_objects}
 use Rattle.container_model.specs.Replies.{pending_at, pending_call, pending_calls}
 use Rattle.container_queues.proofs.SteadyLookups.{each_weaker}
 use Rattle.container_steady.proofs.SteadyTells.{some_and}
-use Rattle.container_steady.specs.Steady.{Steady, SteadyObject}
+use Rattle.container_queues.specs.Steady.{Steady, SteadyObject}
 use Rattle.container_numbers.specs.FewFrames.{FewFrames}
 
 -- ---- at most one for each object
@@ -48,7 +49,8 @@ abbrev IsAmong : ℕ → Object → Type 0
 IsAmong n o = (1 ≤ o.frame) × (o.frame ≤ n)
 
 count_more : (f : ℕ) (o : Object) (os : List Object) → count_objects f os ≤ count_objects f (o ∷ os)
-count_more f o os = elim (o.frame == f) as (λ b. count_objects f os ≤ (if b then 1 + count_objects f os else count_objects f os)) [ true ↦ omega arith | false ↦ omega arith ]
+count_more f o os = elim (o.frame == f) as (λ b. count_objects f os
+    ≤ (if b then 1 + count_objects f os else count_objects f os)) [ true ↦ omega arith | false ↦ omega arith ]
 
 counted_more : (n : ℕ) (o : Object) (os : List Object) → counted n os ≤ counted n (o ∷ os)
 counted_more zero o os = omega arith
@@ -56,15 +58,17 @@ counted_more (suc n) o os = (let one = count_more (suc n) o os in let rest = cou
 
 counted_one : (n : ℕ) (o : Object) (os : List Object) → IsAmong n o → counted n os + 1 ≤ counted n (o ∷ os)
 counted_one zero o os h = (let low = h.0 in let high = h.1 in absurd (omega arith))
-counted_one (suc n) o os h = elim (o.frame == suc n) as (λ b. (o.frame == suc n) ≡ b → counted (suc n) os + 1 ≤ (if b then 1 + count_objects (suc n) os else count_objects (suc n) os) + counted n (o ∷ os)) [
-  | true ↦ (λ t. let rest = counted_more n o os in omega arith)
-  | false ↦ (λ t.
-      let high = h.1 in
-      let ne = eqb-false o.frame (suc n) t in
-      let below : o.frame ≤ n = omega arith in
-      let rest = counted_one n o os (h.0, below) in
-      omega arith)
-] refl
+counted_one (suc n) o os h = elim (o.frame == suc n) as (λ b. (o.frame == suc n) ≡ b
+    → counted (suc n) os + 1 ≤ (if b then 1 + count_objects (suc n) os else count_objects (suc n) os)
+    + counted n (o ∷ os)) [
+      | true ↦ (λ t. let rest = counted_more n o os in omega arith)
+      | false ↦ (λ t.
+          let high = h.1 in
+          let ne = eqb-false o.frame (suc n) t in
+          let below : o.frame ≤ n = omega arith in
+          let rest = counted_one n o os (h.0, below) in
+          omega arith)
+    ] refl
 
 all_counted : (n : ℕ) (os : List Object) → AllByRecursion (IsAmong n) os → length os ≤ counted n os
 all_counted n [] h = omega arith
@@ -80,7 +84,8 @@ among r o h = (let at = some_and _ (nth r.frames o.frame) h.linked in within r.f
 
 pub few_objects : (r : Record) → Steady r → FewFrames r → length r.objects ≤ 512
 few_objects r s few =
-    let all = all_counted (length r.frames) r.objects (each_weaker (SteadyObject r) (IsAmong (length r.frames)) r.objects (among r) s.objects) in
+    let all = all_counted (length r.frames) r.objects
+    (each_weaker (SteadyObject r) (IsAmong (length r.frames)) r.objects (among r) s.objects) in
     let most = counted_few (length r.frames) r.objects s.count in
     let frames : length r.frames ≤ 8 = few in
     omega arith
@@ -89,6 +94,7 @@ pub few_calls : (r : Record) → Steady r → FewFrames r → length (pending_ca
 few_calls r s few = (let single = single_calls r.objects in let most = few_objects r s few in omega arith)
 
 -- ---- what is sent, where there is memory for it
-pub sends_few : {T E : Type 0} (items : T → List Message) (res : Result T E) (ms : List Message) (most : ℕ) → length ms ≤ most → IfOk res (λ v. items v ≡ ms) → IfOk res (λ v. length (items v) ≤ most)
+pub sends_few : {T E : Type 0} (items : T → List Message) (res : Result T E) (ms : List Message) (most : ℕ)
+    → length ms ≤ most → IfOk res (λ v. items v ≡ ms) → IfOk res (λ v. length (items v) ≤ most)
 sends_few items (Err fault) ms most le h = tt
 sends_few items (Ok v) ms most le h = subst (λ (xs : List Message). length xs ≤ most) (sym h) le

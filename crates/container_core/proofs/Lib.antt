@@ -1,3 +1,4 @@
+pub mod Painting
 pub mod OpensMade
 pub mod FewCalls
 pub mod SaidIn

@@ -9,18 +9,24 @@ use Rattle.container_model.specs.Saves.{session_counted}
 use Rattle.container_numbers.specs.Sessions.{session_by}
 
 -- what holds of each step that is taken holds where one was
-pub ok_gives : (P : Type 0) (s : Record) (told : Result Took ContainerFault) (counted : List Done) → ((t : Took) → told ≡ Ok t → P)
-    → (result : Result Answer ContainerFault) → IfOk result (λ a. told ≡ Ok (record { rec = s; answer = a; counted = counted })) → OnOk result P
+pub ok_gives : (P : Type 0) (s : Record) (told : Result Took ContainerFault) (counted : List Done)
+    → ((t : Took) → told ≡ Ok t → P)
+    → (result : Result Answer ContainerFault)
+    → IfOk result (λ a. told ≡ Ok (record { rec = s; answer = a; counted = counted })) → OnOk result P
 ok_gives P s told counted gives (Ok a) taken = gives (record { rec = s; answer = a; counted = counted }) taken
 ok_gives P s told counted gives (Err fault) taken = tt
 
 -- and so the session that each such step leaves
-pub session_given : (n : ℕ) (s : Record) (told : Result Took ContainerFault) (counted : List Done) → ((t : Took) → told ≡ Ok t → t.rec.session ≡ n)
-    → (result : Result Answer ContainerFault) → IfOk result (λ a. told ≡ Ok (record { rec = s; answer = a; counted = counted })) → OnOk result (s.session ≡ n)
+pub session_given : (n : ℕ) (s : Record) (told : Result Took ContainerFault) (counted : List Done)
+    → ((t : Took) → told ≡ Ok t → t.rec.session ≡ n)
+    → (result : Result Answer ContainerFault)
+    → IfOk result (λ a. told ≡ Ok (record { rec = s; answer = a; counted = counted }))
+    → OnOk result (s.session ≡ n)
 session_given n s told counted gives (Ok a) taken = gives (record { rec = s; answer = a; counted = counted }) taken
 session_given n s told counted gives (Err fault) taken = tt
 
 -- a commit in doubt counts where it was kept
-pub resolved_by : (r : Record) (f : ℕ) (is_kept : Bool) → session_by r (Input.Resolved f is_kept) ≡ (if is_kept then session_counted r f else r.session)
+pub resolved_by : (r : Record) (f : ℕ) (is_kept : Bool) → session_by r (Input.Resolved f is_kept)
+    ≡ (if is_kept then session_counted r f else r.session)
 resolved_by r f true = refl
 resolved_by r f false = refl

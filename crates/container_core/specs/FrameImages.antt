@@ -1,6 +1,6 @@
 -- The images of frames' files, by the frames' numbers from 1.
 use Rattle.std.specs.Prelude.{ℕ, Bool, true, false, List, Option, Some, None, Result, Ok, Err}
-use Rattle.wire_msgs.specs.Found.{nth, set_nth}
+use Rattle.message_values.specs.Found.{nth, set_nth}
 use Rattle.container_core.specs.declared.frame_images.Images.{Images}
 use Rattle.container_model.specs.declared.answer.Answer.{Answer}
 use Rattle.container_model.specs.declared.fault.ContainerFault.{ContainerFault}
@@ -13,8 +13,8 @@ flat (Some image) = image
 abbrev pub image_at : List (Option (List ℕ)) → ℕ → Option (List ℕ)
 image_at images f = flat (nth images f)
 
--- A commit is counted: its image is the committed one, and where there is none, none is. One that is lost leaves the committed
--- image as it is.
+-- A commit is counted: its image is the committed one, and where there is none, none is. One that is lost leaves the
+-- committed image as it is.
 abbrev pub counted : ℕ → Images → Images
 counted f v = record { committed = set_nth v.committed f (image_at v.next f); next = set_nth v.next f None }
 

@@ -1,2 +1,4 @@
+pub mod Screen
+pub mod View
 pub mod Opening
 pub mod FrameImages

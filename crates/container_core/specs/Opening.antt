@@ -16,9 +16,11 @@ room r count =
     (unless (nat_le r.numbers (length r.frames) || nat_lt r.numbers (r.last_object + count)) NumbersSpent
     (Ok tt))
 
--- A file is refused for its name or the size, before it is read, or for what it gives. Want of memory is told where it would
--- be opened, or where memory was refused as it was read.
-pub data MayRefuse (r : Record) (name : List ℕ) (w h : ℕ) (file : Option (List ℕ)) (fault : ContainerFault) : Type 0 where
+-- A file is refused for its name or the size, before it is read, or for what it gives. Want of memory is told where it
+-- would be opened, or where memory was refused as it was read.
+pub data MayRefuse (r : Record) (name : List ℕ) (w h : ℕ) (file : Option (List ℕ)) (fault : ContainerFault) : Type
+    0 where
   unread : looked_at r name w h ≡ Err fault → MayRefuse r name w h file fault
-  as_given : (given : Given) → IsReadAs file given → Refuses (opened r name w h given) fault → MayRefuse r name w h file fault
+  as_given : (given : Given) → IsReadAs file given → Refuses (opened r name w h given) fault
+      → MayRefuse r name w h file fault
   reading : fault ≡ NoMemory → looked_at r name w h ≡ Ok tt → is_some file ≡ true → MayRefuse r name w h file fault

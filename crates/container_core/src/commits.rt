@@ -1,11 +1,13 @@
 //! Commits that are done, commits that fail, and how one in doubt is resolved.
 
-ghost use Rattle.std.specs.Prelude.{◌≡◌, ◌≢◌, ◌≤◌, ◌+◌, IfErr, IfOk, OnErr, OnOk, Ok, Some, [], length, true, false, if◌then◌else◌};
+ghost use Rattle.std.specs.Prelude.{◌≡◌, ◌≢◌, ◌≤◌, ◌+◌, IfErr, IfOk, OnErr, OnOk, Ok, Some, [], length, true, false};
+ghost use Rattle.std.specs.Prelude.{if◌then◌else◌};
 ghost use Rattle.container_model.specs.Record.{Refuses, is_doubtful};
-ghost use Rattle.wire_msgs.specs.Found.{nth};
+ghost use Rattle.message_values.specs.Found.{nth};
 ghost use Rattle.container_model.specs.Numbered.{IsNth};
 ghost use Rattle.container_model.specs.Room.{IsSound};
-ghost use Rattle.container_model.specs.Saves.{commit_done, commit_failed, commit_made, counted_of, is_committing, resolve, save_dropped};
+ghost use Rattle.container_model.specs.Saves.{commit_done, commit_failed, commit_made, counted_of, is_committing};
+ghost use Rattle.container_model.specs.Saves.{resolve, save_dropped};
 ghost use Rattle.container_model.specs.declared.fault.ContainerFault.TheVariants.{NoMemory};
 ghost use Rattle.container_model.specs.declared.record.Frame as declared;
 
@@ -19,15 +21,16 @@ use container_objects::commits::{
     session_after,
 };
 use container_state::state::State;
+use message_values::items::Items;
 use std::alloc::Global;
-use wire_msgs::items::Items;
 
 /// Where the frame stands whose commit may be done.
 ///
 /// Refused: as `commit_done`, but for `NoMemory`.
 fn place_committing(state: &State, f: u32) -> Result<usize, ContainerFault>
     ensures place { IfOk result (IsNth f state.now.frames) }
-    ensures told { OnOk result ((frame : declared.Frame) → nth state.now.frames f ≡ Some frame → (is_committing frame.phase ≡ true) × (commit_done state.now f ≡ Ok (commit_made state.now f frame))) }
+    ensures told { OnOk result ((frame : declared.Frame) → nth state.now.frames f ≡ Some frame
+        → (is_committing frame.phase ≡ true) × (commit_done state.now f ≡ Ok (commit_made state.now f frame))) }
     ensures refused { IfErr result (Refuses (commit_done state.now f)) }
     ensures memory { IfErr result (λ fault. fault ≢ NoMemory) }
 {
@@ -46,7 +49,8 @@ fn place_committing(state: &State, f: u32) -> Result<usize, ContainerFault>
 /// Refused: as `resolve`, but for `NoMemory`.
 fn place_kept(state: &State, f: u32) -> Result<usize, ContainerFault>
     ensures place { IfOk result (IsNth f state.now.frames) }
-    ensures told { OnOk result ((frame : declared.Frame) → nth state.now.frames f ≡ Some frame → (is_doubtful frame.phase ≡ true) × (resolve state.now f true ≡ Ok (commit_made state.now f frame))) }
+    ensures told { OnOk result ((frame : declared.Frame) → nth state.now.frames f ≡ Some frame
+        → (is_doubtful frame.phase ≡ true) × (resolve state.now f true ≡ Ok (commit_made state.now f frame))) }
     ensures refused { IfErr result (Refuses (resolve state.now f true)) }
     ensures memory { IfErr result (λ fault. fault ≢ NoMemory) }
 {
@@ -65,7 +69,8 @@ fn place_kept(state: &State, f: u32) -> Result<usize, ContainerFault>
 /// Refused: as `resolve`, but for `NoMemory`.
 fn place_lost(state: &State, f: u32) -> Result<usize, ContainerFault>
     ensures place { IfOk result (IsNth f state.now.frames) }
-    ensures told { OnOk result ((frame : declared.Frame) → nth state.now.frames f ≡ Some frame → (is_doubtful frame.phase ≡ true) × (resolve state.now f false ≡ Ok (save_dropped state.now f frame))) }
+    ensures told { OnOk result ((frame : declared.Frame) → nth state.now.frames f ≡ Some frame
+        → (is_doubtful frame.phase ≡ true) × (resolve state.now f false ≡ Ok (save_dropped state.now f frame))) }
     ensures refused { IfErr result (Refuses (resolve state.now f false)) }
     ensures memory { IfErr result (λ fault. fault ≢ NoMemory) }
 {
@@ -78,8 +83,8 @@ fn place_lost(state: &State, f: u32) -> Result<usize, ContainerFault>
     Ok(place)
 }
 
-/// The document of the frame that stands here is counted, and its objects are told so. The session that its save raised it to
-/// is the container's from now on.
+/// The document of the frame that stands here is counted, and its objects are told so. The session that its save raised
+/// it to is the container's from now on.
 ///
 /// Refused for want of memory alone.
 fn count_commit(
@@ -90,7 +95,12 @@ fn count_commit(
 ) -> Result<Answer, ContainerFault>
     requires sound { IsSound state.old }
     requires place { IsNth f state.old.frames place }
-    ensures made { IfOk result (λ a. (frame : declared.Frame) → nth state.old.frames f ≡ Some frame → commit_made state.old f frame ≡ record { rec = state.new; answer = a; counted = counted_of state.old f }) }
+    ensures made { IfOk result (λ a. (frame : declared.Frame) → nth state.old.frames f ≡ Some frame
+        → commit_made state.old f frame ≡ record {
+          rec = state.new;
+          answer = a;
+          counted = counted_of state.old f;
+        }) }
     ensures few { IfOk result (λ a. length a.actions ≤ length state.old.objects + length state.old.frames + 1) }
     ensures lacking { IfErr result (λ fault. fault ≡ NoMemory) }
     ensures kept { OnErr result (state.new ≡ state.old) }
@@ -118,7 +128,8 @@ fn drop_save(
 ) -> Result<Answer, ContainerFault>
     requires sound { IsSound state.old }
     requires place { IsNth f state.old.frames place }
-    ensures made { IfOk result (λ a. (frame : declared.Frame) → nth state.old.frames f ≡ Some frame → save_dropped state.old f frame ≡ record { rec = state.new; answer = a; counted = [] }) }
+    ensures made { IfOk result (λ a. (frame : declared.Frame) → nth state.old.frames f ≡ Some frame
+        → save_dropped state.old f frame ≡ record { rec = state.new; answer = a; counted = [] }) }
     ensures few { IfOk result (λ a. length a.actions ≤ length state.old.objects + length state.old.frames + 1) }
     ensures lacking { IfErr result (λ fault. fault ≡ NoMemory) }
     ensures kept { OnErr result (state.new ≡ state.old) }
@@ -139,7 +150,8 @@ pub(crate) fn commit_done(
     f: u32,
 ) -> Result<Answer, ContainerFault>
     requires { IsSound state.old }
-    ensures taken { IfOk result (λ a. commit_done state.old f ≡ Ok (record { rec = state.new; answer = a; counted = counted_of state.old f })) }
+    ensures taken { IfOk result (λ a. commit_done state.old f
+        ≡ Ok (record { rec = state.new; answer = a; counted = counted_of state.old f })) }
     ensures few { IfOk result (λ a. length a.actions ≤ length state.old.objects + length state.old.frames + 1) }
     ensures refused { IfErr result (Refuses (commit_done state.old f)) }
     ensures kept { OnErr result (state.new ≡ state.old) }
@@ -154,7 +166,8 @@ pub(crate) fn commit_failed(
     state: &mut State,
     f: u32,
 ) -> Result<Answer, ContainerFault>
-    ensures taken { IfOk result (λ a. commit_failed state.old f ≡ Ok (record { rec = state.new; answer = a; counted = [] })) }
+    ensures taken { IfOk result (λ a. commit_failed state.old f
+        ≡ Ok (record { rec = state.new; answer = a; counted = [] })) }
     ensures few { IfOk result (λ a. length a.actions ≤ length state.old.objects + length state.old.frames + 1) }
     ensures refused { IfErr result (Refuses (commit_failed state.old f)) }
     ensures memory { IfErr result (λ fault. fault ≢ NoMemory) }
@@ -173,7 +186,8 @@ pub(crate) fn commit_failed(
 /// A commit in doubt was kept.
 fn resolve_kept(alloc: Global, state: &mut State, f: u32) -> Result<Answer, ContainerFault>
     requires { IsSound state.old }
-    ensures taken { IfOk result (λ a. resolve state.old f true ≡ Ok (record { rec = state.new; answer = a; counted = counted_of state.old f })) }
+    ensures taken { IfOk result (λ a. resolve state.old f true
+        ≡ Ok (record { rec = state.new; answer = a; counted = counted_of state.old f })) }
     ensures few { IfOk result (λ a. length a.actions ≤ length state.old.objects + length state.old.frames + 1) }
     ensures refused { IfErr result (Refuses (resolve state.old f true)) }
     ensures kept { OnErr result (state.new ≡ state.old) }
@@ -185,7 +199,8 @@ fn resolve_kept(alloc: Global, state: &mut State, f: u32) -> Result<Answer, Cont
 /// A commit in doubt was lost.
 fn resolve_lost(alloc: Global, state: &mut State, f: u32) -> Result<Answer, ContainerFault>
     requires { IsSound state.old }
-    ensures taken { IfOk result (λ a. resolve state.old f false ≡ Ok (record { rec = state.new; answer = a; counted = [] })) }
+    ensures taken { IfOk result (λ a. resolve state.old f false
+        ≡ Ok (record { rec = state.new; answer = a; counted = [] })) }
     ensures few { IfOk result (λ a. length a.actions ≤ length state.old.objects + length state.old.frames + 1) }
     ensures refused { IfErr result (Refuses (resolve state.old f false)) }
     ensures kept { OnErr result (state.new ≡ state.old) }
@@ -202,7 +217,8 @@ pub(crate) fn resolve(
     is_kept: bool,
 ) -> Result<Answer, ContainerFault>
     requires { IsSound state.old }
-    ensures taken { IfOk result (λ a. resolve state.old f is_kept ≡ Ok (record { rec = state.new; answer = a; counted = if is_kept then counted_of state.old f else [] })) }
+    ensures taken { IfOk result (λ a. resolve state.old f is_kept
+        ≡ Ok (record { rec = state.new; answer = a; counted = if is_kept then counted_of state.old f else [] })) }
     ensures few { IfOk result (λ a. length a.actions ≤ length state.old.objects + length state.old.frames + 1) }
     ensures refused { IfErr result (Refuses (resolve state.old f is_kept)) }
     ensures kept { OnErr result (state.new ≡ state.old) }

@@ -1,16 +1,17 @@
-//! The images of frames' files: of each frame the one that was counted last, and the one of its commit that isn't counted yet.
+//! The images of frames' files: of each frame the one that was counted last, and the one of its commit that isn't
+//! counted yet.
 
 ghost use Rattle.std.specs.Prelude.{◌≡◌, None, Some, option_copied, replicate};
 ghost use Rattle.container_core.specs.FrameImages.{counted, image_at, lost, settled, started};
-ghost use Rattle.wire_msgs.specs.Found.{set_nth};
+ghost use Rattle.message_values.specs.Found.{set_nth};
 
 use container_model::answer::Answer;
 use container_model::fault::ContainerFault;
-use file_image::image::Image;
 use std::mem::replace;
+use store_images::image::Image;
 
-/// The images of 8 frames, by their numbers from 1. What is kept of a frame is two images at most, and nothing grows with their
-/// count.
+/// The images of 8 frames, by their numbers from 1. What is kept of a frame is two images at most, and nothing grows
+/// with their count.
 #[derive(Drop)]
 pub(crate) struct Images {
     /// What was counted last.

@@ -5,10 +5,10 @@ ghost use Rattle.container_model.specs.Record.{Refuses};
 ghost use Rattle.container_model.specs.Saves as saves;
 ghost use Rattle.container_model.specs.Saves.{document_tree, image, parts_in};
 ghost use Rattle.container_model.specs.declared.fault.ContainerFault.TheVariants.{NoMemory};
-ghost use Rattle.document_model.specs.DocOf.{DocOf};
-ghost use Rattle.file_model.specs.Denotes.{Denotes};
-ghost use Rattle.file_model.specs.Limits.{MOST_BYTES};
-ghost use Rattle.file_zeros.specs.Zeroed.{IsZeroed};
+ghost use Rattle.ole_model.specs.DocOf.{DocOf};
+ghost use Rattle.cfb_file.specs.Denotes.{Denotes};
+ghost use Rattle.cfb_file.specs.Limits.{MOST_BYTES};
+ghost use Rattle.write_zeros.specs.Zeroed.{IsZeroed};
 
 use container_checks::checks::has_image;
 use container_documents::documents::{fits, image_of, parts_in};
@@ -16,15 +16,16 @@ use container_model::answer::FrameDocument;
 use container_model::fault::ContainerFault;
 use container_objects::commits::session_after;
 use container_state::state::State;
-use file_image::image::Image;
+use message_values::items::Items;
 use std::alloc::Global;
-use wire_msgs::items::Items;
+use store_images::image::Image;
 
 /// The session of a frame that has a document whose file is to be committed. It takes no memory.
 ///
 /// Refused: as `document`, but for `NoMemory`.
 pub(crate) fn check_image(state: &State, f: u32) -> Result<u32, ContainerFault>
-    ensures fine { IfOk result (λ session. image state.now f ≡ Ok (record { session = session; parts = parts_in f state.now.objects })) }
+    ensures fine { IfOk result (λ session. image state.now f
+        ≡ Ok (record { session = session; parts = parts_in f state.now.objects })) }
     ensures refused { IfErr result (Refuses (image state.now f)) }
     ensures memory { IfErr result (λ fault. fault ≢ NoMemory) }
 {
@@ -61,7 +62,8 @@ pub(crate) fn document(
     }
 }
 
-/// The document of a frame, and the image that is to be committed, in the sectors of the one that was counted last, if any.
+/// The document of a frame, and the image that is to be committed, in the sectors of the one that was counted last, if
+/// any.
 pub(crate) fn commit_image(
     alloc: Global,
     state: &State,

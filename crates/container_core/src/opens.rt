@@ -6,8 +6,8 @@ ghost use Rattle.container_model.specs.Opens.{Given, IsReadAs, opened, opened_do
 ghost use Rattle.container_model.specs.Record.{MOST_OBJECTS, Refuses, counts_none, quiet_answer};
 ghost use Rattle.container_model.specs.Room.{IsSound};
 ghost use Rattle.container_model.specs.Saves.{is_document};
-ghost use Rattle.container_steady.specs.Steady.{Steady};
-ghost use Rattle.file_image.specs.Trimmed.{trimmed};
+ghost use Rattle.container_queues.specs.Steady.{Steady};
+ghost use Rattle.store_images.specs.Trimmed.{trimmed};
 
 use crate::frame_images::Images;
 use container_checks::checks;
@@ -18,18 +18,21 @@ use container_model::fault::ContainerFault;
 use container_model::record::Object;
 use container_objects::opens::{opened_frame, opened_objects};
 use container_state::state::State;
-use file_image::image::Image;
+use message_values::items::Items;
 use ole_streams::doc::Doc;
 use std::alloc::{AllocError, Global};
-use stored_values::bytes::Bytes;
-use wire_msgs::items::Items;
+use store_images::image::Image;
+use tree_values::bytes::Bytes;
 
 // How many frames there may be.
 const MOST_FRAMES: usize = 8;
 
 // The answer that a frame with objects was made.
 fn made(alloc: Global, frame: u32, objects: &[Object]) -> Result<Answer, AllocError>
-    ensures { IfOk result (λ a. a ≡ record quiet_answer { frame = Some frame; objects = map (λ o. o.number) objects.now }) }
+    ensures { IfOk result (λ a. a ≡ record quiet_answer {
+      frame = Some frame;
+      objects = map (λ o. o.number) objects.now;
+    }) }
 {
     let numbers = object_numbers(alloc, objects)?;
     let mut answer = Answer::quiet(alloc);
@@ -150,7 +153,8 @@ fn open_named(
     requires steady { Steady state.old }
     requires sound { IsSound state.old }
     requires named { looked_at state.old name w h ≡ Ok tt }
-    ensures taken { IfOk result (λ a. (given : Given) × IsReadAs (option_copied file.entry) given × (opened state.old name w h given ≡ Ok (counts_none state.new a))) }
+    ensures taken { IfOk result (λ a. (given : Given) × IsReadAs (option_copied file.entry) given
+        × (opened state.old name w h given ≡ Ok (counts_none state.new a))) }
     ensures few { IfOk result (λ a. length a.actions ≤ 1) }
     ensures refused { IfErr result (MayRefuse state.old name w h (option_copied file.entry)) }
     ensures kept { OnErr result (state.new ≡ state.old) }
@@ -186,7 +190,8 @@ pub(crate) fn open_file(
 ) -> Result<Answer, ContainerFault>
     requires steady { Steady state.old }
     requires sound { IsSound state.old }
-    ensures taken { IfOk result (λ a. (given : Given) × IsReadAs (option_copied file.entry) given × (opened state.old name w h given ≡ Ok (counts_none state.new a))) }
+    ensures taken { IfOk result (λ a. (given : Given) × IsReadAs (option_copied file.entry) given
+        × (opened state.old name w h given ≡ Ok (counts_none state.new a))) }
     ensures few { IfOk result (λ a. length a.actions ≤ 1) }
     ensures refused { IfErr result (MayRefuse state.old name w h (option_copied file.entry)) }
     ensures kept { OnErr result (state.new ≡ state.old) }

@@ -2,24 +2,24 @@
 
 ghost use Rattle.std.specs.Prelude.{◌+◌, ◌≡◌, ◌≤◌, All, IfErr, IfOk, Ok, OnErr, length};
 ghost use Rattle.container_links.specs.Asking.{HasNumber};
-ghost use Rattle.container_saves.specs.Places.{AllHavePlaces};
-ghost use Rattle.container_steady.specs.Steady.{Steady};
+ghost use Rattle.container_grants.specs.Places.{AllHavePlaces};
+ghost use Rattle.container_queues.specs.Steady.{Steady};
 ghost use Rattle.container_model.specs.Record.{Refuses, counts_none};
 ghost use Rattle.container_model.specs.Messages.{on_reap};
 ghost use Rattle.container_model.specs.Room.{IsSound};
 
 use container_checks::objects::Objects;
 use container_grants::grants::{free_frames, prepare_freed, take_grants};
+use container_grants::handing::hand_off_all;
+use container_grants::rooms::{FrameRooms, prepare_frames};
 use container_links::settling::settle_into;
 use container_model::answer::Answer;
 use container_model::fault::ContainerFault;
 use container_model::record::Frame;
 use container_objects::reaps::reap_all;
-use container_saves::handing::hand_off_all;
-use container_saves::rooms::{FrameRooms, prepare_frames};
 use container_state::state::State;
+use message_values::items::Items;
 use std::alloc::{AllocError, Global};
-use wire_msgs::items::Items;
 
 // Takes the memory for frames that hand off.
 fn prepare_rooms(

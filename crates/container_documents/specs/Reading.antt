@@ -1,8 +1,8 @@
 -- What a file gives, as it is read.
 use Rattle.std.specs.Prelude.{◌≡◌, Option, Some, None}
-use Rattle.storage_tree.specs.Tree.{Tree}
-use Rattle.document_model.specs.DocOf.{DocOf}
-use Rattle.document_model.specs.Documents.{Doc}
+use Rattle.cfb_entries.specs.Tree.{Tree}
+use Rattle.ole_model.specs.DocOf.{DocOf}
+use Rattle.ole_model.specs.Documents.{Doc}
 use Rattle.container_model.specs.Opens.{Given}
 
 -- a file that is there gives a document, or none

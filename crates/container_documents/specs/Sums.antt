@@ -2,15 +2,15 @@
 -- document's tree needs.
 use Rattle.std.specs.Prelude.{◌≡◌, ◌+◌, ℕ, List, [], ◌∷◌, map, length, zero, suc, nat_lt, if◌then◌else◌}
 use Rattle.std.specs.Int.{w32, to_le_bytes}
-use Rattle.stored_streams.specs.Streams.{AreInOrder}
-use Rattle.stored_streams.specs.declared.streams.NamedStream.{NamedStream}
-use Rattle.file_model.specs.Limits.{CUTOFF}
-use Rattle.file_model.specs.Need.{pieces}
-use Rattle.ole_parts.specs.CompObjs.{CLASS_BYTES, comp_obj_bytes}
-use Rattle.ole_parts.specs.OleStreams.{ole_bytes}
-use Rattle.document_model.specs.Documents.{Doc}
-use Rattle.document_model.specs.Layouts.{layout_bytes}
-use Rattle.document_model.specs.declared.object.DocObject.{DocObject}
+use Rattle.tree_streams.specs.Streams.{AreInOrder}
+use Rattle.tree_streams.specs.declared.streams.NamedStream.{NamedStream}
+use Rattle.cfb_file.specs.Limits.{CUTOFF}
+use Rattle.cfb_file.specs.Need.{pieces}
+use Rattle.ole_model.specs.CompObjs.{CLASS_BYTES, comp_obj_bytes}
+use Rattle.ole_model.specs.OleStreams.{ole_bytes}
+use Rattle.ole_model.specs.Documents.{Doc}
+use Rattle.ole_model.specs.Layouts.{layout_bytes}
+use Rattle.ole_model.specs.declared.object.DocObject.{DocObject}
 
 -- a sum over the streams of an object, of a document, where each stream is reckoned by its bytes and each storage alike
 abbrev pub streams_sum : (List ℕ → ℕ) → List NamedStream → ℕ
@@ -22,7 +22,9 @@ picture_sum f [] = 0
 picture_sum f (b ∷ bs) = f (b ∷ bs)
 
 abbrev pub object_sum : (List ℕ → ℕ) → ℕ → DocObject → ℕ
-object_sum f z o = z + (picture_sum f o.stored.picture + (f (comp_obj_bytes o.class o.user_type) + (f ole_bytes + streams_sum f o.stored.streams)))
+object_sum f z o =
+    z + (picture_sum f o.stored.picture
+    + (f (comp_obj_bytes o.class o.user_type) + (f ole_bytes + streams_sum f o.stored.streams)))
 
 abbrev pub objects_sum : (List ℕ → ℕ) → ℕ → List DocObject → ℕ
 objects_sum f z [] = 0
@@ -33,7 +35,8 @@ session_sum f zero = 0
 session_sum f (suc n) = f (to_le_bytes w32 (suc n))
 
 abbrev pub document_sum : (List ℕ → ℕ) → ℕ → Doc → ℕ
-document_sum f z d = f (layout_bytes (map (λ (o : DocObject). o.area) d.objects)) + (session_sum f d.session + objects_sum f z d.objects)
+document_sum f z d = f (layout_bytes (map (λ (o : DocObject). o.area) d.objects))
+    + (session_sum f d.session + objects_sum f z d.objects)
 
 -- a stream is one entry of the directory, and lies in mini sectors or in sectors
 abbrev pub one : List ℕ → ℕ

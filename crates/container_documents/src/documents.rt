@@ -1,27 +1,28 @@
 //! The document of a frame: its objects, each with the content that a save counts, and the file that holds them.
 
 ghost use Rattle.std.specs.Prelude.{◌≡◌, ◌≤◌, IfErr, IfOk, Ok, OnOk, is_ok, length, true};
-ghost use Rattle.container_model.specs.Saves.{are_objects, document, document_tree, fitting, held_part, held_parts, is_document, part_of, parts_in};
-ghost use Rattle.document_model.specs.DocOf.{DocOf, is_object};
-ghost use Rattle.file_model.specs.Denotes.{Denotes};
-ghost use Rattle.file_model.specs.Limits.{MOST_BYTES};
-ghost use Rattle.file_model.specs.Refusals.{Refuses, writable};
-ghost use Rattle.file_zeros.specs.Zeroed.{IsZeroed};
-ghost use Rattle.storage_tree.specs.Kept.{kept};
+ghost use Rattle.container_model.specs.Saves.{are_objects, document, document_tree, fitting, held_part, held_parts};
+ghost use Rattle.container_model.specs.Saves.{is_document, part_of, parts_in};
+ghost use Rattle.ole_model.specs.DocOf.{DocOf, is_object};
+ghost use Rattle.cfb_file.specs.Denotes.{Denotes};
+ghost use Rattle.cfb_file.specs.Limits.{MOST_BYTES};
+ghost use Rattle.cfb_file.specs.Refusals.{Refuses, writable};
+ghost use Rattle.write_zeros.specs.Zeroed.{IsZeroed};
+ghost use Rattle.tree_storage.specs.Kept.{kept};
 
 use crate::room::has_room;
+use cfb_file::fault::WriteFault;
 use container_checks::contents::kept;
 use container_model::answer::{FrameDocument, Part};
 use container_model::record::Object;
-use file_image::image::Image;
-use file_model::fault::WriteFault;
-use object_parts::limits::is_within;
-use ole_parts::fault::OleFault;
+use ole_model::fault::OleFault;
 use ole_streams::doc::{Doc, DocObject, MOST_OBJECTS};
 use ole_streams::document_tree::document_tree;
 use ole_streams::laws::document_is_read_again;
 use std::alloc::{AllocError, Global};
-use storage_tree::tree::Tree;
+use store_images::image::Image;
+use tree_storage::tree::Tree;
+use tree_streams::limits::is_within;
 
 /// The first length that a user type can't have, so that its size with the closing zero fits four bytes.
 const PAST_USER_TYPE: usize = 0xffff_ffff;
@@ -86,8 +87,8 @@ fn is_object(object: &Object) -> bool
     is_within(kept(object)) && object.user_type.len() < PAST_USER_TYPE
 }
 
-/// Whether a file can hold the document of a frame, of this session: there are at most 64 objects, each within its limits,
-/// and the tree needs no more FAT sectors than a file may have.
+/// Whether a file can hold the document of a frame, of this session: there are at most 64 objects, each within its
+/// limits, and the tree needs no more FAT sectors than a file may have.
 pub fn fits(session: u32, f: u32, objects: &[Object]) -> bool
     ensures { result ≡ is_ok (fitting (record { session = session; parts = parts_in f objects.now })) }
 {
@@ -164,11 +165,11 @@ fn image_over(alloc: Global, tree: &Tree, older: Option<&Image>) -> Result<Image
     }
 }
 
-/// The image of a document that a file can hold: it denotes the document's tree, which holds the document. All that the tree
-/// doesn't take is zero, so that nothing else stands in it. It is no longer than a store takes.
+/// The image of a document that a file can hold: it denotes the document's tree, which holds the document. All that the
+/// tree doesn't take is zero, so that nothing else stands in it. It is no longer than a store takes.
 ///
-/// It is laid out anew, or has the sectors of an older image, if there is any, as `Image::with_tree` gives them: which of both it
-/// is, is tested, and in no clause.
+/// It is laid out anew, or has the sectors of an older image, if there is any, as `Image::with_tree` gives them: which
+/// of both it is, is tested, and in no clause.
 ///
 /// Refused for want of memory alone.
 pub fn image_of(

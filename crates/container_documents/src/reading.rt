@@ -1,20 +1,20 @@
 //! The document that a file gives.
 
 ghost use Rattle.std.specs.Prelude.{◌≡◌, ◌≢◌, IfErr, IfOk, IfSome, None, Some, true};
-ghost use Rattle.storage_tree.specs.Kept.{kept};
+ghost use Rattle.tree_storage.specs.Kept.{kept};
 ghost use Rattle.container_documents.specs.Reading.{IsHeldAs, as_given};
 ghost use Rattle.container_model.specs.Opens.{IsReadAs};
 ghost use Rattle.container_model.specs.Saves.{is_document};
-ghost use Rattle.ole_parts.specs.declared.fault.OleFault.TheVariants as ole;
-ghost use Rattle.stream_io.specs.declared.fault.ReadFault.TheVariants as reading;
+ghost use Rattle.ole_model.specs.declared.fault.OleFault.TheVariants as ole;
+ghost use Rattle.read_files.specs.declared.fault.ReadFault.TheVariants as reading;
 
-use ole_parts::fault::OleFault;
+use ole_model::fault::OleFault;
 use ole_streams::doc::Doc;
 use ole_streams::document_of::document_of;
+use read_files::fault::ReadFault;
+use read_files::read::read_file;
 use std::alloc::{AllocError, Global};
-use storage_tree::tree::Tree;
-use stream_io::fault::ReadFault;
-use stream_io::read::read_file;
+use tree_storage::tree::Tree;
 
 /// Whether a tree is refused for want of memory.
 fn lacks_memory(fault: OleFault) -> bool
@@ -59,8 +59,8 @@ fn document_held(alloc: Global, tree: Tree) -> Result<Option<Doc>, AllocError>
     }
 }
 
-/// The document that a file gives (MS-CFB 2), none where the bytes are no compound file, or one that holds no document. What
-/// the file's streams hold is copied once.
+/// The document that a file gives (MS-CFB 2), none where the bytes are no compound file, or one that holds no document.
+/// What the file's streams hold is copied once.
 ///
 /// Refused for want of memory alone.
 pub fn document_in(alloc: Global, file: &[u8]) -> Result<Option<Doc>, AllocError>

@@ -2,18 +2,19 @@
 
 ghost use Rattle.std.specs.Prelude.{◌+◌, ◌≡◌, ◌<◌, is_ok, length, min, nat_le, true};
 ghost use Rattle.container_model.specs.Saves.{document_tree, held_part, held_parts, is_document, part_of, parts_in};
-ghost use Rattle.container_documents.specs.Sums.{IsTyped, comp_obj_size, long_of, object_sum, one, one_of, picture_of, session_of, short_of, streams_sum};
-ghost use Rattle.file_model.specs.Limits.{MOST_FAT_SECTORS};
-ghost use Rattle.file_model.specs.Need.{fat_sectors as fat_needed, long_pieces, needed, short_pieces};
-ghost use Rattle.file_model.specs.Refusals.{writable};
-ghost use Rattle.file_model.specs.declared.limit.TheConstants.{MANY};
-ghost use Rattle.ole_parts.specs.CompObjs.{CLASS_BYTES, PAST_USER_TYPE};
+ghost use Rattle.container_documents.specs.Sums.{IsTyped, comp_obj_size, long_of, object_sum, one, one_of, picture_of};
+ghost use Rattle.container_documents.specs.Sums.{session_of, short_of, streams_sum};
+ghost use Rattle.cfb_file.specs.Limits.{MOST_FAT_SECTORS};
+ghost use Rattle.cfb_file.specs.Need.{fat_sectors as fat_needed, long_pieces, needed, short_pieces};
+ghost use Rattle.cfb_file.specs.Refusals.{writable};
+ghost use Rattle.cfb_file.specs.declared.limit.TheConstants.{MANY};
+ghost use Rattle.ole_model.specs.CompObjs.{CLASS_BYTES, PAST_USER_TYPE};
 
+use cfb_file::limit::{CUTOFF, MANY, MOST_FAT_SECTORS};
+use cfb_file::need::fat_sectors;
 use container_checks::contents::kept;
 use container_model::record::Object;
-use file_model::limit::{CUTOFF, MANY, MOST_FAT_SECTORS};
-use file_model::need::fat_sectors;
-use stored_streams::streams::NamedStream;
+use tree_streams::streams::NamedStream;
 
 /// How many bytes `\1Ole` has (MS-OLEDS 2.3.3).
 const OLE_SIZE: usize = 20;
@@ -151,9 +152,12 @@ impl Room {
     /// With an object's storage and its streams.
     fn object(self, object: &Object) -> Room
         requires { length object.now.user_type < PAST_USER_TYPE }
-        ensures entries { min MANY result.entries ≡ min MANY (self.entries + object_sum one 1 (held_part (part_of object.now))) }
-        ensures minis { min MANY result.minis ≡ min MANY (self.minis + object_sum short_pieces 0 (held_part (part_of object.now))) }
-        ensures longs { min MANY result.longs ≡ min MANY (self.longs + object_sum long_pieces 0 (held_part (part_of object.now))) }
+        ensures entries { min MANY result.entries
+            ≡ min MANY (self.entries + object_sum one 1 (held_part (part_of object.now))) }
+        ensures minis { min MANY result.minis
+            ≡ min MANY (self.minis + object_sum short_pieces 0 (held_part (part_of object.now))) }
+        ensures longs { min MANY result.longs
+            ≡ min MANY (self.longs + object_sum long_pieces 0 (held_part (part_of object.now))) }
         ensures typed { IsTyped (held_part (part_of object.now)) }
     {
         is_typed(object);
@@ -166,7 +170,9 @@ impl Room {
 
     /// Whether the least FAT that covers it is within the limit.
     fn fits(self) -> bool
-        ensures { result ≡ nat_le (fat_needed (needed (min MANY self.entries) (min MANY self.minis) (min MANY self.longs))) MOST_FAT_SECTORS }
+        ensures { result ≡ nat_le
+            (fat_needed (needed (min MANY self.entries) (min MANY self.minis) (min MANY self.longs)))
+            MOST_FAT_SECTORS }
     {
         let entries = self.entries.min(MANY as usize);
         let minis = self.minis.min(MANY as usize);

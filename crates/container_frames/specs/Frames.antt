@@ -1,6 +1,6 @@
 -- What a step of a container makes of its frames: their names, their documents' sessions, and which of them save.
 use Rattle.std.specs.Prelude.{◌≡◌, ◌≢◌, ◌++◌, ℕ, true, List, [], ◌∷◌, length, Some, None, Ok}
-use Rattle.wire_msgs.specs.Found.{nth}
+use Rattle.message_values.specs.Found.{nth}
 use Rattle.container_model.specs.Commands.{new_frame}
 use Rattle.container_model.specs.Inputs.{Input, on_input}
 use Rattle.container_model.specs.Opens.{Given, opened_frame}
@@ -25,7 +25,8 @@ pub record FrameStays (session : ℕ) (old new : Frame) : Type 0 where
 
 pub record FramesStay (session : ℕ) (old new : List Frame) : Type 0 where
   pub many : length new ≡ length old
-  pub from : (f : ℕ) (frame : Frame) → nth new f ≡ Some frame → (before : Frame) × (nth old f ≡ Some before) × FrameStays session before frame
+  pub from : (f : ℕ) (frame : Frame) → nth new f ≡ Some frame → (before : Frame) × (nth old f ≡ Some before)
+      × FrameStays session before frame
 
 -- the input that counts the commit of a frame
 abbrev pub Commits : Input → ℕ → Type 0
@@ -33,14 +34,16 @@ Commits (Input.Committed g) f = g ≡ f
 Commits (Input.Resolved g true) f = g ≡ f
 Commits x f = ⊥
 
--- A step leaves the frames, makes one more, opens one more, or counts the commit of one. Only the last changes a frame's name,
--- the session of its document, and the container's.
+-- A step leaves the frames, makes one more, opens one more, or counts the commit of one. Only the last changes a
+-- frame's name, the session of its document, and the container's.
 pub data FramesGo (r : Record) (x : Input) (t : Took) : Type 0 where
   frames_stay : FramesStay r.session r.frames t.rec.frames → t.rec.session ≡ r.session → FramesGo r x t
-  frame_made : (name : List ℕ) (w h : ℕ) → x ≡ Input.Ordered (command.New name w h) → t.rec.frames ≡ r.frames ++ new_frame name w h ∷ [] → t.rec.session ≡ r.session → FramesGo r x t
+  frame_made : (name : List ℕ) (w h : ℕ) → x ≡ Input.Ordered (command.New name w h)
+      → t.rec.frames ≡ r.frames ++ new_frame name w h ∷ [] → t.rec.session ≡ r.session → FramesGo r x t
   frame_opened : (name : List ℕ) (w h : ℕ) (d : _) → x ≡ Input.Opened name w h (Given.Holding d)
       → t.rec.frames ≡ r.frames ++ opened_frame name w h d.session ∷ [] → t.rec.session ≡ r.session → FramesGo r x t
-  frame_counted : (f : ℕ) (frame : Frame) → Commits x f → nth r.frames f ≡ Some frame → frame.phase ≢ Idle → commit_made r f frame ≡ t → FramesGo r x t
+  frame_counted : (f : ℕ) (frame : Frame) → Commits x f → nth r.frames f ≡ Some frame → frame.phase ≢ Idle
+      → commit_made r f frame ≡ t → FramesGo r x t
 
 -- Law: each step that is taken is one of these.
 abbrev pub StepsMoveFrames : Type 0

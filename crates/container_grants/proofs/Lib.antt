@@ -1,3 +1,4 @@
+pub mod AskedAway
 pub mod GrantsEach
 pub mod GrantsTold
 pub mod GrantsWaiting

@@ -1,13 +1,13 @@
 -- Objects that are told of their frames' grants: all memory is taken first, then they change.
 use Rattle.std.specs.Prelude.{◌++◌, ℕ, Bool, false, List, [], ◌∷◌, Option, Some, None, if◌then◌else◌, option_to_list}
-use Rattle.wire_msgs.specs.Found.{find, nth, put, set_nth}
-use Rattle.wire_msgs.specs.declared.message.Message.{Message}
-use Rattle.wire_msgs.specs.declared.operation.Operation.{Operation}
-use Rattle.wire_msgs.specs.declared.operation.Operation.TheVariants.{UiActivate}
-use Rattle.grant_core.specs.declared.grant_states.Claim.{Claim}
-use Rattle.grant_core.specs.Frames.{answer}
-use Rattle.grant_core.specs.Grants.{Event, waiting, who}
-use Rattle.grant_core.specs.declared.grant_states.GrantState.{GrantState}
+use Rattle.message_values.specs.Found.{find, nth, put, set_nth}
+use Rattle.message_values.specs.declared.message.Message.{Message}
+use Rattle.message_values.specs.declared.operation.Operation.{Operation}
+use Rattle.message_values.specs.declared.operation.Operation.TheVariants.{UiActivate}
+use Rattle.object_state.specs.declared.grant_states.Claim.{Claim}
+use Rattle.object_state.specs.Frames.{answer}
+use Rattle.object_state.specs.Grants.{Event, waiting, who}
+use Rattle.object_state.specs.declared.grant_states.GrantState.{GrantState}
 use Rattle.container_links.specs.Asking.{called, installed, prepared_link}
 use Rattle.container_links.specs.declared.asking.Prepared.{Prepared}
 use Rattle.container_links.specs.declared.asking.Prepared.TheVariants.{Nothing}
@@ -37,7 +37,11 @@ sent_by n op os = sent_in op (find (is_object n) os)
 -- what an object takes up that is told of its grant, and what is sent then
 abbrev pub ready_in : Claim → Option Object → Granted
 ready_in claim None = record { object = claim.object; takes = Nothing; action = None }
-ready_in claim (Some o) = record { object = claim.object; takes = prepared_link (UiActivate claim.g) o.link; action = called (UiActivate claim.g) o.link }
+ready_in claim (Some o) = record {
+  object = claim.object;
+  takes = prepared_link (UiActivate claim.g) o.link;
+  action = called (UiActivate claim.g) o.link;
+}
 
 abbrev pub ready : List Object → Claim → Granted
 ready os claim = ready_in claim (find (is_object claim.object) os)

@@ -1,13 +1,16 @@
-//! How a frame's menus and border pass from object to object: what is told of a frame, who is told of a grant, and which grants
-//! the end of a server frees.
+//! How a frame's menus and border pass from object to object: what is told of a frame, who is told of a grant, and
+//! which grants the end of a server frees.
 
-ghost use Rattle.std.specs.Prelude.{◌≡◌, ◌+◌, ◌≤◌, ◌<◌, ◌++◌, All, IfOk, OnErr, OnOk, is_some, true, length, map, option_to_list, vec_capacity, vec_len};
+ghost use Rattle.std.specs.Prelude.{◌≡◌, ◌+◌, ◌≤◌, ◌<◌, ◌++◌, All, IfOk, OnErr, OnOk, is_some, true, length, map};
+ghost use Rattle.std.specs.Prelude.{option_to_list, vec_capacity, vec_len};
 ghost use Rattle.container_links.specs.Asking.{HasNumber};
-ghost use Rattle.container_model.specs.Grants.{freed, freed_claims, freed_frame, is_by, is_hosted, is_hosted_object, lacks_space, lost_by, number_of, passed_to, unwaited};
+ghost use Rattle.container_model.specs.Grants.{freed, freed_claims, freed_frame, is_by, is_hosted, is_hosted_object};
+ghost use Rattle.container_model.specs.Grants.{lacks_space, lost_by, number_of, passed_to, unwaited};
 ghost use Rattle.container_model.specs.Messages.{is_held_by};
 ghost use Rattle.container_model.specs.Record.{is_object, sends};
-ghost use Rattle.container_grants.specs.Granted.{actions_of, asked_by, claims_if, installed_by, installed_each, ready, sent_by, told_frame, told_frames, told_space, told_space_in};
-ghost use Rattle.wire_msgs.specs.Found.{find, nth};
+ghost use Rattle.container_grants.specs.Granted.{actions_of, asked_by, claims_if, installed_by, installed_each, ready};
+ghost use Rattle.container_grants.specs.Granted.{sent_by, told_frame, told_frames, told_space, told_space_in};
+ghost use Rattle.message_values.specs.Found.{find, nth};
 
 use container_checks::frames::Frames;
 use container_checks::lookups::place_object;
@@ -17,10 +20,10 @@ use container_links::requests::{Request, add_action, prepare_one};
 use container_model::answer::Action;
 use container_model::grants::Tells;
 use container_model::record::{Frame, Link};
-use grant_core::{Claim, FrameUi, GrantFault, GrantState};
+use message_values::items::Items;
+use message_values::operation::Operation;
+use object_state::{Claim, FrameUi, GrantFault, GrantState};
 use std::alloc::{AllocError, Global};
-use wire_msgs::items::Items;
-use wire_msgs::operation::Operation;
 
 /// All that is needed to tell an object of its grant.
 #[derive(Drop)]
@@ -80,8 +83,8 @@ fn tell(frame: &mut Frame, told: Tells) -> bool
     }
 }
 
-/// What an answer of an object tells of its frame's grant moves it. Whether the object got the frame without border space. It
-/// takes no memory.
+/// What an answer of an object tells of its frame's grant moves it. Whether the object got the frame without border
+/// space. It takes no memory.
 pub fn tell_frame(frames: &mut Frames, f: u32, told: Option<Tells>) -> bool
     ensures frames { frames.new ≡ told_frames f told frames.old }
     ensures len { length frames.new ≡ length frames.old }
@@ -133,7 +136,8 @@ pub fn prepare_waiting(
     objects: &Objects,
 ) -> Result<Vec<Granted>, AllocError>
     requires { All HasNumber objects.now.list.items }
-    ensures ready { IfOk result (λ v. v.items ≡ map (ready objects.now.list.items) (claims_if gives (nth frames.now f))) }
+    ensures ready { IfOk result (λ v. v.items ≡ map (ready objects.now.list.items)
+        (claims_if gives (nth frames.now f))) }
     ensures few { IfOk result (λ v. vec_len v ≤ 1) }
     ensures refused { OnErr result (is_some gives ≡ true) }
 {
@@ -164,8 +168,8 @@ fn take_grant(objects: &mut Objects, object: u32, takes: Prepared)
     }
 }
 
-/// Objects take up what was prepared for them, one after the other, and what is sent then is added to actions that have room for
-/// it. It takes no memory.
+/// Objects take up what was prepared for them, one after the other, and what is sent then is added to actions that have
+/// room for it. It takes no memory.
 pub fn take_grants(objects: &mut Objects, actions: &mut Vec<Action>, grants: Vec<Granted>)
     requires { vec_len actions.old + vec_len grants ≤ vec_capacity actions.old }
     ensures objects { objects.new.list.items ≡ installed_each grants.items objects.old.list.items }
@@ -234,7 +238,8 @@ fn passed_to(before: GrantState, later: GrantState) -> Option<Claim>
 // What objects of a server that has ended have of a frame is lost, first who waits. Who gets the frame then.
 fn free(inc: u32, objects: &Objects, ui: &mut FrameUi) -> Option<Claim>
     ensures freed { ui.new ≡ freed inc objects.now.list.items ui.old }
-    ensures passed { option_to_list result ≡ passed_to (unwaited inc objects.now.list.items ui.old).state (freed inc objects.now.list.items ui.old).state }
+    ensures passed { option_to_list result ≡ passed_to (unwaited inc objects.now.list.items ui.old).state
+        (freed inc objects.now.list.items ui.old).state }
 {
     let who = ui.state().who();
     let waiting = ui.state().waiting();
@@ -254,7 +259,8 @@ pub fn prepare_freed(
     objects: &Objects,
 ) -> Result<Vec<Granted>, AllocError>
     requires { All HasNumber objects.now.list.items }
-    ensures ready { IfOk result (λ v. v.items ≡ map (ready objects.now.list.items) (freed_claims inc objects.now.list.items frames.now)) }
+    ensures ready { IfOk result (λ v. v.items ≡ map (ready objects.now.list.items)
+        (freed_claims inc objects.now.list.items frames.now)) }
     ensures few { IfOk result (λ v. vec_len v ≤ length frames.now) }
 {
     let mut grants = Vec::new(alloc);

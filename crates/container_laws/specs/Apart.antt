@@ -1,10 +1,10 @@
 -- What a message on the link of one server leaves of all that isn't that server's.
 use Rattle.std.specs.Prelude.{◌≡◌, ◌++◌, ℕ, Bool, false, List, Option, Some, None, Ok}
-use Rattle.wire_msgs.specs.Found.{find, nth}
-use Rattle.wire_msgs.specs.declared.message.Message.{Message}
-use Rattle.wire_msgs.specs.declared.operation.Operation.{Operation}
-use Rattle.grant_core.specs.Grants.{who}
-use Rattle.grant_core.specs.declared.grant_states.Claim.{Claim}
+use Rattle.message_values.specs.Found.{find, nth}
+use Rattle.message_values.specs.declared.message.Message.{Message}
+use Rattle.message_values.specs.declared.operation.Operation.{Operation}
+use Rattle.object_state.specs.Grants.{who}
+use Rattle.object_state.specs.declared.grant_states.Claim.{Claim}
 use Rattle.container_model.specs.declared.record.Link.{Link}
 use Rattle.container_model.specs.declared.server_link.ServerLink.{ServerLink}
 use Rattle.container_model.specs.declared.record.Object.{Object}
@@ -12,11 +12,11 @@ use Rattle.container_model.specs.declared.record.Frame.{Frame}
 use Rattle.container_model.specs.Grants.{is_hosted, is_hosted_object}
 use Rattle.container_model.specs.Messages.{on_message}
 use Rattle.container_model.specs.Record.{Record, Took, is_object}
-use Rattle.container_steady.specs.Steady.{Steady}
+use Rattle.container_queues.specs.Steady.{Steady}
 
--- An activation stays the same one, of the same server, in the same states of storage and window, with the same storage grant,
--- number of the last write and content of the present save. It may be asked more, behind what it was asked before: a
--- pending call stays the pending one, under its number, and what waits goes on waiting, in its order.
+-- An activation stays the same one, of the same server, in the same states of storage and window, with the same storage
+-- grant, number of the last write and content of the present save. It may be asked more, behind what it was asked
+-- before: a pending call stays the pending one, under its number, and what waits goes on waiting, in its order.
 pub record KeepsActivation (l later : Link) : Type 0 where
   pub inc : later.inc ≡ l.inc
   pub act : later.act ≡ l.act
@@ -46,12 +46,16 @@ abbrev pub is_of_server : ℕ → List Object → Option Claim → Bool
 is_of_server inc os None = false
 is_of_server inc os (Some holder) = is_hosted_object inc (find (is_object holder.object) os)
 
--- From one record to another, the objects stay that this server doesn't run, and the frames that none of its objects has, is
--- to get or is to give up.
+-- From one record to another, the objects stay that this server doesn't run, and the frames that none of its objects
+-- has, is to get or is to give up.
 pub record StaysApart (inc : ℕ) (r later : Record) : Type 0 where
-  pub objects : (n : ℕ) (o : Object) → find (is_object n) r.objects ≡ Some o → is_hosted inc o.link ≡ false → (p : Object) × (find (is_object n) later.objects ≡ Some p) × KeepsObject o p
-  pub frames : (f : ℕ) (frame : Frame) → nth r.frames f ≡ Some frame → is_of_server inc r.objects (who frame.ui.state) ≡ false → (g : Frame) × (nth later.frames f ≡ Some g) × KeepsFrame frame g
+  pub objects : (n : ℕ) (o : Object) → find (is_object n) r.objects ≡ Some o → is_hosted inc o.link ≡ false
+      → (p : Object) × (find (is_object n) later.objects ≡ Some p) × KeepsObject o p
+  pub frames : (f : ℕ) (frame : Frame) → nth r.frames f ≡ Some frame
+      → is_of_server inc r.objects (who frame.ui.state) ≡ false → (g : Frame) × (nth later.frames f ≡ Some g)
+      × KeepsFrame frame g
 
 -- Whatever comes on the link of a server, true or forged, stays apart from what isn't that server's.
 abbrev pub MessagesStayApart : Type 0
-MessagesStayApart = (r : Record) (link : ServerLink) (m : Message) (t : Took) → Steady r → on_message r link m ≡ Ok t → StaysApart link.inc r t.rec
+MessagesStayApart = (r : Record) (link : ServerLink) (m : Message) (t : Took) → Steady r
+    → on_message r link m ≡ Ok t → StaysApart link.inc r t.rec

@@ -1,10 +1,11 @@
 -- What a commit counts, and whom it tells.
-use Rattle.std.specs.Prelude.{◌≡◌, ◌≢◌, ◌⊎◌, ◌+◌, ◌==◌, ◌++◌, ℕ, true, is_some, List, [], ◌∷◌, map, Option, Some, None, Ok, if◌then◌else◌}
+use Rattle.std.specs.Prelude.{◌≡◌, ◌≢◌, ◌⊎◌, ◌+◌, ◌==◌, ◌++◌, ℕ, true, is_some, List, [], ◌∷◌, map, Option, Some, None}
+use Rattle.std.specs.Prelude.{Ok, if◌then◌else◌}
 use Rattle.std.specs.List.{All}
-use Rattle.wire_msgs.specs.Found.{nth}
-use Rattle.wire_msgs.specs.declared.operation.Operation.TheVariants.{SaveCompleted}
+use Rattle.message_values.specs.Found.{nth}
+use Rattle.message_values.specs.declared.operation.Operation.TheVariants.{SaveCompleted}
 use Rattle.object_state.specs.declared.persist_states.PersistState.TheVariants.{HandsOff}
-use Rattle.stored_streams.specs.declared.stored.Stored.{Stored}
+use Rattle.tree_streams.specs.declared.stored.Stored.{Stored}
 use Rattle.container_model.specs.declared.record.Link.{Link}
 use Rattle.container_model.specs.declared.record.Object.{Object}
 use Rattle.container_model.specs.declared.record.Frame.{Frame}
@@ -36,7 +37,8 @@ pub record IsPart (f : ℕ) (o : Object) (p : Part) : Type 0 where
 pub data AreParts (f : ℕ) : List Object → List Part → Type 0 where
   none : AreParts f [] []
   other : (o : Object) (os : List Object) (ps : List Part) → o.frame ≢ f → AreParts f os ps → AreParts f (o ∷ os) ps
-  one : (o : Object) (os : List Object) (p : Part) (ps : List Part) → IsPart f o p → AreParts f os ps → AreParts f (o ∷ os) (p ∷ ps)
+  one : (o : Object) (os : List Object) (p : Part) (ps : List Part) → IsPart f o p → AreParts f os ps
+      → AreParts f (o ∷ os) (p ∷ ps)
 
 -- what a frame's objects are while they are passive
 abbrev pub stored_part : Object → Part
@@ -54,11 +56,14 @@ IsCommit r f t = (commit_done r f ≡ Ok t) ⊎ (resolve r f true ≡ Ok t)
 abbrev pub counted_part : ℕ → Part → Done
 counted_part k p = record { object = p.object; k = k; content = p.content }
 
--- A commit writes a document of the frame's session, or of the one that its save raises it to. It counts the frame's objects
--- with what each gave, under the number of the frame's save, and nothing else; after it their work contents are what was counted.
+-- A commit writes a document of the frame's session, or of the one that its save raises it to. It counts the frame's
+-- objects with what each gave, under the number of the frame's save, and nothing else; after it their work contents are
+-- what was counted.
 abbrev pub CommitCounts : Type 0
 CommitCounts = (r : Record) (f : ℕ) (t : Took) → IsCommit r f t
-    → (frame : Frame) × (nth r.frames f ≡ Some frame) × (d : FrameDocument) × (image r f ≡ Ok d) × (d.session ≡ session_after frame.session frame.raised) × AreParts f r.objects d.parts × (t.counted ≡ map (counted_part frame.k) d.parts) × (stored_parts f t.rec.objects ≡ d.parts)
+    → (frame : Frame) × (nth r.frames f ≡ Some frame) × (d : FrameDocument) × (image r f ≡ Ok d)
+    × (d.session ≡ session_after frame.session frame.raised) × AreParts f r.objects d.parts
+    × (t.counted ≡ map (counted_part frame.k) d.parts) × (stored_parts f t.rec.objects ≡ d.parts)
 
 -- the activations of a frame that have no pending call
 abbrev pub free_link : Option Link → List Link
@@ -76,10 +81,11 @@ telling frame l = Send (call l (l.last + 1) (SaveCompleted frame.k (is_some_name
 -- A commit asks for one call to each activation of the frame that has no pending one, and for nothing else.
 abbrev pub CommitTells : Type 0
 CommitTells = (r : Record) (f : ℕ) (t : Took) → IsCommit r f t
-    → (frame : Frame) × (nth r.frames f ≡ Some frame) × (t.answer.actions ≡ map (telling frame) (free_links f r.objects))
+    → (frame : Frame) × (nth r.frames f ≡ Some frame)
+    × (t.answer.actions ≡ map (telling frame) (free_links f r.objects))
 
--- A save goes on to its commit only when each object of the frame that isn't passive has answered its content; under another
--- name, it asks for storages only then, and goes on to its commit only when each was given away.
+-- A save goes on to its commit only when each object of the frame that isn't passive has answered its content; under
+-- another name, it asks for storages only then, and goes on to its commit only when each was given away.
 abbrev pub HasAnswered : ℕ → Object → Type 0
 HasAnswered f o = o.frame ≡ f → (l : Link) → o.link ≡ Some l → (c : Stored) × (l.saved ≡ Some c)
 
@@ -87,8 +93,11 @@ abbrev pub HasGivenAway : ℕ → Object → Type 0
 HasGivenAway f o = o.frame ≡ f → (l : Link) → o.link ≡ Some l → l.states.persist.state ≡ HandsOff
 
 abbrev pub SaveWaits : Type 0
-SaveWaits = (f : ℕ) (os : List Object) (frame : Frame) → (settled_frame f os frame).phase ≡ Committing → frame.phase ≢ Committing
-    → ((frame.phase ≡ Saving) × (frame.asked ≡ None) × All (HasAnswered f) os) ⊎ ((frame.phase ≡ HandingOff) × All (HasGivenAway f) os)
+SaveWaits = (f : ℕ) (os : List Object) (frame : Frame) → (settled_frame f os frame).phase ≡ Committing
+    → frame.phase ≢ Committing
+    → ((frame.phase ≡ Saving) × (frame.asked ≡ None) × All (HasAnswered f) os)
+    ⊎ ((frame.phase ≡ HandingOff) × All (HasGivenAway f) os)
 
 abbrev pub HandOffWaits : Type 0
-HandOffWaits = (f : ℕ) (os : List Object) (frame : Frame) → hands_off f os frame ≡ true → (frame.phase ≡ Saving) × (is_some frame.asked ≡ true) × All (HasAnswered f) os
+HandOffWaits = (f : ℕ) (os : List Object) (frame : Frame) → hands_off f os frame ≡ true → (frame.phase ≡ Saving)
+    × (is_some frame.asked ≡ true) × All (HasAnswered f) os

@@ -1,6 +1,9 @@
 //! Laws above the steps of a container. Each function is empty: its contract is the law, which is proved.
 
-ghost use Rattle.container_laws.specs.Laws.{EarlierSessionsAreStale, FreedByHolders, OnlyExpectedMessages, OtherAsksAreStale, OtherServersAreRefused, OtherWritesAreStale, OthersAreStale, ReapsEndTheirs, ReapsKeepOthers, WritesAreKept, MessagesKeepOthers};
+ghost use Rattle.container_laws.specs.Laws.{EarlierSessionsAreStale, FreedByHolders, OnlyExpectedMessages};
+ghost use Rattle.container_laws.specs.Laws.{OtherAsksAreStale, OtherServersAreRefused, OtherWritesAreStale};
+ghost use Rattle.container_laws.specs.Laws.{OthersAreStale, ReapsEndTheirs, ReapsKeepOthers, WritesAreKept};
+ghost use Rattle.container_laws.specs.Laws.{MessagesKeepOthers};
 
 /// Only the reply to a pending call moves a record, by its number, or a write under the storage grant that the record
 /// holds open, or an ask of whoever holds its frame: by its activation, and on the link of its server.
@@ -29,26 +32,28 @@ pub fn writes_are_kept()
     ensures { WritesAreKept }
 {}
 
-/// A message on the link of another server is refused, and so changes nothing: of another incarnation, or of another session.
+/// A message on the link of another server is refused, and so changes nothing: of another incarnation, or of another
+/// session.
 pub fn other_servers_are_refused()
     ensures { OtherServersAreRefused }
 {}
 
-/// On the link of a server of another session than the container's, whatever this server says is stale, and so changes nothing.
+/// On the link of a server of another session than the container's, whatever this server says is stale, and so changes
+/// nothing.
 pub fn earlier_sessions_are_stale()
     ensures { EarlierSessionsAreStale }
 {}
 
-/// Where a record is steady, a message leaves the objects as they are that don't have its activation, but for one that waited
-/// for its frame, which is told of its grant, and those of a frame that is saved under another name, which are asked for their
-/// storages.
+/// Where a record is steady, a message leaves the objects as they are that don't have its activation, but for one that
+/// waited for its frame, which is told of its grant, and those of a frame that is saved under another name, which are
+/// asked for their storages.
 pub fn messages_keep_others()
     ensures { MessagesKeepOthers }
 {}
 
 /// Where a record is steady, the end of a server leaves the objects of other servers as they are, but for those that
-/// waited for their frames, which are told of their grants, and those of frames that are saved under other names, which are asked
-/// for their storages.
+/// waited for their frames, which are told of their grants, and those of frames that are saved under other names, which
+/// are asked for their storages.
 pub fn reaps_keep_others()
     ensures { ReapsKeepOthers }
 {}
@@ -59,8 +64,8 @@ pub fn reaps_end_theirs()
     ensures { ReapsEndTheirs }
 {}
 
-/// Where a record is steady, a frame is given up by its holder's own answer alone, once it was told to: no other message
-/// changes who has the frame or is to get it.
+/// Where a record is steady, a frame is given up by its holder's own answer alone, once it was told to: no other
+/// message changes who has the frame or is to get it.
 pub fn freed_by_holders()
     ensures { FreedByHolders }
 {}

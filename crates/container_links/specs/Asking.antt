@@ -1,6 +1,7 @@
 -- An operation that is asked of all objects of a frame: all memory is taken first, then the objects change.
-use Rattle.std.specs.Prelude.{◌++◌, ◌+◌, ◌==◌, ◌≡◌, ◌≤◌, List, [], ◌∷◌, None, Option, Some, if◌then◌else◌, length, map, ℕ}
-use Rattle.wire_msgs.specs.declared.operation.Operation.{Operation}
+use Rattle.std.specs.Prelude.{◌++◌, ◌+◌, ◌==◌, ◌≡◌, ◌≤◌, List, [], ◌∷◌, None, Option, Some, if◌then◌else◌, length, map}
+use Rattle.std.specs.Prelude.{ℕ}
+use Rattle.message_values.specs.declared.operation.Operation.{Operation}
 use Rattle.container_model.specs.declared.answer.Action.{Action}
 use Rattle.container_model.specs.declared.answer.Action.TheVariants.{Send}
 use Rattle.container_links.specs.declared.asking.Prepared.{Prepared}
@@ -51,7 +52,8 @@ installed_all (p ∷ ps) [] = []
 installed_all (p ∷ ps) (o ∷ os) = installed p o ∷ installed_all ps os
 
 -- what is sent, and what the objects take up
-pub record IsAsking (f : ℕ) (op : Operation) (os : List Object) (actions : List Action) (ps : List Prepared) : Type 0 where
+pub record IsAsking (f : ℕ) (op : Operation) (os : List Object) (actions : List Action) (ps : List Prepared) : Type
+    0 where
   pub sent : actions ≡ sends (asked_all f op os)
   pub few : length actions ≤ length os
   pub takes : ps ≡ map (prepared f op) os

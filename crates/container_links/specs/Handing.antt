@@ -1,7 +1,7 @@
 -- What an activation takes up that is asked for its storage as its content is answered.
 use Rattle.std.specs.Prelude.{◌+◌, ◌++◌, ◌||◌, ℕ, Bool, false, List, [], ◌∷◌, Option, Some, Result, Ok, Err, drop, take}
-use Rattle.wire_msgs.specs.declared.operation.Operation.{Operation}
-use Rattle.wire_msgs.specs.declared.operation.Operation.TheVariants.{HandsOff}
+use Rattle.message_values.specs.declared.operation.Operation.{Operation}
+use Rattle.message_values.specs.declared.operation.Operation.TheVariants.{HandsOff}
 use Rattle.container_model.specs.declared.answer.Action.{Action}
 use Rattle.container_model.specs.declared.answer.Action.TheVariants.{Send}
 use Rattle.container_model.specs.declared.record.Link.{Link}
@@ -14,7 +14,8 @@ use Rattle.container_model.specs.Saves.{awaits}
 use Rattle.container_links.specs.declared.asking.Prepared.{Prepared}
 use Rattle.container_links.specs.declared.asking.Prepared.TheVariants.{Now, Behind}
 
--- once its pending call is answered, the first operation that waits is called, if one does; the storage is asked for behind it
+-- once its pending call is answered, the first operation that waits is called, if one does; the storage is asked for
+-- behind it
 abbrev pub next_prepared_at : Link → List Operation → Prepared
 next_prepared_at l [] = Now (l.last + 1) HandsOff
 next_prepared_at l (op ∷ ops) = Behind (ops ++ HandsOff ∷ [])

@@ -1,20 +1,21 @@
 //! Operations that are asked of objects.
 
-ghost use Rattle.std.specs.Prelude.{◌++◌, ◌+◌, ◌<◌, ◌≡◌, ◌≤◌, All, IfOk, OnErr, OnOk, [], ◌∷◌, length, map, option_to_list, vec_capacity, vec_len, ℕ};
+ghost use Rattle.std.specs.Prelude.{◌++◌, ◌+◌, ◌<◌, ◌≡◌, ◌≤◌, All, IfOk, OnErr, OnOk, [], ◌∷◌, length, map};
+ghost use Rattle.std.specs.Prelude.{option_to_list, vec_capacity, vec_len, ℕ};
 ghost use Rattle.container_links.specs.Asking.{HasNumber, IsAsking, installed, prepared};
 ghost use Rattle.container_model.specs.Record.{ask, asked_all, asked_link, asked_object, asked_sent, call, sends};
 ghost use Rattle.container_model.specs.Room.{IfLinked};
 ghost use Rattle.container_model.specs.declared.answer.Action.TheVariants.{Send};
-ghost use Rattle.wire_msgs.specs.declared.operation.Operation.{Operation};
+ghost use Rattle.message_values.specs.declared.operation.Operation.{Operation};
 
 use crate::calling::call;
 use container_model::answer::Action;
 use container_model::record::{Link, Object};
+use message_values::items::Items;
+use message_values::message::Message;
+use message_values::operation::Operation;
 use std::alloc::{AllocError, Global};
 use std::mem;
-use wire_msgs::items::Items;
-use wire_msgs::message::Message;
-use wire_msgs::operation::Operation;
 
 // Asks an activation for an operation: at once where none is pending, else behind those that wait. The message that is
 // sent, if any.
@@ -61,8 +62,8 @@ fn ask_link(
     Ok(Items::from_vec(actions))
 }
 
-/// An object is asked for an operation: at once where none is pending, else behind those that wait; a passive one isn't asked.
-/// What is to be sent.
+/// An object is asked for an operation: at once where none is pending, else behind those that wait; a passive one isn't
+/// asked. What is to be sent.
 ///
 /// Refused for want of memory alone. Then nothing changes.
 pub fn ask_object(
@@ -229,7 +230,8 @@ pub(crate) fn copied(alloc: Global, operations: &[Operation]) -> Result<Vec<Oper
 /// The objects take up what was prepared for them. It takes no memory.
 pub fn take_up(objects: &mut Vec<Object>, takes: Vec<Prepared>)
     requires { vec_len takes ≡ length objects.old.items }
-    ensures { (f : ℕ) (op : Operation) → takes.items ≡ map (prepared f op) objects.old.items → objects.new.items ≡ map (asked_object f op) objects.old.items }
+    ensures { (f : ℕ) (op : Operation) → takes.items ≡ map (prepared f op) objects.old.items
+        → objects.new.items ≡ map (asked_object f op) objects.old.items }
 {
     install_all(objects, takes);
 }
@@ -237,7 +239,8 @@ pub fn take_up(objects: &mut Vec<Object>, takes: Vec<Prepared>)
 // The same in a slice.
 fn install_all(objects: &mut [Object], takes: Vec<Prepared>)
     requires { vec_len takes ≡ length objects.old }
-    ensures { (f : ℕ) (op : Operation) → takes.items ≡ map (prepared f op) objects.old → objects.new ≡ map (asked_object f op) objects.old }
+    ensures { (f : ℕ) (op : Operation) → takes.items ≡ map (prepared f op) objects.old
+        → objects.new ≡ map (asked_object f op) objects.old }
 {
     let mut takes = takes;
     for (i, object) in objects.iter_mut().enumerate() {

@@ -4,10 +4,11 @@ ghost use Rattle.std.specs.Prelude.{◌≡◌};
 ghost use Rattle.container_model.specs.Record.{call};
 
 use container_model::record::Link;
-use wire_msgs::message::{Message, Said};
-use wire_msgs::operation::Operation;
+use message_values::message::{Message, Said};
+use message_values::operation::Operation;
 
-/// The call of this number that asks an activation for an operation, in the session of its server. Every call is made by it.
+/// The call of this number that asks an activation for an operation, in the session of its server. Every call is made
+/// by it.
 pub fn call(link: &Link, n: u32, operation: Operation) -> Message
     ensures { result ≡ call link.now n operation }
 {

@@ -1,6 +1,7 @@
 //! Activations that are asked for several operations, one after the other: all memory is taken first, then they change.
 
-ghost use Rattle.std.specs.Prelude.{◌≡◌, ◌+◌, ◌<◌, ◌≤◌, ◌++◌, ◌∷◌, [], IfOk, OnErr, OnOk, length, map, option_to_list, vec_capacity, vec_len};
+ghost use Rattle.std.specs.Prelude.{◌≡◌, ◌+◌, ◌<◌, ◌≤◌, ◌++◌, ◌∷◌, [], IfOk, OnErr, OnOk, length, map, option_to_list};
+ghost use Rattle.std.specs.Prelude.{vec_capacity, vec_len};
 ghost use Rattle.container_links.specs.Asking.{stepped_by};
 ghost use Rattle.container_model.specs.Record.{ask_each, sends};
 ghost use Rattle.container_model.specs.Verbs.{operation_of};
@@ -10,10 +11,10 @@ use crate::calling::call;
 use crate::requests::add_action;
 use container_model::answer::Action;
 use container_model::record::Link;
+use message_values::items::Items;
+use message_values::operation::Operation;
 use object_state::Step;
 use std::alloc::{AllocError, Global};
-use wire_msgs::items::Items;
-use wire_msgs::operation::Operation;
 
 // The operation of a step, under a grant where it takes one.
 fn operation_of(g: u32, step: Step) -> Operation
@@ -64,8 +65,9 @@ pub struct Stepped {
     pub action: Option<Action>,
 }
 
-/// Takes the memory to ask an activation for the operations of these steps, one after the other: the first at once where
-/// none is pending, the others behind those that wait. A step that takes the frame's menus takes them under this grant.
+/// Takes the memory to ask an activation for the operations of these steps, one after the other: the first at once
+/// where none is pending, the others behind those that wait. A step that takes the frame's menus takes them under this
+/// grant.
 ///
 /// Refused for want of memory alone.
 pub fn prepare_steps(
@@ -75,8 +77,10 @@ pub fn prepare_steps(
     steps: &[Step],
 ) -> Result<Stepped, AllocError>
     requires { link.now.last ≤ 1000000 }
-    ensures asked { IfOk result (λ s. stepped_by s.first s.waiting link.now ≡ (ask_each link.now (map (operation_of g) steps.now)).link) }
-    ensures sent { IfOk result (λ s. option_to_list s.action ≡ sends (ask_each link.now (map (operation_of g) steps.now)).sent) }
+    ensures asked { IfOk result (λ s. stepped_by s.first s.waiting link.now
+        ≡ (ask_each link.now (map (operation_of g) steps.now)).link) }
+    ensures sent { IfOk result (λ s. option_to_list s.action
+        ≡ sends (ask_each link.now (map (operation_of g) steps.now)).sent) }
 {
     if link.pending.is_some() {
         return Ok(Stepped {
@@ -119,8 +123,9 @@ pub fn take_up_steps(link: &mut Link, stepped: Stepped) -> Option<Action>
     action
 }
 
-/// Asks an activation for the operations of these steps, one after the other: the first at once where none is pending, the
-/// others behind those that wait. A step that takes the frame's menus takes them under this grant. What is to be sent.
+/// Asks an activation for the operations of these steps, one after the other: the first at once where none is pending,
+/// the others behind those that wait. A step that takes the frame's menus takes them under this grant. What is to be
+/// sent.
 ///
 /// Refused for want of memory alone. Then nothing changes.
 pub fn ask_steps(

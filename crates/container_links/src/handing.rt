@@ -1,14 +1,16 @@
-//! A frame that is saved under another name asks for its objects' storages: all memory is taken first, then they change.
+//! A frame that is saved under another name asks for its objects' storages: all memory is taken first, then they
+//! change.
 
-ghost use Rattle.std.specs.Prelude.{◌≡◌, ◌+◌, ◌≤◌, ◌<◌, ◌++◌, All, IfOk, IfSome, None, Some, length, map, slice_get, slice_set, vec_capacity, vec_len};
+ghost use Rattle.std.specs.Prelude.{◌≡◌, ◌+◌, ◌≤◌, ◌<◌, ◌++◌, All, IfOk, IfSome, None, Some, length, map, slice_get};
+ghost use Rattle.std.specs.Prelude.{slice_set, vec_capacity, vec_len};
 ghost use Rattle.container_links.specs.Asking.{HasNumber, installed_link, prepared, prepared_link};
 ghost use Rattle.container_links.specs.Handing.{answers, awaits_but, call_by, calls_by, next_prepared};
 ghost use Rattle.container_model.specs.HandOffs.{handing_frame, hands_off_at};
 ghost use Rattle.container_model.specs.Messages.{replied_fitting, reply_link};
 ghost use Rattle.container_model.specs.Record.{asked_all, asked_object, sends};
 ghost use Rattle.container_model.specs.Room.{IfLinked};
-ghost use Rattle.wire_msgs.specs.declared.answer.Answer.TheVariants.{Content};
-ghost use Rattle.wire_msgs.specs.declared.operation.Operation.TheVariants.{HandsOff};
+ghost use Rattle.message_values.specs.declared.answer.Answer.TheVariants.{Content};
+ghost use Rattle.message_values.specs.declared.operation.Operation.TheVariants.{HandsOff};
 
 use crate::asking::{Prepared, copied, take_up, takes};
 use crate::calling::call;
@@ -16,12 +18,12 @@ use crate::settling::awaits;
 use crate::turns::{WhenContent, when_content};
 use container_model::answer::Action;
 use container_model::record::{Frame, Link, Object, Phase};
-use object_parts::limits::is_within;
+use message_values::answer::Answer;
+use message_values::items::Items;
+use message_values::operation::Operation;
 use std::alloc::{AllocError, Global};
-use stored_streams::stored::Stored;
-use wire_msgs::answer::Answer;
-use wire_msgs::items::Items;
-use wire_msgs::operation::Operation;
+use tree_streams::limits::is_within;
+use tree_streams::stored::Stored;
 
 /// Whether an answer to the call of this number is the content that was asked for in the present save, and is taken.
 pub fn is_content(link: &Option<Link>, n: u32, answer: &Answer) -> bool
@@ -49,7 +51,8 @@ pub fn is_content(link: &Option<Link>, n: u32, answer: &Answer) -> bool
 
 // The same of a content, where this operation is pending and no content was answered yet.
 fn is_saved(link: &Link, operation: &Operation, content: &Stored) -> bool
-    ensures { link.now.saved ≡ None → result ≡ answers (Some link.now) (replied_fitting link.now operation.now (Content content.now)) }
+    ensures { link.now.saved ≡ None → result ≡ answers (Some link.now)
+        (replied_fitting link.now operation.now (Content content.now)) }
 {
     match when_content(operation) {
         WhenContent::Saved => is_within(content) && link.states.step(operation.op()).is_ok(),
@@ -94,8 +97,8 @@ fn take_next(alloc: Global, link: &Link) -> Result<Prepared, AllocError>
     Ok(Prepared::Behind(Items::from_vec(out)))
 }
 
-/// Takes the memory to ask the objects of a frame for their storages, once the object that stands here has answered its pending
-/// call.
+/// Takes the memory to ask the objects of a frame for their storages, once the object that stands here has answered its
+/// pending call.
 ///
 /// Refused for want of memory alone.
 pub fn prepare_after(
@@ -106,7 +109,9 @@ pub fn prepare_after(
 ) -> Result<Vec<Prepared>, AllocError>
     requires numbers { All HasNumber objects.now }
     requires place { place < length objects.now }
-    ensures { IfOk result (λ v. IfSome (slice_get objects.now place) (λ o. IfSome o.link (λ l. v.items ≡ slice_set (map (prepared frame HandsOff) objects.now) place (next_prepared l)))) }
+    ensures { IfOk result (λ v. IfSome (slice_get objects.now place)
+        (λ o. IfSome o.link (λ l. v.items ≡ slice_set (map (prepared frame HandsOff) objects.now) place
+        (next_prepared l)))) }
 {
     let mut out = takes(alloc, frame, &Operation::HandsOff, objects)?;
     if let Some(link) = &objects[place].link {
@@ -159,8 +164,10 @@ pub fn hand_off(
     requires room { vec_len actions.old + length objects.old.items ≤ vec_capacity actions.old }
     requires len { vec_len takes ≡ length objects.old.items }
     ensures frame { frame.new ≡ handing_frame frame.old }
-    ensures objects { takes.items ≡ map (prepared number HandsOff) objects.old.items → objects.new.items ≡ map (asked_object number HandsOff) objects.old.items }
-    ensures asked { takes.items ≡ map (prepared number HandsOff) objects.old.items → actions.new.items ≡ actions.old.items ++ sends (asked_all number HandsOff objects.old.items) }
+    ensures objects { takes.items ≡ map (prepared number HandsOff) objects.old.items
+        → objects.new.items ≡ map (asked_object number HandsOff) objects.old.items }
+    ensures asked { takes.items ≡ map (prepared number HandsOff) objects.old.items
+        → actions.new.items ≡ actions.old.items ++ sends (asked_all number HandsOff objects.old.items) }
     ensures few { vec_len actions.new ≤ vec_len actions.old + length objects.old.items }
     ensures room { vec_capacity actions.old ≤ vec_capacity actions.new }
 {

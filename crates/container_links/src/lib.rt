@@ -1,5 +1,5 @@
-//! Activations of objects as a container has them: what is asked of them, what a reply makes of them, when they may write, and
-//! how saves go on once all of a frame have answered.
+//! Activations of objects as a container has them: what is asked of them, what a reply makes of them, when they may
+//! write, and how saves go on once all of a frame have answered.
 #![tactic(auto)]
 
 pub mod asking;

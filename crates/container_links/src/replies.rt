@@ -1,14 +1,16 @@
 //! What an answer makes of an object's link, and what is called next.
 
-ghost use Rattle.std.specs.Prelude.{◌≡◌, ◌+◌, ◌≤◌, IfErr, IfOk, IfSome, OnErr, Ok, Some, None, true, length, vec_len, vec_capacity};
+ghost use Rattle.std.specs.Prelude.{◌≡◌, ◌+◌, ◌≤◌, IfErr, IfOk, IfSome, OnErr, Ok, Some, None, true, length, vec_len};
+ghost use Rattle.std.specs.Prelude.{vec_capacity};
 ghost use Rattle.object_state.specs.Both as both;
 ghost use Rattle.container_model.specs.Record.{Refuses, sends};
 ghost use Rattle.container_links.specs.Answered.{answered, is_pending};
 ghost use Rattle.container_links.specs.Relieving.{gives_up};
-ghost use Rattle.container_model.specs.Messages.{closed_with, done_link, granted_link, is_fit, lost, next_at, noted, replied, reply_link, saved_link};
+ghost use Rattle.container_model.specs.Messages.{closed_with, done_link, granted_link, is_fit, lost, next_at, noted};
+ghost use Rattle.container_model.specs.Messages.{replied, reply_link, saved_link};
 ghost use Rattle.container_model.specs.Replies.{first_call, resumed};
 ghost use Rattle.container_model.specs.Room.{IfLinked, IsRoomy};
-ghost use Rattle.wire_msgs.specs.declared.operation.Operation.TheVariants.{UiDeactivate};
+ghost use Rattle.message_values.specs.declared.operation.Operation.TheVariants.{UiDeactivate};
 
 use crate::calling::call;
 use crate::turns::{
@@ -18,14 +20,13 @@ use container_model::answer::Action;
 use container_model::fault::ContainerFault;
 use container_model::grants::Tells;
 use container_model::record::Link;
-use grant_core::Tools;
-use object_parts::limits::is_within;
-use object_state::{Op, States};
+use message_values::answer::Answer;
+use message_values::operation::Operation;
+use message_values::refusal::Refusal;
+use object_state::{Op, States, Tools};
 use std::alloc::{AllocError, Global};
-use stored_streams::stored::Stored;
-use wire_msgs::answer::Answer;
-use wire_msgs::operation::Operation;
-use wire_msgs::refusal::Refusal;
+use tree_streams::limits::is_within;
+use tree_streams::stored::Stored;
 
 /// What a reply gives.
 #[derive(Drop)]
@@ -94,7 +95,14 @@ fn done(
 ) -> Result<Replied, ContainerFault>
     requires numbers { link.old.last + length link.old.waiting ≤ 1000000 }
     requires few { more ≤ 2000001 }
-    ensures taken { IfOk result (λ t. resumed (done_link link.old s (both.step link.old.states op)) ≡ Ok (record { link = Some link.new; taken = t.taken; refused = t.refused; grant = t.grant; actions = t.actions.items })) }
+    ensures taken { IfOk result (λ t. resumed (done_link link.old s (both.step link.old.states op))
+        ≡ Ok (record {
+          link = Some link.new;
+          taken = t.taken;
+          refused = t.refused;
+          grant = t.grant;
+          actions = t.actions.items;
+        })) }
     ensures few { IfOk result (λ t. vec_len t.actions ≤ 1) }
     ensures room { IfOk result (λ t. vec_len t.actions + more ≤ vec_capacity t.actions) }
     ensures refused { IfErr result (Refuses (done_link link.old s (both.step link.old.states op))) }
@@ -127,10 +135,19 @@ fn saved(
 ) -> Result<Replied, ContainerFault>
     requires numbers { link.old.last + length link.old.waiting ≤ 1000000 }
     requires few { more ≤ 2000001 }
-    ensures taken { IfOk result (λ t. resumed (saved_link content (done_link link.old link.old.s (both.step link.old.states op))) ≡ Ok (record { link = Some link.new; taken = t.taken; refused = t.refused; grant = t.grant; actions = t.actions.items })) }
+    ensures taken { IfOk result
+        (λ t. resumed (saved_link content (done_link link.old link.old.s (both.step link.old.states op)))
+        ≡ Ok (record {
+          link = Some link.new;
+          taken = t.taken;
+          refused = t.refused;
+          grant = t.grant;
+          actions = t.actions.items;
+        })) }
     ensures few { IfOk result (λ t. vec_len t.actions ≤ 1) }
     ensures room { IfOk result (λ t. vec_len t.actions + more ≤ vec_capacity t.actions) }
-    ensures refused { IfErr result (Refuses (saved_link content (done_link link.old link.old.s (both.step link.old.states op)))) }
+    ensures refused { IfErr result
+        (Refuses (saved_link content (done_link link.old link.old.s (both.step link.old.states op)))) }
     ensures kept { OnErr result (link.new ≡ link.old) }
 {
     let s = link.s;
@@ -153,10 +170,19 @@ fn granted(
 ) -> Result<Replied, ContainerFault>
     requires numbers { link.old.last + length link.old.waiting ≤ 1000000 }
     requires few { more ≤ 2000001 }
-    ensures taken { IfOk result (λ t. resumed (granted_link told (done_link link.old link.old.s (both.step link.old.states op))) ≡ Ok (record { link = Some link.new; taken = t.taken; refused = t.refused; grant = t.grant; actions = t.actions.items })) }
+    ensures taken { IfOk result
+        (λ t. resumed (granted_link told (done_link link.old link.old.s (both.step link.old.states op)))
+        ≡ Ok (record {
+          link = Some link.new;
+          taken = t.taken;
+          refused = t.refused;
+          grant = t.grant;
+          actions = t.actions.items;
+        })) }
     ensures few { IfOk result (λ t. vec_len t.actions ≤ 1) }
     ensures room { IfOk result (λ t. vec_len t.actions + more ≤ vec_capacity t.actions) }
-    ensures refused { IfErr result (Refuses (granted_link told (done_link link.old link.old.s (both.step link.old.states op)))) }
+    ensures refused { IfErr result
+        (Refuses (granted_link told (done_link link.old link.old.s (both.step link.old.states op)))) }
     ensures kept { OnErr result (link.new ≡ link.old) }
 {
     let s = link.s;
@@ -179,7 +205,14 @@ fn noted(
 ) -> Result<Replied, ContainerFault>
     requires numbers { link.old.last + length link.old.waiting ≤ 1000000 }
     requires few { more ≤ 2000001 }
-    ensures taken { IfOk result (λ t. resumed (noted link.old why) ≡ Ok (record { link = Some link.new; taken = t.taken; refused = t.refused; grant = t.grant; actions = t.actions.items })) }
+    ensures taken { IfOk result (λ t. resumed (noted link.old why)
+        ≡ Ok (record {
+          link = Some link.new;
+          taken = t.taken;
+          refused = t.refused;
+          grant = t.grant;
+          actions = t.actions.items;
+        })) }
     ensures few { IfOk result (λ t. vec_len t.actions ≤ 1) }
     ensures room { IfOk result (λ t. vec_len t.actions + more ≤ vec_capacity t.actions) }
     ensures refused { IfErr result (Refuses (noted link.old why)) }
@@ -205,7 +238,14 @@ fn lost(
     more: usize,
 ) -> Result<Replied, ContainerFault>
     requires { more ≤ 2000001 }
-    ensures taken { IfOk result (λ t. resumed (lost why) ≡ Ok (record { link = link.new; taken = t.taken; refused = t.refused; grant = t.grant; actions = t.actions.items })) }
+    ensures taken { IfOk result (λ t. resumed (lost why)
+        ≡ Ok (record {
+          link = link.new;
+          taken = t.taken;
+          refused = t.refused;
+          grant = t.grant;
+          actions = t.actions.items;
+        })) }
     ensures few { IfOk result (λ t. vec_len t.actions ≤ 1) }
     ensures room { IfOk result (λ t. vec_len t.actions + more ≤ vec_capacity t.actions) }
     ensures refused { IfErr result (Refuses (lost why)) }
@@ -233,7 +273,14 @@ fn closed(
     more: usize,
 ) -> Result<Replied, ContainerFault>
     requires { more ≤ 2000001 }
-    ensures taken { IfOk result (λ t. resumed (closed_with content (both.step states op)) ≡ Ok (record { link = link.new; taken = t.taken; refused = t.refused; grant = t.grant; actions = t.actions.items })) }
+    ensures taken { IfOk result (λ t. resumed (closed_with content (both.step states op))
+        ≡ Ok (record {
+          link = link.new;
+          taken = t.taken;
+          refused = t.refused;
+          grant = t.grant;
+          actions = t.actions.items;
+        })) }
     ensures few { IfOk result (λ t. vec_len t.actions ≤ 1) }
     ensures room { IfOk result (λ t. vec_len t.actions + more ≤ vec_capacity t.actions) }
     ensures refused { IfErr result (Refuses (closed_with content (both.step states op))) }
@@ -278,7 +325,14 @@ fn is_pending(link: &Option<Link>, n: u32) -> bool
 fn done_told(alloc: Global, link: &mut Option<Link>, more: usize) -> Result<Replied, ContainerFault>
     requires numbers { IfLinked (IsRoomy 1000000 0) link.old }
     requires few { more ≤ 2000001 }
-    ensures taken { IfOk result (λ t. resumed (answered link.old Answer.Done) ≡ Ok (record { link = link.new; taken = t.taken; refused = t.refused; grant = t.grant; actions = t.actions.items })) }
+    ensures taken { IfOk result (λ t. resumed (answered link.old Answer.Done)
+        ≡ Ok (record {
+          link = link.new;
+          taken = t.taken;
+          refused = t.refused;
+          grant = t.grant;
+          actions = t.actions.items;
+        })) }
     ensures few { IfOk result (λ t. vec_len t.actions ≤ 1) }
     ensures room { IfOk result (λ t. vec_len t.actions + more ≤ vec_capacity t.actions) }
     ensures refused { IfErr result (Refuses (answered link.old Answer.Done)) }
@@ -310,7 +364,14 @@ fn refused_told(
 ) -> Result<Replied, ContainerFault>
     requires numbers { IfLinked (IsRoomy 1000000 0) link.old }
     requires few { more ≤ 2000001 }
-    ensures taken { IfOk result (λ t. resumed (answered link.old (Answer.Refused why)) ≡ Ok (record { link = link.new; taken = t.taken; refused = t.refused; grant = t.grant; actions = t.actions.items })) }
+    ensures taken { IfOk result (λ t. resumed (answered link.old (Answer.Refused why))
+        ≡ Ok (record {
+          link = link.new;
+          taken = t.taken;
+          refused = t.refused;
+          grant = t.grant;
+          actions = t.actions.items;
+        })) }
     ensures few { IfOk result (λ t. vec_len t.actions ≤ 1) }
     ensures room { IfOk result (λ t. vec_len t.actions + more ≤ vec_capacity t.actions) }
     ensures refused { IfErr result (Refuses (answered link.old (Answer.Refused why))) }
@@ -338,7 +399,14 @@ fn content_told(
 ) -> Result<Replied, ContainerFault>
     requires numbers { IfLinked (IsRoomy 1000000 0) link.old }
     requires few { more ≤ 2000001 }
-    ensures taken { IfOk result (λ t. resumed (answered link.old (Answer.Content content)) ≡ Ok (record { link = link.new; taken = t.taken; refused = t.refused; grant = t.grant; actions = t.actions.items })) }
+    ensures taken { IfOk result (λ t. resumed (answered link.old (Answer.Content content))
+        ≡ Ok (record {
+          link = link.new;
+          taken = t.taken;
+          refused = t.refused;
+          grant = t.grant;
+          actions = t.actions.items;
+        })) }
     ensures few { IfOk result (λ t. vec_len t.actions ≤ 1) }
     ensures room { IfOk result (λ t. vec_len t.actions + more ≤ vec_capacity t.actions) }
     ensures refused { IfErr result (Refuses (answered link.old (Answer.Content content))) }
@@ -368,7 +436,14 @@ fn tools_told(
 ) -> Result<Replied, ContainerFault>
     requires numbers { IfLinked (IsRoomy 1000000 0) link.old }
     requires few { more ≤ 2000001 }
-    ensures taken { IfOk result (λ t. resumed (answered link.old (Answer.Tools tools.menus tools.border)) ≡ Ok (record { link = link.new; taken = t.taken; refused = t.refused; grant = t.grant; actions = t.actions.items })) }
+    ensures taken { IfOk result (λ t. resumed (answered link.old (Answer.Tools tools.menus tools.border))
+        ≡ Ok (record {
+          link = link.new;
+          taken = t.taken;
+          refused = t.refused;
+          grant = t.grant;
+          actions = t.actions.items;
+        })) }
     ensures few { IfOk result (λ t. vec_len t.actions ≤ 1) }
     ensures room { IfOk result (λ t. vec_len t.actions + more ≤ vec_capacity t.actions) }
     ensures refused { IfErr result (Refuses (answered link.old (Answer.Tools tools.menus tools.border))) }
@@ -390,8 +465,8 @@ fn tools_told(
 /// The answer to the call of this number; then the first operation that waits is called. The actions have room for so
 /// many more.
 ///
-/// Refused as stale unless the call is pending, as a bad answer if its content is past what may be stored or it doesn't fit
-/// the operation or its states, and last for want of memory. Then nothing changes.
+/// Refused as stale unless the call is pending, as a bad answer if its content is past what may be stored or it doesn't
+/// fit the operation or its states, and last for want of memory. Then nothing changes.
 pub fn told(
     alloc: Global,
     link: &mut Option<Link>,
@@ -401,7 +476,14 @@ pub fn told(
 ) -> Result<Replied, ContainerFault>
     requires numbers { IfLinked (IsRoomy 1000000 0) link.old }
     requires few { more ≤ 2000001 }
-    ensures taken { IfOk result (λ t. resumed (reply_link n answer link.old) ≡ Ok (record { link = link.new; taken = t.taken; refused = t.refused; grant = t.grant; actions = t.actions.items })) }
+    ensures taken { IfOk result (λ t. resumed (reply_link n answer link.old)
+        ≡ Ok (record {
+          link = link.new;
+          taken = t.taken;
+          refused = t.refused;
+          grant = t.grant;
+          actions = t.actions.items;
+        })) }
     ensures few { IfOk result (λ t. vec_len t.actions ≤ 1) }
     ensures room { IfOk result (λ t. vec_len t.actions + more ≤ vec_capacity t.actions) }
     ensures refused { IfErr result (Refuses (reply_link n answer link.old)) }
@@ -421,8 +503,8 @@ pub fn told(
     }
 }
 
-/// The activation that gives its frame up by an answer to the call of this number, as it was asked, if it does. It changes
-/// nothing.
+/// The activation that gives its frame up by an answer to the call of this number, as it was asked, if it does. It
+/// changes nothing.
 pub fn gives_up(link: &Option<Link>, n: u32, answer: &Answer) -> Option<u32>
     ensures told { result ≡ gives_up (reply_link n answer.now link.now) }
     ensures asked { IfSome result (λ act. IfSome link.now (λ l. l.pending ≡ Some UiDeactivate)) }

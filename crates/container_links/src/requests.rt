@@ -4,13 +4,13 @@ ghost use Rattle.std.specs.Prelude.{◌≡◌, ◌+◌, ◌<◌, ◌≤◌, ◌+
 ghost use Rattle.container_links.specs.Asking.{called, prepared_link};
 ghost use Rattle.container_model.specs.Record.{asked_link, asked_sent, sends};
 ghost use Rattle.container_model.specs.Room.{IfLinked};
-ghost use Rattle.wire_msgs.specs.declared.operation.Operation.{Operation};
+ghost use Rattle.message_values.specs.declared.operation.Operation.{Operation};
 
 use crate::asking::{Prepared, behind, install, next_call};
 use container_model::answer::Action;
 use container_model::record::{Link, Object};
+use message_values::operation::Operation;
 use std::alloc::{AllocError, Global};
-use wire_msgs::operation::Operation;
 
 /// All that is needed to ask one object.
 #[derive(Drop)]
@@ -22,8 +22,8 @@ pub struct Request {
 }
 
 #[tactic(auto, using(crate::proofs::AskingAll::called_sent))]
-/// Takes the memory to ask an object of this link for an operation: at once where none is pending, else behind those that
-/// wait; a passive one isn't asked.
+/// Takes the memory to ask an object of this link for an operation: at once where none is pending, else behind those
+/// that wait; a passive one isn't asked.
 ///
 /// Refused for want of memory alone.
 pub fn prepare_one(
@@ -59,7 +59,8 @@ pub fn prepare_one(
 #[tactic(auto, using(crate::proofs::AskingAll::installed_one))]
 /// An object takes up what was prepared for it. It takes no memory.
 pub fn take_up_one(object: &mut Object, takes: Prepared)
-    ensures { (op : Operation) → takes ≡ prepared_link op object.old.link → object.new ≡ record object.old { link = asked_link op object.old.link } }
+    ensures { (op : Operation) → takes ≡ prepared_link op object.old.link
+        → object.new ≡ record object.old { link = asked_link op object.old.link } }
 {
     install(object, takes);
 }

@@ -5,8 +5,8 @@ ghost use Rattle.container_model.specs.Replies.{pending_call, pending_calls};
 
 use crate::calling::call;
 use container_model::record::{Link, Object};
+use message_values::message::Message;
 use std::alloc::{AllocError, Global};
-use wire_msgs::message::Message;
 
 // The pending call of an activation, as it was first sent.
 fn pending_call(alloc: Global, link: &Option<Link>) -> Result<Option<Message>, AllocError>

@@ -1,7 +1,8 @@
 //! How saves go on once nothing is waited for.
 
 ghost use Rattle.std.specs.Prelude.{◌≡◌, ◌+◌, ◌≤◌, ◌<◌, ◌++◌, length, vec_len, vec_capacity};
-ghost use Rattle.container_model.specs.Saves.{awaits, is_awaited_link, is_away, is_keeping_link, is_ready, keeps, settled_action, settled_actions, settled_frame, settled_frames};
+ghost use Rattle.container_model.specs.Saves.{awaits, is_awaited_link, is_away, is_keeping_link, is_ready, keeps};
+ghost use Rattle.container_model.specs.Saves.{settled_action, settled_actions, settled_frame, settled_frames};
 ghost use Rattle.container_model.specs.HandOffs.{hands_off};
 
 use container_checks::frames::Frames;

@@ -3,8 +3,8 @@
 ghost use Rattle.std.specs.Prelude.{◌≡◌, ◌≤◌};
 ghost use Rattle.container_links.specs.Answered.{grant_of, when_content, when_done, when_refused};
 
+use message_values::operation::Operation;
 use object_state::CloseOption;
-use wire_msgs::operation::Operation;
 
 /// What an operation that was done makes of an activation.
 #[derive(Clone, Copy)]

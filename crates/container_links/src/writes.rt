@@ -4,7 +4,7 @@ ghost use Rattle.std.specs.Prelude.{◌≡◌};
 ghost use Rattle.container_model.specs.Messages.{awaits_save, has_save, is_open_to, is_save, is_save_pending};
 
 use container_model::record::Link;
-use wire_msgs::operation::Operation;
+use message_values::operation::Operation;
 
 // Whether an operation answers a content for a save.
 fn is_save(operation: &Operation) -> bool
@@ -45,8 +45,8 @@ pub fn awaits_save(link: &Link) -> bool
     is_save_pending(&link.pending) || has_save(link.waiting.as_slice())
 }
 
-/// Whether an activation may write now: under its present storage grant, which is open for reading and writing, while no
-/// save is asked of it, and with a number past each that was taken before.
+/// Whether an activation may write now: under its present storage grant, which is open for reading and writing, while
+/// no save is asked of it, and with a number past each that was taken before.
 pub fn is_open_to(link: &Link, s: u32, w: u32) -> bool
     ensures { result ≡ is_open_to link.now s w }
 {

@@ -1,16 +1,17 @@
 -- What a container does with a command of a user.
-use Rattle.std.specs.Prelude.{◌+◌, ◌==◌, ◌&&◌, ◌||◌, ◌++◌, ℕ, Bool, true, false, not, List, [], ◌∷◌, length, map, Option, Some, None, is_some, Result, Ok, Err, if◌then◌else◌, nat_le, nat_lt, codes}
+use Rattle.std.specs.Prelude.{◌+◌, ◌==◌, ◌&&◌, ◌||◌, ◌++◌, ℕ, Bool, true, false, not, List, [], ◌∷◌, length, map}
+use Rattle.std.specs.Prelude.{Option, Some, None, is_some, Result, Ok, Err, if◌then◌else◌, nat_le, nat_lt, codes}
 use Rattle.std.specs.Str.{bytes_eq}
-use Rattle.wire_msgs.specs.Found.{find, put, nth, set_nth}
-use Rattle.wire_msgs.specs.declared.operation.Operation.{Operation}
-use Rattle.wire_msgs.specs.declared.operation.Operation.TheVariants.{InitNew, Load, Edit, Save}
+use Rattle.message_values.specs.Found.{find, put, nth, set_nth}
+use Rattle.message_values.specs.declared.operation.Operation.{Operation}
+use Rattle.message_values.specs.declared.operation.Operation.TheVariants.{InitNew, Load, Edit, Save}
 use Rattle.object_state.specs.Both.{loaded}
-use Rattle.grant_core.specs.Frames.{fresh}
-use Rattle.grant_core.specs.declared.grant_states.GrantState.{GrantState}
-use Rattle.stored_streams.specs.declared.stored.Stored.{Stored}
-use Rattle.stored_streams.specs.declared.streams.NamedStream.{NamedStream}
-use Rattle.embed_core.specs.Kinds.{Kind, Note, Table, Drawing, class_of}
-use Rattle.object_parts.specs.declared.area.Area.{Area}
+use Rattle.object_state.specs.Frames.{fresh}
+use Rattle.object_state.specs.declared.grant_states.GrantState.{GrantState}
+use Rattle.tree_streams.specs.declared.stored.Stored.{Stored}
+use Rattle.tree_streams.specs.declared.streams.NamedStream.{NamedStream}
+use Rattle.object_core.specs.Kinds.{Kind, Note, Table, Drawing, class_of}
+use Rattle.tree_streams.specs.declared.area.Area.{Area}
 use Rattle.container_model.specs.declared.record.Link.{Link}
 use Rattle.container_model.specs.declared.record.Object.{Object}
 use Rattle.container_model.specs.declared.record.Frame.{Frame}
@@ -21,8 +22,13 @@ use Rattle.container_model.specs.declared.command.Command.{Command}
 use Rattle.container_model.specs.declared.command.Command.TheVariants as command
 use Rattle.container_model.specs.declared.answer.Action.TheVariants.{Start, End}
 use Rattle.container_model.specs.declared.fault.ContainerFault.{ContainerFault}
-use Rattle.container_model.specs.declared.fault.ContainerFault.TheVariants.{NoSuch, Busy, NotRunning, InDoubt, Full, NumbersSpent, WrongState, UnknownClass}
-use Rattle.container_model.specs.Record.{Record, Took, MOST_FRAMES, MOST_OBJECTS, MOST_SERVERS, MARGIN, quiet_answer, acts, call, sends, is_object, is_alive, is_busy, is_moving, is_saving, is_doubtful, count_alive, count_objects, counts_none, without_first, has_numbers, link_has_numbers, asked_link, asked_sent, asked_object, asked_all, unless, with_object}
+use Rattle.container_model.specs.declared.fault.ContainerFault.TheVariants.{NoSuch, Busy, NotRunning, InDoubt, Full}
+use Rattle.container_model.specs.declared.fault.ContainerFault.TheVariants.{NumbersSpent, WrongState, UnknownClass}
+use Rattle.container_model.specs.Record.{Record, Took, MOST_FRAMES, MOST_OBJECTS, MOST_SERVERS, MARGIN, quiet_answer}
+use Rattle.container_model.specs.Record.{acts, call, sends, is_object, is_alive, is_busy, is_moving, is_saving}
+use Rattle.container_model.specs.Record.{is_doubtful, count_alive, count_objects, counts_none, without_first}
+use Rattle.container_model.specs.Record.{has_numbers, link_has_numbers, asked_link, asked_sent, asked_object, asked_all}
+use Rattle.container_model.specs.Record.{unless, with_object}
 use Rattle.container_model.specs.Located.{located, ready}
 use Rattle.container_model.specs.Grants.{Requested}
 use Rattle.container_model.specs.Saves.{settle, settle_actions}
@@ -36,13 +42,23 @@ is_name name (Some asked) = bytes_eq asked name
 
 abbrev pub is_named : List ℕ → List Frame → Bool
 is_named name [] = false
-is_named name (frame ∷ frames) = if bytes_eq frame.name name || is_name name frame.asked then true else is_named name frames
+is_named name (frame ∷ frames) = if bytes_eq frame.name name || is_name name frame.asked then true
+    else is_named name frames
 
 abbrev pub is_size : ℕ → ℕ → Bool
 is_size w h = nat_le 1 w && nat_le w 200 && nat_le 1 h && nat_le h 100
 
 abbrev pub new_frame : List ℕ → ℕ → ℕ → Frame
-new_frame name w h = record { name = name; asked = None; k = 0; ui = fresh w h; stored = false; session = 0; raised = None; phase = Idle }
+new_frame name w h = record {
+  name = name;
+  asked = None;
+  k = 0;
+  ui = fresh w h;
+  stored = false;
+  session = 0;
+  raised = None;
+  phase = Idle;
+}
 
 abbrev pub new_made : Record → List ℕ → ℕ → ℕ → Took
 new_made r name w h = record {
@@ -74,11 +90,22 @@ abbrev pub nothing : Stored
 nothing = record { streams = []; picture = [] }
 
 abbrev pub new_object : ℕ → ℕ → Kind → Area → Object
-new_object number f kind area = record { number = number; frame = f; class = class_of kind; user_type = user_type kind; area = area; work = nothing; link = None }
+new_object number f kind area = record {
+  number = number;
+  frame = f;
+  class = class_of kind;
+  user_type = user_type kind;
+  area = area;
+  work = nothing;
+  link = None;
+}
 
 abbrev pub insert_made : Record → ℕ → Kind → Area → Took
 insert_made r f kind area = record {
-  rec = record r { objects = r.objects ++ new_object (r.last_object + 1) f kind area ∷ []; last_object = r.last_object + 1 };
+  rec = record r {
+    objects = r.objects ++ new_object (r.last_object + 1) f kind area ∷ [];
+    last_object = r.last_object + 1;
+  };
   answer = record quiet_answer { objects = (r.last_object + 1) ∷ [] };
   counted = [];
 }
@@ -124,20 +151,35 @@ first_operation o [] = InitNew o.class
 first_operation o (s ∷ ss) = Load o.class o.work
 
 abbrev pub begun_link : ℕ → ℕ → ℕ → Operation → Link
-begun_link session inc act op = record { session = session; inc = inc; act = act; last = 1; pending = Some op; waiting = []; states = loaded; s = 0; w = 0; saved = None }
+begun_link session inc act op = record {
+  session = session;
+  inc = inc;
+  act = act;
+  last = 1;
+  pending = Some op;
+  waiting = [];
+  states = loaded;
+  s = 0;
+  w = 0;
+  saved = None;
+}
 
 abbrev pub run_made : Record → Object → ℕ → Took
 run_made r o inc =
     let op = first_operation o o.work.streams in
     let link = begun_link r.session inc (r.last_act + 1) op in
     record {
-      rec = record r { objects = put (is_object o.number) (record o { link = Some link }) r.objects; last_act = r.last_act + 1 };
+      rec = record r {
+        objects = put (is_object o.number) (record o { link = Some link }) r.objects;
+        last_act = r.last_act + 1;
+      };
       answer = acts (sends (call link 1 op ∷ []));
       counted = [];
     }
 
 abbrev pub is_known_class : List ℕ → Bool
-is_known_class class = bytes_eq class (class_of Note) || bytes_eq class (class_of Table) || bytes_eq class (class_of Drawing)
+is_known_class class = bytes_eq class (class_of Note) || bytes_eq class (class_of Table) || bytes_eq class
+    (class_of Drawing)
 
 abbrev pub run_object : Record → Object → ℕ → Result Took ContainerFault
 run_object r o inc =
@@ -178,15 +220,18 @@ edit_linked r o bytes link = edit_unless r o bytes (edit_fault r.numbers (length
 abbrev pub edit : Record → ℕ → List ℕ → Result Took ContainerFault
 edit r n bytes = located r n (ready (λ o frame. edit_linked r o bytes o.link))
 
--- Save: each object of the frame that isn't passive is asked for its content. It is for the frame's name or for another one,
--- and may raise the session of the document.
+-- Save: each object of the frame that isn't passive is asked for its content. It is for the frame's name or for another
+-- one, and may raise the session of the document.
 abbrev pub any_busy : ℕ → GrantState → List Object → Bool
 any_busy f state [] = false
-any_busy f state (o ∷ os) = if o.frame == f then (if is_busy state o then true else any_busy f state os) else any_busy f state os
+any_busy f state (o ∷ os) = if o.frame == f then (if is_busy state o then true else any_busy f state os)
+    else any_busy f state os
 
 abbrev pub all_have_numbers : ℕ → ℕ → List Object → Bool
 all_have_numbers f numbers [] = true
-all_have_numbers f numbers (o ∷ os) = if o.frame == f then (if link_has_numbers numbers o.link then all_have_numbers f numbers os else false) else all_have_numbers f numbers os
+all_have_numbers f numbers (o ∷ os) = if o.frame == f
+    then (if link_has_numbers numbers o.link then all_have_numbers f numbers os else false)
+    else all_have_numbers f numbers os
 
 abbrev pub saving_frame : Option ℕ → Option (List ℕ) → Frame → Frame
 saving_frame raised asked frame = record frame { asked = asked; k = frame.k + 1; raised = raised; phase = Saving }
@@ -204,7 +249,8 @@ saving_on r f frame raised asked = hand_off_in (saving r f frame raised asked) f
 abbrev pub save_made : Record → ℕ → Frame → Option ℕ → Option (List ℕ) → Took
 save_made r f frame raised asked = record {
   rec = settle (saving_on r f frame raised asked).rec;
-  answer = acts (sends (asked_all f (Save (frame.k + 1)) r.objects ++ (saving_on r f frame raised asked).sent) ++ settle_actions (saving_on r f frame raised asked).rec);
+  answer = acts (sends (asked_all f (Save (frame.k + 1)) r.objects ++ (saving_on r f frame raised asked).sent)
+      ++ settle_actions (saving_on r f frame raised asked).rec);
   counted = [];
 }
 
@@ -224,26 +270,28 @@ save_at r f (Some frame) =
 abbrev pub save : Record → ℕ → Result Took ContainerFault
 save r f = save_at r f (nth r.frames f)
 
--- SaveAs: the name is one that no other frame bears or asked for, and not the frame's own. The frame gets it once the commit
--- is counted.
--- (of these frames the first has number i)
+-- SaveAs: the name is one that no other frame bears or asked for, and not the frame's own. The frame gets it once the
+-- commit is counted. (of these frames the first has number i)
 abbrev pub is_named_beside : ℕ → List ℕ → ℕ → List Frame → Bool
 is_named_beside f name i [] = false
-is_named_beside f name i (frame ∷ frames) = if not (i == f) && (bytes_eq frame.name name || is_name name frame.asked) then true else is_named_beside f name (i + 1) frames
+is_named_beside f name i (frame ∷ frames) =
+    if not (i == f) && (bytes_eq frame.name name || is_name name frame.asked) then true
+    else is_named_beside f name (i + 1) frames
 
 abbrev pub save_as_at : Record → ℕ → List ℕ → Option Frame → Result Took ContainerFault
 save_as_at r f name None = Err NoSuch
 save_as_at r f name (Some frame) =
     unless (is_doubtful frame.phase) InDoubt
-    (unless (is_saving frame.phase || is_moving frame.ui.state || any_busy f frame.ui.state r.objects || is_named_beside f name 1 r.frames) Busy
+    (unless (is_saving frame.phase || is_moving frame.ui.state || any_busy f frame.ui.state r.objects ||
+    is_named_beside f name 1 r.frames) Busy
     (unless (r.session == 0 || bytes_eq frame.name name) WrongState
     (save_numbered r f frame None (Some name))))
 
 abbrev pub save_as : Record → ℕ → List ℕ → Result Took ContainerFault
 save_as r f name = save_as_at r f name (nth r.frames f)
 
--- Session: the first frame is saved under its name, the session of its document raised by one. Once that is counted it is the
--- container's, for as long as it runs. Until then nothing else is saved, and no server starts.
+-- Session: the first frame is saved under its name, the session of its document raised by one. Once that is counted it
+-- is the container's, for as long as it runs. Until then nothing else is saved, and no server starts.
 abbrev pub session_at : Record → Option Frame → Result Took ContainerFault
 session_at r None = Err NoSuch
 session_at r (Some frame) =

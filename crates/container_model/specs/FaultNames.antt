@@ -1,7 +1,10 @@
 -- The names of the faults.
 use Rattle.std.specs.Prelude.{ℕ, List, codes}
 use Rattle.container_model.specs.declared.fault.ContainerFault.{ContainerFault}
-use Rattle.container_model.specs.declared.fault.ContainerFault.TheVariants.{NoSuch, Busy, NotRunning, InDoubt, WrongLink, Stale, Full, NumbersSpent, WrongState, BadFile, BadAnswer, UnknownClass, NoMemory}
+use Rattle.container_model.specs.declared.fault.ContainerFault.TheVariants.{NoSuch, Busy, NotRunning, InDoubt}
+use Rattle.container_model.specs.declared.fault.ContainerFault.TheVariants.{WrongLink, Stale, Full, NumbersSpent}
+use Rattle.container_model.specs.declared.fault.ContainerFault.TheVariants.{WrongState, BadFile, BadAnswer}
+use Rattle.container_model.specs.declared.fault.ContainerFault.TheVariants.{UnknownClass, NoMemory}
 
 abbrev pub fault_name : ContainerFault → List ℕ
 fault_name NoSuch = codes "NoSuch"

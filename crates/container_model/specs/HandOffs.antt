@@ -1,7 +1,8 @@
 -- How a save under another name goes on: objects give their storages away before the commit is asked for.
-use Rattle.std.specs.Prelude.{◌+◌, ◌&&◌, ℕ, Bool, true, false, not, List, [], ◌∷◌, map, Option, Some, None, is_some, if◌then◌else◌}
-use Rattle.wire_msgs.specs.Found.{nth, set_nth}
-use Rattle.wire_msgs.specs.declared.operation.Operation.TheVariants.{HandsOff}
+use Rattle.std.specs.Prelude.{◌+◌, ◌&&◌, ℕ, Bool, true, false, not, List, [], ◌∷◌, map, Option, Some, None, is_some}
+use Rattle.std.specs.Prelude.{if◌then◌else◌}
+use Rattle.message_values.specs.Found.{nth, set_nth}
+use Rattle.message_values.specs.declared.operation.Operation.TheVariants.{HandsOff}
 use Rattle.container_model.specs.declared.record.Frame.{Frame}
 use Rattle.container_model.specs.declared.record.Link.{Link}
 use Rattle.container_model.specs.declared.record.Object.{Object}
@@ -25,7 +26,10 @@ handing_frame frame = record frame { phase = HandingOff }
 
 abbrev pub handed_off : Record → ℕ → Frame → Requested
 handed_off r f frame = record {
-  rec = record r { frames = set_nth r.frames f (handing_frame frame); objects = map (asked_object f HandsOff) r.objects };
+  rec = record r {
+    frames = set_nth r.frames f (handing_frame frame);
+    objects = map (asked_object f HandsOff) r.objects;
+  };
   sent = asked_all f HandsOff r.objects;
 }
 

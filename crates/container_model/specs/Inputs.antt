@@ -1,6 +1,6 @@
 -- What a container may be given, and what it does with it.
 use Rattle.std.specs.Prelude.{◌≡◌, ℕ, Bool, List, [], ◌∷◌, Result, Ok}
-use Rattle.wire_msgs.specs.declared.message.Message.{Message}
+use Rattle.message_values.specs.declared.message.Message.{Message}
 use Rattle.container_model.specs.declared.command.Command.{Command}
 use Rattle.container_model.specs.declared.server_link.ServerLink.{ServerLink}
 use Rattle.container_model.specs.declared.fault.ContainerFault.{ContainerFault}
@@ -10,8 +10,8 @@ use Rattle.container_model.specs.Messages.{on_message, on_reap}
 use Rattle.container_model.specs.Opens.{Given, opened}
 use Rattle.container_model.specs.Saves.{commit_done, commit_failed, resolve}
 
--- a command of a user, a message on a link, the end of a server; a commit that is done, one that failed, and whether one that
--- failed was kept after all; a file that is opened, with what it gave
+-- a command of a user, a message on a link, the end of a server; a commit that is done, one that failed, and whether
+-- one that failed was kept after all; a file that is opened, with what it gave
 pub data Input : Type 0 where
   Ordered : Command → Input
   Told : ServerLink → Message → Input

@@ -1,17 +1,19 @@
 -- Steps of an object in its frame, as they are taken of both.
 use Rattle.std.specs.Prelude.{◌||◌, ℕ, List, Option, Some, None, Result, Err}
-use Rattle.wire_msgs.specs.Found.{find, nth}
+use Rattle.message_values.specs.Found.{find, nth}
 use Rattle.container_model.specs.declared.fault.ContainerFault.{ContainerFault}
 use Rattle.container_model.specs.declared.fault.ContainerFault.TheVariants.{NoSuch, InDoubt, Busy}
 use Rattle.container_model.specs.declared.record.Frame.{Frame}
 use Rattle.container_model.specs.declared.record.Object.{Object}
 use Rattle.container_model.specs.Record.{Record, Took, is_busy, is_doubtful, is_object, is_saving, unless}
 
-abbrev pub located_in : (Object → Frame → Result Took ContainerFault) → Object → Option Frame → Result Took ContainerFault
+abbrev pub located_in : (Object → Frame → Result Took ContainerFault) → Object → Option Frame
+    → Result Took ContainerFault
 located_in step o None = Err NoSuch
 located_in step o (Some frame) = step o frame
 
-abbrev pub located_at : (Object → Frame → Result Took ContainerFault) → List Frame → Option Object → Result Took ContainerFault
+abbrev pub located_at : (Object → Frame → Result Took ContainerFault) → List Frame → Option Object
+    → Result Took ContainerFault
 located_at step fs None = Err NoSuch
 located_at step fs (Some o) = located_in step o (nth fs o.frame)
 

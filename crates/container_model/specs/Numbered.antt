@@ -1,6 +1,7 @@
 -- Where the item of a number stands, and the first item that passes a test.
-use Rattle.std.specs.Prelude.{IfSome, ◌≡◌, ◌+◌, ◌<◌, ◌++◌, ℕ, Bool, List, length, slice_get, remove, slice_set, take, drop}
-use Rattle.wire_msgs.specs.Found.{find, put, nth, set_nth, IsPlace}
+use Rattle.std.specs.Prelude.{IfSome, ◌≡◌, ◌+◌, ◌<◌, ◌++◌, ℕ, Bool, List, length, slice_get, remove, slice_set, take}
+use Rattle.std.specs.Prelude.{drop}
+use Rattle.message_values.specs.Found.{find, put, nth, set_nth, IsPlace}
 use Rattle.container_model.specs.declared.record.Object.{Object}
 use Rattle.container_model.specs.Record.{is_object, without_first}
 

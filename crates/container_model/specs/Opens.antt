@@ -1,15 +1,17 @@
 -- A file that is opened: a frame of its name, with the objects of its document.
-use Rattle.std.specs.Prelude.{◌+◌, ◌≡◌, ◌++◌, ◌||◌, ℕ, not, List, [], ◌∷◌, length, Option, Some, None, Result, Ok, Err, nat_le, nat_lt, true, ⊤}
+use Rattle.std.specs.Prelude.{◌+◌, ◌≡◌, ◌++◌, ◌||◌, ℕ, not, List, [], ◌∷◌, length, Option, Some, None, Result, Ok, Err}
+use Rattle.std.specs.Prelude.{nat_le, nat_lt, true, ⊤}
 use Rattle.std.specs.List.{range_with_len}
-use Rattle.storage_tree.specs.Tree.{Tree}
-use Rattle.file_model.specs.Denotes.{Denotes}
-use Rattle.document_model.specs.Documents.{Doc}
-use Rattle.document_model.specs.DocOf.{DocOf}
-use Rattle.document_model.specs.declared.object.DocObject.{DocObject}
+use Rattle.cfb_entries.specs.Tree.{Tree}
+use Rattle.cfb_file.specs.Denotes.{Denotes}
+use Rattle.ole_model.specs.Documents.{Doc}
+use Rattle.ole_model.specs.DocOf.{DocOf}
+use Rattle.ole_model.specs.declared.object.DocObject.{DocObject}
 use Rattle.container_model.specs.declared.record.Frame.{Frame}
 use Rattle.container_model.specs.declared.record.Object.{Object}
 use Rattle.container_model.specs.declared.fault.ContainerFault.{ContainerFault}
-use Rattle.container_model.specs.declared.fault.ContainerFault.TheVariants.{BadFile, Busy, Full, NoSuch, NumbersSpent, WrongState}
+use Rattle.container_model.specs.declared.fault.ContainerFault.TheVariants.{BadFile, Busy, Full, NoSuch, NumbersSpent}
+use Rattle.container_model.specs.declared.fault.ContainerFault.TheVariants.{WrongState}
 use Rattle.container_model.specs.Record.{MOST_FRAMES, Record, Took, quiet_answer, unless}
 use Rattle.container_model.specs.Saves.{is_document}
 use Rattle.container_model.specs.Commands.{is_named, is_size, new_frame}
@@ -20,8 +22,8 @@ pub data Given : Type 0 where
   Broken : Given
   Holding : Doc → Given
 
--- A file is read so: it denotes the tree of the document that is given, or no tree that holds one. What bytes denote is a
--- relation, and so is this; there is at most one document that a file can give.
+-- A file is read so: it denotes the tree of the document that is given, or no tree that holds one. What bytes denote is
+-- a relation, and so is this; there is at most one document that a file can give.
 abbrev pub IsReadAs : Option (List ℕ) → Given → Type 0
 IsReadAs None Given.Missing = ⊤
 IsReadAs (Some bytes) Given.Broken = (t : Tree) (d : Doc) → Denotes bytes t → DocOf t d → ⊥
@@ -30,7 +32,15 @@ IsReadAs file given = ⊥
 
 -- the objects of a document in a frame, in their order: passive, each with the next number
 abbrev pub opened_object : ℕ → ℕ → DocObject → Object
-opened_object number f d = record { number = number; frame = f; class = d.class; user_type = d.user_type; area = d.area; work = d.stored; link = None }
+opened_object number f d = record {
+  number = number;
+  frame = f;
+  class = d.class;
+  user_type = d.user_type;
+  area = d.area;
+  work = d.stored;
+  link = None;
+}
 
 abbrev pub opened_objects : ℕ → ℕ → List DocObject → List Object
 opened_objects last f [] = []
@@ -47,7 +57,10 @@ opened_made r name w h d = record {
     objects = r.objects ++ opened_objects r.last_object (length r.frames + 1) d.objects;
     last_object = r.last_object + length d.objects;
   };
-  answer = record quiet_answer { frame = Some (length r.frames + 1); objects = range_with_len (r.last_object + 1) (length d.objects) };
+  answer = record quiet_answer {
+    frame = Some (length r.frames + 1);
+    objects = range_with_len (r.last_object + 1) (length d.objects);
+  };
   counted = [];
 }
 

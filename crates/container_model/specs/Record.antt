@@ -1,14 +1,15 @@
 -- A container's record, and what a step gives.
-use Rattle.std.specs.Prelude.{◌≡◌, ◌+◌, ◌==◌, ◌&&◌, ◌||◌, ℕ, Bool, true, false, not, List, [], ◌∷◌, ◌++◌, length, map, Option, Some, None, is_some, Result, Err, IsOk, if◌then◌else◌, nat_lt}
-use Rattle.wire_msgs.specs.Found.{put, nth, set_nth}
-use Rattle.wire_msgs.specs.declared.message.Message.{Message}
-use Rattle.wire_msgs.specs.declared.message.Said.TheVariants.{Call}
-use Rattle.wire_msgs.specs.declared.operation.Operation.{Operation}
-use Rattle.grant_core.specs.declared.grant_states.GrantState.{GrantState}
-use Rattle.grant_core.specs.declared.grant_states.GrantState.TheVariants.{Granting, Revoking}
-use Rattle.grant_core.specs.declared.grant_states.Claim.{Claim}
-use Rattle.grant_core.specs.Grants.{waiting}
-pub use Rattle.document_model.specs.Layouts.{MOST_OBJECTS}
+use Rattle.std.specs.Prelude.{◌≡◌, ◌+◌, ◌==◌, ◌&&◌, ◌||◌, ℕ, Bool, true, false, not, List, [], ◌∷◌, ◌++◌, length, map}
+use Rattle.std.specs.Prelude.{Option, Some, None, is_some, Result, Err, IsOk, if◌then◌else◌, nat_lt}
+use Rattle.message_values.specs.Found.{put, nth, set_nth}
+use Rattle.message_values.specs.declared.message.Message.{Message}
+use Rattle.message_values.specs.declared.message.Said.TheVariants.{Call}
+use Rattle.message_values.specs.declared.operation.Operation.{Operation}
+use Rattle.object_state.specs.declared.grant_states.GrantState.{GrantState}
+use Rattle.object_state.specs.declared.grant_states.GrantState.TheVariants.{Granting, Revoking}
+use Rattle.object_state.specs.declared.grant_states.Claim.{Claim}
+use Rattle.object_state.specs.Grants.{waiting}
+pub use Rattle.ole_model.specs.Layouts.{MOST_OBJECTS}
 use Rattle.container_model.specs.declared.record.Link.{Link}
 use Rattle.container_model.specs.declared.record.Object.{Object}
 use Rattle.container_model.specs.declared.record.Frame.{Frame}
@@ -21,9 +22,9 @@ use Rattle.container_model.specs.declared.answer.Done.{Done}
 use Rattle.container_model.specs.declared.fault.ContainerFault.{ContainerFault}
 use Rattle.container_model.specs.declared.fault.ContainerFault.TheVariants.{NoMemory}
 
--- The session, 0 until one is counted. The frames stand by their numbers, from 1, and so do the servers, each reaped or not.
--- Objects have numbers of their own. The last numbers of objects, of activations and of grants, and the greatest number that
--- may be drawn.
+-- The session, 0 until one is counted. The frames stand by their numbers, from 1, and so do the servers, each reaped or
+-- not. Objects have numbers of their own. The last numbers of objects, of activations and of grants, and the greatest
+-- number that may be drawn.
 pub record Record : Type 0 where
   pub session : ℕ
   pub frames : List Frame
@@ -36,7 +37,16 @@ pub record Record : Type 0 where
 
 -- a container begins without a session, frames, objects and servers
 abbrev pub empty : ℕ → Record
-empty numbers = record { session = 0; frames = []; objects = []; servers = []; last_object = 0; last_act = 0; last_g = 0; numbers = numbers }
+empty numbers = record {
+  session = 0;
+  frames = [];
+  objects = [];
+  servers = [];
+  last_object = 0;
+  last_act = 0;
+  last_g = 0;
+  numbers = numbers;
+}
 
 -- how many frames there may be, and how many servers that aren't reaped; a frame has as many objects as a document may
 abbrev pub MOST_FRAMES : ℕ
@@ -60,7 +70,15 @@ abbrev pub counts_none : Record → Answer → Took
 counts_none r answer = record { rec = r; answer = answer; counted = [] }
 
 abbrev pub quiet_answer : Answer
-quiet_answer = record { frame = None; objects = []; server = None; taken = false; refused = None; no_tools = false; actions = [] }
+quiet_answer = record {
+  frame = None;
+  objects = [];
+  server = None;
+  taken = false;
+  refused = None;
+  no_tools = false;
+  actions = [];
+}
 
 abbrev pub acts : List Action → Answer
 acts actions = record quiet_answer { actions = actions }
@@ -153,7 +171,10 @@ pub record Asked : Type 0 where
   pub sent : List Message
 
 abbrev pub ask_at : Link → Operation → Option Operation → Asked
-ask_at l op None = record { link = record l { last = l.last + 1; pending = Some op }; sent = call l (l.last + 1) op ∷ [] }
+ask_at l op None = record {
+  link = record l { last = l.last + 1; pending = Some op };
+  sent = call l (l.last + 1) op ∷ [];
+}
 ask_at l op (Some before) = record { link = record l { waiting = l.waiting ++ op ∷ [] }; sent = [] }
 
 abbrev pub ask : Link → Operation → Asked

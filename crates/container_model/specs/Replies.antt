@@ -1,9 +1,9 @@
 -- What a reply makes of a link, with what is sent next.
 use Rattle.std.specs.Prelude.{◌+◌, ℕ, List, [], ◌∷◌, ◌++◌, Option, Some, None, Result, Ok, Err}
-use Rattle.wire_msgs.specs.declared.refusal.Refusal.{Refusal}
-use Rattle.wire_msgs.specs.declared.message.Message.{Message}
-use Rattle.wire_msgs.specs.declared.operation.Operation.{Operation}
-use Rattle.stored_streams.specs.declared.stored.Stored.{Stored}
+use Rattle.message_values.specs.declared.refusal.Refusal.{Refusal}
+use Rattle.message_values.specs.declared.message.Message.{Message}
+use Rattle.message_values.specs.declared.operation.Operation.{Operation}
+use Rattle.tree_streams.specs.declared.stored.Stored.{Stored}
 use Rattle.container_model.specs.declared.record.Link.{Link}
 use Rattle.container_model.specs.declared.record.Object.{Object}
 use Rattle.container_model.specs.declared.answer.Action.{Action}
@@ -22,7 +22,14 @@ pub record Resumed : Type 0 where
 
 abbrev pub resumed : Result Replied ContainerFault → Result Resumed ContainerFault
 resumed (Err fault) = Err fault
-resumed (Ok replied) = Ok (record { link = next_link replied.link; taken = replied.taken; refused = replied.refused; grant = replied.grant; actions = sends (next_sent replied.link) })
+resumed (Ok replied) =
+    Ok (record {
+      link = next_link replied.link;
+      taken = replied.taken;
+      refused = replied.refused;
+      grant = replied.grant;
+      actions = sends (next_sent replied.link);
+    })
 
 -- the call of the first operation that waits
 abbrev pub first_call : Link → List Operation → Option Action

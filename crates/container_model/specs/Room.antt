@@ -1,9 +1,10 @@
--- Numbers stay within what a message carries: each activation has a number left for what it may be asked without a check.
+-- Numbers stay within what a message carries: each activation has a number left for what it may be asked without a
+-- check.
 use Rattle.std.specs.Prelude.{◌+◌, ◌==◌, ◌≤◌, ℕ, List, length, Option, Some, None, All, cond, is_some, if◌then◌else◌}
-use Rattle.wire_msgs.specs.Found.{nth}
-use Rattle.grant_core.specs.declared.grant_states.Claim.{Claim}
-use Rattle.grant_core.specs.declared.grant_states.GrantState.{GrantState}
-use Rattle.grant_core.specs.declared.grant_states.GrantState.TheVariants.{Free, Granting, Held, Revoking}
+use Rattle.message_values.specs.Found.{nth}
+use Rattle.object_state.specs.declared.grant_states.Claim.{Claim}
+use Rattle.object_state.specs.declared.grant_states.GrantState.{GrantState}
+use Rattle.object_state.specs.declared.grant_states.GrantState.TheVariants.{Free, Granting, Held, Revoking}
 use Rattle.container_model.specs.declared.record.Link.{Link}
 use Rattle.container_model.specs.declared.record.Object.{Object}
 use Rattle.container_model.specs.declared.record.Frame.{Frame}
@@ -11,8 +12,8 @@ use Rattle.container_model.specs.declared.record.Phase.{Phase}
 use Rattle.container_model.specs.declared.record.Phase.TheVariants.{Idle, Saving, HandingOff, Committing, InDoubt}
 use Rattle.container_model.specs.Record.{Record}
 
--- while a save is under way, one call may come without a check: it tells how the save ended; before it, under another name,
--- one that asks for the storage
+-- while a save is under way, one call may come without a check: it tells how the save ended; before it, under another
+-- name, one that asks for the storage
 abbrev pub debt : Phase → Option (List ℕ) → ℕ
 debt Idle asked = 0
 debt Saving None = 1
@@ -51,7 +52,8 @@ IfLinked P (Some l) = P l
 abbrev pub HasRoom : ℕ → List Frame → Object → Type 0
 HasRoom numbers frames o = IfLinked (IsRoomy numbers (debt_in o.number (nth frames o.frame))) o.link
 
--- A record whose greatest number is one of these, and whose numbers are at most that one, with room for each activation.
+-- A record whose greatest number is one of these, and whose numbers are at most that one, with room for each
+-- activation.
 pub record HasNumbers (Greatest : ℕ → Type 0) (r : Record) : Type 0 where
   pub limit : Greatest r.numbers
   pub room : All (HasRoom r.numbers r.frames) r.objects

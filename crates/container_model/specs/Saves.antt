@@ -1,19 +1,20 @@
 -- How saves go on, and what they count.
-use Rattle.std.specs.Prelude.{◌+◌, ◌==◌, ◌&&◌, ℕ, Bool, true, false, not, List, [], ◌∷◌, ◌++◌, map, Option, Some, None, Result, Ok, Err, if◌then◌else◌, length, nat_le}
-use Rattle.wire_msgs.specs.Found.{nth, set_nth}
-use Rattle.wire_msgs.specs.declared.operation.Operation.{Operation}
-use Rattle.wire_msgs.specs.declared.operation.Operation.TheVariants.{SaveCompleted, SaveDropped}
+use Rattle.std.specs.Prelude.{◌+◌, ◌==◌, ◌&&◌, ℕ, Bool, true, false, not, List, [], ◌∷◌, ◌++◌, map, Option, Some, None}
+use Rattle.std.specs.Prelude.{Result, Ok, Err, if◌then◌else◌, length, nat_le}
+use Rattle.message_values.specs.Found.{nth, set_nth}
+use Rattle.message_values.specs.declared.operation.Operation.{Operation}
+use Rattle.message_values.specs.declared.operation.Operation.TheVariants.{SaveCompleted, SaveDropped}
 use Rattle.object_state.specs.declared.persist_states.PersistState.{PersistState}
 use Rattle.object_state.specs.declared.persist_states.PersistState.TheVariants as state
-use Rattle.stored_streams.specs.declared.stored.Stored.{Stored}
-use Rattle.storage_tree.specs.Tree as tree
-use Rattle.document_model.specs.declared.object.DocObject.{DocObject}
-use Rattle.document_model.specs.Documents.{Doc}
-use Rattle.document_model.specs.DocOf.{is_object}
-use Rattle.document_model.specs.DocTree.{doc_tree}
-use Rattle.document_model.specs.Layouts.{MOST_OBJECTS}
-use Rattle.file_model.specs.Refusals.{writable}
-use Rattle.file_model.specs.declared.fault.WriteFault.{WriteFault}
+use Rattle.tree_streams.specs.declared.stored.Stored.{Stored}
+use Rattle.cfb_entries.specs.Tree as tree
+use Rattle.ole_model.specs.declared.object.DocObject.{DocObject}
+use Rattle.ole_model.specs.Documents.{Doc}
+use Rattle.ole_model.specs.DocOf.{is_object}
+use Rattle.ole_model.specs.DocTree.{doc_tree}
+use Rattle.ole_model.specs.Layouts.{MOST_OBJECTS}
+use Rattle.cfb_file.specs.Refusals.{writable}
+use Rattle.cfb_file.specs.declared.fault.WriteFault.{WriteFault}
 use Rattle.container_model.specs.declared.record.Link.{Link}
 use Rattle.container_model.specs.declared.record.Object.{Object}
 use Rattle.container_model.specs.declared.record.Frame.{Frame}
@@ -26,7 +27,8 @@ use Rattle.container_model.specs.declared.answer.FrameDocument.{FrameDocument}
 use Rattle.container_model.specs.declared.answer.Part.{Part}
 use Rattle.container_model.specs.declared.fault.ContainerFault.{ContainerFault}
 use Rattle.container_model.specs.declared.fault.ContainerFault.TheVariants.{NoSuch, WrongState, Full}
-use Rattle.container_model.specs.Record.{Record, Took, acts, counts_none, is_doubtful, quiet_answer, sends, asked_object, asked_all, with_frame}
+use Rattle.container_model.specs.Record.{Record, Took, acts, counts_none, is_doubtful, quiet_answer, sends}
+use Rattle.container_model.specs.Record.{asked_object, asked_all, with_frame}
 
 -- An object is waited for until it has answered its content in the present save, or is passive.
 abbrev pub is_awaited_link : Option Link → Bool
@@ -153,13 +155,15 @@ has_image phase = false
 
 abbrev pub image_at : Record → ℕ → Option Frame → Result FrameDocument ContainerFault
 image_at r f None = Err NoSuch
-image_at r f (Some frame) = if has_image frame.phase then fitting (frame_document frame (parts_in f r.objects)) else Err WrongState
+image_at r f (Some frame) = if has_image frame.phase then fitting (frame_document frame (parts_in f r.objects))
+    else Err WrongState
 
 abbrev pub image : Record → ℕ → Result FrameDocument ContainerFault
 image r f = image_at r f (nth r.frames f)
 
--- A commit that is done: the contents are work contents, the asked name is the name, the raised session is the frame's and the
--- container's. Each object that isn't passive is told that the save is counted, with a storage where it gave its own away.
+-- A commit that is done: the contents are work contents, the asked name is the name, the raised session is the frame's
+-- and the container's. Each object that isn't passive is told that the save is counted, with a storage where it gave
+-- its own away.
 abbrev pub name_after : List ℕ → Option (List ℕ) → List ℕ
 name_after name None = name
 name_after name (Some asked) = asked
@@ -239,8 +243,8 @@ failed_at r f (Some frame) = if is_committing frame.phase then Ok (commit_doubte
 abbrev pub commit_failed : Record → ℕ → Result Took ContainerFault
 commit_failed r f = failed_at r f (nth r.frames f)
 
--- A commit in doubt is resolved. Kept, it is done. Lost, its save is dropped: the work contents, the name and the session stay,
--- and each object that isn't passive is told so.
+-- A commit in doubt is resolved. Kept, it is done. Lost, its save is dropped: the work contents, the name and the
+-- session stay, and each object that isn't passive is told so.
 abbrev pub dropped_frame : Frame → Frame
 dropped_frame frame = record frame { asked = None; raised = None; phase = Idle }
 
@@ -252,7 +256,10 @@ dropped_object f frame o = asked_object f (SaveDropped frame.k) (forgotten_objec
 
 abbrev pub save_dropped : Record → ℕ → Frame → Took
 save_dropped r f frame = record {
-  rec = record r { frames = set_nth r.frames f (dropped_frame frame); objects = map (dropped_object f frame) r.objects };
+  rec = record r {
+    frames = set_nth r.frames f (dropped_frame frame);
+    objects = map (dropped_object f frame) r.objects;
+  };
   answer = acts (sends (asked_all f (SaveDropped frame.k) r.objects));
   counted = [];
 }

@@ -1,24 +1,29 @@
 -- What verbs and closes ask of an object, and of its frame.
-use Rattle.std.specs.Prelude.{◌+◌, ◌&&◌, ◌||◌, ◌++◌, ℕ, ℤ, Bool, true, false, not, List, [], ◌∷◌, map, Option, Some, None, Result, Ok, Err, if◌then◌else◌, nat_le}
-use Rattle.wire_msgs.specs.Found.{find, nth}
-use Rattle.wire_msgs.specs.declared.operation.Operation.{Operation}
-use Rattle.wire_msgs.specs.declared.operation.Operation.TheVariants.{InPlace, UiActivate, UiDeactivate, InPlaceDeactivate, OpenWindow, Close}
+use Rattle.std.specs.Prelude.{◌+◌, ◌&&◌, ◌||◌, ◌++◌, ℕ, ℤ, Bool, true, false, not, List, [], ◌∷◌, map, Option, Some}
+use Rattle.std.specs.Prelude.{None, Result, Ok, Err, if◌then◌else◌, nat_le}
+use Rattle.message_values.specs.Found.{find, nth}
+use Rattle.message_values.specs.declared.operation.Operation.{Operation}
+use Rattle.message_values.specs.declared.operation.Operation.TheVariants.{InPlace, UiActivate, UiDeactivate}
+use Rattle.message_values.specs.declared.operation.Operation.TheVariants.{InPlaceDeactivate, OpenWindow, Close}
 use Rattle.object_state.specs.Verbs.{activates_ui, close_steps, steps, verb_of}
 use Rattle.object_state.specs.declared.operations.CloseOption.{CloseOption}
 use Rattle.object_state.specs.declared.object_states.ObjectState.{ObjectState}
 use Rattle.object_state.specs.declared.verbs.Verb.{Verb}
 use Rattle.object_state.specs.declared.verbs.Step.{Step}
 use Rattle.object_state.specs.declared.verbs.Step.TheVariants as step
-use Rattle.grant_core.specs.declared.grant_states.Claim.{Claim}
-use Rattle.grant_core.specs.declared.grant_states.GrantState.{GrantState}
-use Rattle.grant_core.specs.declared.grant_states.GrantState.TheVariants.{Free, Held}
-use Rattle.grant_core.specs.Grants.{Ask}
+use Rattle.object_state.specs.declared.grant_states.Claim.{Claim}
+use Rattle.object_state.specs.declared.grant_states.GrantState.{GrantState}
+use Rattle.object_state.specs.declared.grant_states.GrantState.TheVariants.{Free, Held}
+use Rattle.object_state.specs.Grants.{Ask}
 use Rattle.container_model.specs.declared.record.Link.{Link}
 use Rattle.container_model.specs.declared.record.Object.{Object}
 use Rattle.container_model.specs.declared.record.Frame.{Frame}
 use Rattle.container_model.specs.declared.fault.ContainerFault.{ContainerFault}
-use Rattle.container_model.specs.declared.fault.ContainerFault.TheVariants.{NoSuch, Busy, NotRunning, InDoubt, NumbersSpent, WrongState}
-use Rattle.container_model.specs.Record.{Record, Took, Asked, ask_each, acts, counts_none, has_numbers, is_busy, is_doubtful, is_moving, is_object, is_saving, link_has_numbers, quiet_answer, sends, unless, with_frame, with_object}
+use Rattle.container_model.specs.declared.fault.ContainerFault.TheVariants.{NoSuch, Busy, NotRunning, InDoubt}
+use Rattle.container_model.specs.declared.fault.ContainerFault.TheVariants.{NumbersSpent, WrongState}
+use Rattle.container_model.specs.Record.{Record, Took, Asked, ask_each, acts, counts_none, has_numbers, is_busy}
+use Rattle.container_model.specs.Record.{is_doubtful, is_moving, is_object, is_saving, link_has_numbers, quiet_answer}
+use Rattle.container_model.specs.Record.{sends, unless, with_frame, with_object}
 use Rattle.container_model.specs.Located.{located, ready}
 use Rattle.container_model.specs.Grants.{Requested, grant_of, moved, request}
 
@@ -47,7 +52,8 @@ claim_of o l g = record { object = o.number; act = l.act; g = g }
 
 -- Steps that don't take the frame are asked one after the other. Where they give it up, nobody waits for it.
 abbrev pub left : Record → Frame → Object → Link → List Step → Record
-left r frame o l steps = if gives_up steps then with_frame r o.frame (moved frame (Ask (claim_of o l (grant_of frame.ui.state)))) else r
+left r frame o l steps = if gives_up steps
+    then with_frame r o.frame (moved frame (Ask (claim_of o l (grant_of frame.ui.state)))) else r
 
 abbrev pub stepped_link : ℕ → Link → List Step → Asked
 stepped_link g l steps = ask_each l (map (operation_of g) steps)
@@ -59,8 +65,8 @@ leaving_made r frame o l steps = record {
   counted = [];
 }
 
--- Steps that take the frame draw a grant. A free frame is being granted; one that another object holds is given up first,
--- and meanwhile the object takes the steps before.
+-- Steps that take the frame draw a grant. A free frame is being granted; one that another object holds is given up
+-- first, and meanwhile the object takes the steps before.
 abbrev pub holder_of : GrantState → Option ℕ
 holder_of (Held holder tools) = Some holder.object
 holder_of state = None
@@ -80,7 +86,10 @@ steps_now state steps = before_taking steps
 
 -- the record with the grant drawn and claimed, and its holder told to give it up
 abbrev pub claimed : Record → Frame → Object → Link → Record
-claimed r frame o l = record (with_frame r o.frame (moved frame (Ask (claim_of o l (r.last_g + 1))))) { last_g = r.last_g + 1 }
+claimed r frame o l = record (with_frame r o.frame (moved frame (Ask (claim_of o l (r.last_g + 1))))) {
+  last_g =
+      r.last_g + 1;
+}
 
 abbrev pub revoked : Record → Frame → Object → Link → Requested
 revoked r frame o l = revoked_at (claimed r frame o l) (holder_of frame.ui.state)
@@ -115,7 +124,8 @@ stepping r frame o l steps = if takes steps then taking r frame o l steps else O
 abbrev pub verb_steps : Record → Frame → Object → Link → Option (List Step) → Result Took ContainerFault
 verb_steps r frame o l None = Err WrongState
 verb_steps r frame o l (Some []) = Ok (counts_none r quiet_answer)
-verb_steps r frame o l (Some (s ∷ ss)) = unless (not (has_numbers r.numbers l)) NumbersSpent (stepping r frame o l (s ∷ ss))
+verb_steps r frame o l (Some (s ∷ ss)) = unless (not (has_numbers r.numbers l)) NumbersSpent
+    (stepping r frame o l (s ∷ ss))
 
 abbrev pub steps_of : Option Verb → ObjectState → Option (List Step)
 steps_of None state = None

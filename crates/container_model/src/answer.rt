@@ -3,14 +3,14 @@
 ghost use Rattle.std.specs.Prelude.{◌≡◌};
 ghost use Rattle.container_model.specs.Record.{acts, quiet_answer};
 
-use object_parts::area::Area;
+use message_values::items::Items;
+use message_values::message::Message;
+use message_values::refusal::Refusal;
 use std::alloc::Global;
-use stored_streams::stored::Stored;
-use stored_values::bytes::Bytes;
-use stored_values::class_id::ClassId;
-use wire_msgs::items::Items;
-use wire_msgs::message::Message;
-use wire_msgs::refusal::Refusal;
+use tree_streams::area::Area;
+use tree_streams::stored::Stored;
+use tree_values::bytes::Bytes;
+use tree_values::class_id::ClassId;
 
 /// What a container asks its host for.
 #[derive(Drop)]

@@ -1,8 +1,8 @@
 //! Commands of a user.
 
-use object_parts::area::Area;
 use object_state::CloseOption;
-use stored_values::bytes::Bytes;
+use tree_streams::area::Area;
+use tree_values::bytes::Bytes;
 
 /// The three kinds of objects.
 #[derive(Clone, Copy)]

@@ -1,6 +1,6 @@
 //! What an object's answer tells of its frame's grant.
 
-use grant_core::Tools;
+use object_state::Tools;
 
 /// What an answer tells of the frame's menus and border.
 #[derive(Clone, Copy)]

@@ -1,13 +1,12 @@
 //! What a container keeps of its frames and objects.
 
-use grant_core::FrameUi;
-use object_parts::area::Area;
-use object_state::States;
-use stored_streams::stored::Stored;
-use stored_values::bytes::Bytes;
-use stored_values::class_id::ClassId;
-use wire_msgs::items::Items;
-use wire_msgs::operation::Operation;
+use message_values::items::Items;
+use message_values::operation::Operation;
+use object_state::{FrameUi, States};
+use tree_streams::area::Area;
+use tree_streams::stored::Stored;
+use tree_values::bytes::Bytes;
+use tree_values::class_id::ClassId;
 
 /// The activation of an object that isn't passive.
 #[derive(Drop)]
@@ -81,7 +80,8 @@ pub struct Frame {
     pub ui: FrameUi,
     /// Whether it was opened, or a commit of it was counted.
     pub stored: bool,
-    /// The session of its document: of the one that it was opened from, 0 for a new one, and what a commit raised it to.
+    /// The session of its document: of the one that it was opened from, 0 for a new one, and what a commit raised it
+    /// to.
     pub session: u32,
     /// The session that the present save raises the document to, if it does. Every other save writes the frame's own.
     pub raised: Option<u32>,

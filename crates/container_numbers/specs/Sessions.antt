@@ -1,7 +1,7 @@
 -- Laws: all of a container is in its one session, and it has one before anything is in it.
 use Rattle.std.specs.Prelude.{◌≡◌, ◌≢◌, ◌+◌, ℕ, true, [], Option, Some, None, Ok, ⊤}
 use Rattle.std.specs.List.{AllByRecursion}
-use Rattle.wire_msgs.specs.Found.{nth}
+use Rattle.message_values.specs.Found.{nth}
 use Rattle.container_model.specs.declared.answer.Action.{Action}
 use Rattle.container_model.specs.declared.answer.Action.TheVariants.{Send, Start}
 use Rattle.container_model.specs.declared.command.Command.{Command}
@@ -46,8 +46,8 @@ session_by r (Input.Committed f) = session_counted r f
 session_by r (Input.Resolved f true) = session_counted r f
 session_by r x = r.session
 
--- A step leaves all in the session that is there after it, and sends in the one that was there before. A session that there is
--- stays, as long as the container runs.
+-- A step leaves all in the session that is there after it, and sends in the one that was there before. A session that
+-- there is stays, as long as the container runs.
 pub record StaysInSession (r : Record) (x : Input) (t : Took) : Type 0 where
   pub same : t.rec.session ≡ session_by r x
   pub stays : r.session ≢ 0 → t.rec.session ≡ r.session
@@ -70,4 +70,5 @@ WantsSession c = ⊥
 
 -- Law: they are taken only where there is one, and no command changes it.
 abbrev pub CommandsWantSessions : Type 0
-CommandsWantSessions = (r : Record) (c : Command) (t : Took) → InSession r → on_command r c ≡ Ok t → (t.rec.session ≡ r.session) × (WantsSession c → r.session ≢ 0)
+CommandsWantSessions = (r : Record) (c : Command) (t : Took) → InSession r → on_command r c ≡ Ok t
+    → (t.rec.session ≡ r.session) × (WantsSession c → r.session ≢ 0)

@@ -1,6 +1,6 @@
-//! Laws of a container's numbers: each step leaves its activations room for what they may be asked without a check, and no
-//! more frames than there may be; and all of it is in its one session. Each function is empty: its contract is the law,
-//! which is proved.
+//! Laws of a container's numbers: each step leaves its activations room for what they may be asked without a check, and
+//! no more frames than there may be; and all of it is in its one session. Each function is empty: its contract is the
+//! law, which is proved.
 ghost use Rattle.container_numbers.specs.FewFrames.{FewFramesAfter};
 ghost use Rattle.container_numbers.specs.Sessions.{CommandsWantSessions, InSessionFromTheStart, SessionsStay};
 ghost use Rattle.container_numbers.specs.Sound.{NumbersAfter, SoundAfter};
@@ -26,8 +26,9 @@ pub fn in_session_from_the_start()
     ensures { InSessionFromTheStart }
 {}
 
-/// From then on, whatever is given, its session is that which a counted commit raised it to, and stays from then on. Each
-/// activation is in it, and so is each message that it sends; where it has none yet, it starts no server and sends nothing.
+/// From then on, whatever is given, its session is that which a counted commit raised it to, and stays from then on.
+/// Each activation is in it, and so is each message that it sends; where it has none yet, it starts no server and sends
+/// nothing.
 pub fn sessions_stay()
     ensures { SessionsStay }
 {}

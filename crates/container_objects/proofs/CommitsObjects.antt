@@ -1,7 +1,8 @@
 -- What a commit makes of the objects of its frame.
-use Rattle.std.proofs.Common.{◌≡◌, ◌==◌, ℕ, true, false, List, [], ◌∷◌, map, Option, Some, None, inl, inr, refl, sym, ◌∙◌, ap}
+use Rattle.std.proofs.Common.{◌≡◌, ◌==◌, ℕ, true, false, List, [], ◌∷◌, map, Option, Some, None, inl, inr, refl, sym}
+use Rattle.std.proofs.Common.{◌∙◌, ap}
 use Rattle.std.proofs.lemmas.Bool.Decides.{eqb_tells}
-use Rattle.wire_msgs.specs.declared.operation.Operation.{Operation}
+use Rattle.message_values.specs.declared.operation.Operation.{Operation}
 use Rattle.container_model.specs.declared.record.Link.{Link}
 use Rattle.container_model.specs.declared.record.Object.{Object}
 use Rattle.container_links.specs.declared.asking.Prepared.{Prepared}
@@ -10,7 +11,8 @@ use Rattle.container_model.specs.Record.{asked_object}
 use Rattle.container_model.specs.Saves.{cleared, counted_object, forgotten_object, kept}
 
 -- what is counted leaves what is asked
-pub counted_in : (f : ℕ) (o : Object) → (o.frame == f) ≡ true → counted_object f o ≡ record o { work = kept o; link = cleared o.link }
+pub counted_in : (f : ℕ) (o : Object) → (o.frame == f) ≡ true → counted_object f o
+    ≡ record o { work = kept o; link = cleared o.link }
 counted_in f o e = rw e refl
 
 pub counted_out : (f : ℕ) (o : Object) → (o.frame == f) ≡ false → counted_object f o ≡ o
@@ -18,7 +20,8 @@ counted_out f o e = rw e refl
 
 prepared_cleared : (op : Operation) (link : Option Link) → prepared_link op (cleared link) ≡ prepared_link op link
 prepared_cleared op None = refl
-prepared_cleared op (Some l) = elim l.pending as (λ p. prepared_at op (record l { saved = None }) p ≡ prepared_at op l p) [ None ↦ refl | Some before ↦ refl ]
+prepared_cleared op (Some l) = elim l.pending as (λ p. prepared_at op (record l { saved = None }) p
+    ≡ prepared_at op l p) [ None ↦ refl | Some before ↦ refl ]
 
 pub prepared_counted : (f : ℕ) (op : Operation) (o : Object) → prepared f op (counted_object f o) ≡ prepared f op o
 prepared_counted f op o =
@@ -42,15 +45,20 @@ prepared_forgotten f op o =
     ]
 
 -- so what was prepared before is what the objects take up then
-module _ (told : Object → Object) (f : ℕ) (op : Operation) (same : (o : Object) → prepared f op (told o) ≡ prepared f op o) where
+module _ (told : Object → Object) (f : ℕ) (op : Operation) (same : (o : Object)
+    → prepared f op (told o) ≡ prepared f op o) where
   pub prepared_all : (os : List Object) → map (prepared f op) (map told os) ≡ map (prepared f op) os
   prepared_all [] = refl
   prepared_all (o ∷ os) = cc (same o, prepared_all os)
 
-  pub completed_all : (os : List Object) → map (asked_object f op) (map told os) ≡ map (λ o. asked_object f op (told o)) os
+  pub completed_all : (os : List Object) → map (asked_object f op) (map told os)
+      ≡ map (λ o. asked_object f op (told o)) os
   completed_all [] = refl
   completed_all (o ∷ os) = ap (λ xs. asked_object f op (told o) ∷ xs) (completed_all os)
 
-  pub taken_up : (before between after : List Object) (takes : List Prepared) → between ≡ map told before → (takes ≡ map (prepared f op) between → after ≡ map (asked_object f op) between) → takes ≡ map (prepared f op) before → after ≡ map (λ o. asked_object f op (told o)) before
+  pub taken_up : (before between after : List Object) (takes : List Prepared) → between ≡ map told before
+      → (takes ≡ map (prepared f op) between → after ≡ map (asked_object f op) between)
+      → takes ≡ map (prepared f op) before → after ≡ map (λ o. asked_object f op (told o)) before
   taken_up before between after takes e h t =
-      h (t ∙ sym (prepared_all before) ∙ sym (ap (map (prepared f op)) e)) ∙ ap (map (asked_object f op)) e ∙ completed_all before
+      h (t ∙ sym (prepared_all before) ∙ sym (ap (map (prepared f op)) e)) ∙ ap (map (asked_object f op)) e
+      ∙ completed_all before

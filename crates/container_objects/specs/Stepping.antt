@@ -1,10 +1,10 @@
 -- What verbs and closes make of an object's frame, and of the object that has it.
 use Rattle.std.specs.Prelude.{ℕ, List, [], Option, Some, None, slice_set, if◌then◌else◌}
-use Rattle.wire_msgs.specs.Found.{find, put}
-use Rattle.wire_msgs.specs.declared.message.Message.{Message}
-use Rattle.wire_msgs.specs.declared.operation.Operation.TheVariants.{UiDeactivate}
+use Rattle.message_values.specs.Found.{find, put}
+use Rattle.message_values.specs.declared.message.Message.{Message}
+use Rattle.message_values.specs.declared.operation.Operation.TheVariants.{UiDeactivate}
 use Rattle.object_state.specs.declared.verbs.Step.{Step}
-use Rattle.grant_core.specs.Grants.{Ask}
+use Rattle.object_state.specs.Grants.{Ask}
 use Rattle.container_model.specs.declared.record.Frame.{Frame}
 use Rattle.container_model.specs.declared.record.Object.{Object}
 use Rattle.container_model.specs.Grants.{grant_of, moved}
@@ -30,7 +30,8 @@ told_objects (Some n) os = told_in os (find (is_object n) os)
 
 -- the objects once the one at i is another, and the one at j is told to give the frame up
 abbrev pub both_told : List Object → ℕ → Object → ℕ → Object → List Object
-both_told os i o j holder = slice_set (slice_set os i o) j (record holder { link = asked_link UiDeactivate holder.link })
+both_told os i o j holder = slice_set (slice_set os i o) j
+    (record holder { link = asked_link UiDeactivate holder.link })
 
 abbrev pub told_one : Option Object → List Message
 told_one None = []

@@ -1,6 +1,6 @@
 -- What a reply makes of an object.
 use Rattle.std.specs.Prelude.{Bool, List, Option, Result, Ok, Err, is_some}
-use Rattle.wire_msgs.specs.declared.refusal.Refusal.{Refusal}
+use Rattle.message_values.specs.declared.refusal.Refusal.{Refusal}
 use Rattle.container_model.specs.declared.answer.Action.{Action}
 use Rattle.container_model.specs.declared.fault.ContainerFault.{ContainerFault}
 use Rattle.container_model.specs.declared.record.Object.{Object}
@@ -8,8 +8,8 @@ use Rattle.container_model.specs.declared.grants.Tells.{Tells}
 use Rattle.container_model.specs.Messages.{Replied, next_sent, replied_object}
 use Rattle.container_model.specs.Record.{sends}
 
--- the object after it, whether a content was taken, why the object refused, what is told of the frame's grant, and what is
--- sent next
+-- the object after it, whether a content was taken, why the object refused, what is told of the frame's grant, and what
+-- is sent next
 pub record ToldObject : Type 0 where
   pub object : Object
   pub taken : Bool

@@ -3,22 +3,22 @@
 ghost use Rattle.std.specs.Prelude.{◌≡◌, IfOk, [], ◌∷◌, Some};
 ghost use Rattle.container_model.specs.Commands.{begun_link, first_operation, kind_of, new_object, user_type};
 ghost use Rattle.container_model.specs.declared.answer.Action.TheVariants.{Send};
-ghost use Rattle.embed_core.specs.Kinds.{class_of};
-ghost use Rattle.wire_msgs.specs.declared.message.Said.TheVariants.{Call};
+ghost use Rattle.object_core.specs.Kinds.{class_of};
+ghost use Rattle.message_values.specs.declared.message.Said.TheVariants.{Call};
 
 use container_links::calling::call;
 use container_model::answer::Action;
 use container_model::command::ObjectKind;
 use container_model::record::{Link, Object};
-use embed_core::classes;
-use object_parts::area::Area;
+use message_values::items::Items;
+use message_values::operation::Operation;
+use object_core::classes;
 use object_state::States;
 use std::alloc::{AllocError, Global};
-use stored_streams::stored::Stored;
-use stored_values::bytes::Bytes;
-use stored_values::class_id::ClassId;
-use wire_msgs::items::Items;
-use wire_msgs::operation::Operation;
+use tree_streams::area::Area;
+use tree_streams::stored::Stored;
+use tree_values::bytes::Bytes;
+use tree_values::class_id::ClassId;
 
 /// A passive object of a kind, without content.
 ///
@@ -77,8 +77,8 @@ fn first_operation(alloc: Global, object: &Object) -> Result<Operation, AllocErr
     }
 }
 
-/// A new activation of an object in a server, and what is sent to it: its first call, which gives it an empty storage, or its
-/// work content where that has streams.
+/// A new activation of an object in a server, and what is sent to it: its first call, which gives it an empty storage,
+/// or its work content where that has streams.
 ///
 /// Refused for want of memory alone.
 pub fn begun(
@@ -88,8 +88,13 @@ pub fn begun(
     inc: u32,
     act: u32,
 ) -> Result<(Link, Items<Action>), AllocError>
-    ensures link { IfOk result (λ b. b.0 ≡ begun_link session inc act (first_operation object.now object.now.work.streams)) }
-    ensures sent { IfOk result (λ b. b.1 ≡ Send (record { session = session; said = Call inc act 1 (first_operation object.now object.now.work.streams) }) ∷ []) }
+    ensures link { IfOk result (λ b. b.0 ≡ begun_link session inc act
+        (first_operation object.now object.now.work.streams)) }
+    ensures sent { IfOk result
+        (λ b. b.1
+        ≡ Send
+        (record { session = session; said = Call inc act 1 (first_operation object.now object.now.work.streams) })
+        ∷ []) }
 {
     let operation = first_operation(alloc, object)?;
     let asked = operation.copy(alloc)?;

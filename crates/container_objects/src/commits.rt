@@ -2,13 +2,14 @@
 
 ghost use Rattle.std.specs.Prelude.{◌≡◌, length, map, vec_len};
 ghost use Rattle.container_links.specs.Asking.{prepared};
-ghost use Rattle.container_model.specs.Saves.{committed_frame, completed, completion, counted_object, doubted_frame, dropped_frame, dropped_object, forgotten_object, session_after};
+ghost use Rattle.container_model.specs.Saves.{committed_frame, completed, completion, counted_object, doubted_frame};
+ghost use Rattle.container_model.specs.Saves.{dropped_frame, dropped_object, forgotten_object, session_after};
 ghost use Rattle.container_model.specs.declared.record.Frame as declared;
-ghost use Rattle.wire_msgs.specs.declared.operation.Operation.TheVariants.{SaveDropped};
+ghost use Rattle.message_values.specs.declared.operation.Operation.TheVariants.{SaveDropped};
 
 use container_links::asking::{Prepared, take_up};
 use container_model::record::{Frame, Object, Phase};
-use wire_msgs::operation::Operation;
+use message_values::operation::Operation;
 
 /// What the objects of a frame are told once its save is counted.
 pub fn completion(frame: &Frame) -> Operation
@@ -75,7 +76,8 @@ fn count_all(f: u32, objects: &mut Vec<Object>)
 /// The contents that are counted are work contents, and each object that isn't passive takes up what was prepared.
 pub fn complete_objects(f: u32, objects: &mut Vec<Object>, takes: Vec<Prepared>)
     requires { vec_len takes ≡ length objects.old.items }
-    ensures { (frame : declared.Frame) → takes.items ≡ map (prepared f (completion frame)) objects.old.items → objects.new.items ≡ map (completed f frame) objects.old.items }
+    ensures { (frame : declared.Frame) → takes.items ≡ map (prepared f (completion frame)) objects.old.items
+        → objects.new.items ≡ map (completed f frame) objects.old.items }
 {
     count_all(f, objects);
     take_up(objects, takes);
@@ -135,7 +137,8 @@ fn forget_all(f: u32, objects: &mut Vec<Object>)
 /// The contents that were answered aren't counted, and each object that isn't passive takes up what was prepared.
 pub fn drop_objects(f: u32, objects: &mut Vec<Object>, takes: Vec<Prepared>)
     requires { vec_len takes ≡ length objects.old.items }
-    ensures { (frame : declared.Frame) → takes.items ≡ map (prepared f (SaveDropped frame.k)) objects.old.items → objects.new.items ≡ map (dropped_object f frame) objects.old.items }
+    ensures { (frame : declared.Frame) → takes.items ≡ map (prepared f (SaveDropped frame.k)) objects.old.items
+        → objects.new.items ≡ map (dropped_object f frame) objects.old.items }
 {
     forget_all(f, objects);
     take_up(objects, takes);

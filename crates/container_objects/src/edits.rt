@@ -11,10 +11,10 @@ use container_links::asking::ask_object;
 use container_model::answer::Action;
 use container_model::fault::ContainerFault;
 use container_model::record::{Link, Object};
+use message_values::items::Items;
+use message_values::operation::Operation;
 use std::alloc::Global;
-use stored_values::bytes::Bytes;
-use wire_msgs::items::Items;
-use wire_msgs::operation::Operation;
+use tree_values::bytes::Bytes;
 
 /// How many bytes an edit may have.
 const MOST_EDIT: usize = 65_536;
@@ -38,8 +38,8 @@ fn edit_fault(numbers: u32, link: &Option<Link>, size: usize) -> Option<Containe
     }
 }
 
-/// An object is asked for an edit: at once where no call is pending, else behind the operations that wait. What is to be
-/// done for it.
+/// An object is asked for an edit: at once where no call is pending, else behind the operations that wait. What is to
+/// be done for it.
 ///
 /// Refused: `NotRunning` where the object is passive; `WrongState` where the edit has more than 65,536 bytes;
 /// `NumbersSpent`; then `NoMemory`. A refusal changes nothing.
@@ -50,9 +50,12 @@ pub fn edit_one(
     bytes: Bytes,
 ) -> Result<Items<Action>, ContainerFault>
     requires { HasNumber object.old }
-    ensures taken { IfOk result (λ actions. (r : Record) → r.numbers ≡ numbers → edit_linked r object.old bytes object.old.link ≡ Ok (counts_none (with_object r object.new) (acts actions))) }
+    ensures taken { IfOk result (λ actions. (r : Record) → r.numbers ≡ numbers
+        → edit_linked r object.old bytes object.old.link
+        ≡ Ok (counts_none (with_object r object.new) (acts actions))) }
     ensures few { IfOk result (λ actions. length actions ≤ 1) }
-    ensures refused { IfErr result (λ e. (r : Record) → r.numbers ≡ numbers → Refuses (edit_linked r object.old bytes object.old.link) e) }
+    ensures refused { IfErr result (λ e. (r : Record) → r.numbers ≡ numbers
+        → Refuses (edit_linked r object.old bytes object.old.link) e) }
     ensures same { object.new.number ≡ object.old.number }
     ensures kept { OnErr result (object.new ≡ object.old) }
 {

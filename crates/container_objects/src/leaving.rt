@@ -7,15 +7,14 @@ ghost use Rattle.container_model.specs.Grants.{grant_of};
 ghost use Rattle.container_model.specs.Record.{Record, acts, counts_none, sends, with_frame, with_object};
 ghost use Rattle.container_model.specs.Verbs.{gives_up, leaving_made, stepped_link};
 ghost use Rattle.container_model.specs.declared.record.Link.{Link};
-ghost use Rattle.wire_msgs.specs.Found.{nth};
+ghost use Rattle.message_values.specs.Found.{nth};
 
 use container_links::closing::ask_steps;
 use container_model::answer::Action;
 use container_model::record::{Frame, Link, Object};
-use grant_core::GrantState;
-use object_state::Step;
+use message_values::items::Items;
+use object_state::{GrantState, Step};
 use std::alloc::{AllocError, Global};
-use wire_msgs::items::Items;
 
 // Whether steps give the frame's menus and border up.
 fn gives_up(steps: &[Step]) -> bool
@@ -47,8 +46,9 @@ fn give_up(frame: &mut Frame, number: u32, act: u32)
     let _ = frame.ui.ask(number, act, g);
 }
 
-/// An object is asked, by its activation, for steps that don't take its frame, one after the other: at once where no call
-/// is pending, else behind the operations that wait. Where they give the frame up, nobody waits for it. What is to be done.
+/// An object is asked, by its activation, for steps that don't take its frame, one after the other: at once where no
+/// call is pending, else behind the operations that wait. Where they give the frame up, nobody waits for it. What is to
+/// be done.
 ///
 /// Refused for want of memory alone. Then nothing changes.
 pub fn leave(
@@ -85,7 +85,9 @@ pub fn leave_object(
 ) -> Result<Items<Action>, AllocError>
     requires number { HasNumber object.old }
     requires linked { is_some object.old.link ≡ true }
-    ensures taken { IfOk result (λ actions. (r : Record) (l : Link) → nth r.frames object.old.frame ≡ Some frame.old → object.old.link ≡ Some l → leaving_made r frame.old object.old l steps.now ≡ counts_none (with_object (with_frame r object.old.frame frame.new) object.new) (acts actions)) }
+    ensures taken { IfOk result (λ actions. (r : Record) (l : Link) → nth r.frames object.old.frame ≡ Some frame.old
+        → object.old.link ≡ Some l → leaving_made r frame.old object.old l steps.now
+        ≡ counts_none (with_object (with_frame r object.old.frame frame.new) object.new) (acts actions)) }
     ensures few { IfOk result (λ a. length a ≤ 1) }
     ensures same { object.new.number ≡ object.old.number }
     ensures kept { OnErr result (object.new ≡ object.old) }

@@ -1,4 +1,5 @@
-//! What a command, a reply, a write, the end of a server or a commit makes of objects, and the objects of a file that is opened.
+//! What a command, a reply, a write, the end of a server or a commit makes of objects, and the objects of a file that
+//! is opened.
 #![tactic(auto)]
 
 pub mod activations;

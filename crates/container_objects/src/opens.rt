@@ -4,10 +4,10 @@ ghost use Rattle.std.specs.Prelude.{◌≡◌, ◌+◌, ◌≤◌, IfOk, length}
 ghost use Rattle.container_model.specs.Opens.{opened_frame, opened_object, opened_objects};
 
 use container_model::record::{Frame, Object, Phase};
-use document_model::object::DocObject;
-use grant_core::FrameUi;
+use object_state::FrameUi;
+use ole_model::object::DocObject;
 use std::alloc::{AllocError, Global};
-use stored_values::bytes::Bytes;
+use tree_values::bytes::Bytes;
 
 /// A frame of a file that is opened, under the file's name. It holds the session of the file's document.
 pub fn opened_frame(name: Bytes, w: u16, h: u16, session: u32) -> Frame
@@ -40,8 +40,8 @@ fn opened_object(number: u32, frame: u32, object: DocObject) -> Object
     }
 }
 
-/// The objects of a document in a frame, in their order: passive, each with the next number. What they hold is moved, and
-/// not copied.
+/// The objects of a document in a frame, in their order: passive, each with the next number. What they hold is moved,
+/// and not copied.
 ///
 /// Refused for want of memory alone.
 pub fn opened_objects(

@@ -40,7 +40,8 @@ fn reap_slice(inc: u32, objects: &mut [Object])
     }
 }
 
-/// The objects of a server that has ended are passive, each with the content that it answered in the present save, if any.
+/// The objects of a server that has ended are passive, each with the content that it answered in the present save, if
+/// any.
 pub fn reap_all(inc: u32, objects: &mut Vec<Object>)
     ensures { objects.new.items ≡ map (λ o. reaped_object inc o o.link) objects.old.items }
 {

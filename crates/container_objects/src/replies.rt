@@ -12,11 +12,11 @@ use container_model::answer::{Action, Answer};
 use container_model::fault::ContainerFault;
 use container_model::grants::Tells;
 use container_model::record::Object;
+use message_values::answer as reply;
+use message_values::items::Items;
+use message_values::refusal::Refusal;
 use std::alloc::Global;
-use stored_streams::stored::Stored;
-use wire_msgs::answer as reply;
-use wire_msgs::items::Items;
-use wire_msgs::refusal::Refusal;
+use tree_streams::stored::Stored;
 
 /// What a reply gives, beside what it makes of the object.
 #[derive(Drop)]
@@ -45,11 +45,11 @@ fn keep(object: &mut Object, taken: Option<Stored>) -> bool
     }
 }
 
-/// The answer to a call of an object; a content that it closes with is its work content. Then the first operation that waits
-/// is called. The actions have room for so many more.
+/// The answer to a call of an object; a content that it closes with is its work content. Then the first operation that
+/// waits is called. The actions have room for so many more.
 ///
-/// Refused: `Stale` unless the call is pending; `BadAnswer` where the answer's content is past what may be stored, or the
-/// answer doesn't fit the call or the object's states; then `NoMemory`. A refusal changes nothing.
+/// Refused: `Stale` unless the call is pending; `BadAnswer` where the answer's content is past what may be stored, or
+/// the answer doesn't fit the call or the object's states; then `NoMemory`. A refusal changes nothing.
 pub fn told_object(
     alloc: Global,
     object: &mut Object,
@@ -59,7 +59,14 @@ pub fn told_object(
 ) -> Result<Told, ContainerFault>
     requires numbers { IfLinked (IsRoomy 1000000 0) object.old.link }
     requires few { more ≤ 2000001 }
-    ensures taken { IfOk result (λ t. told_of object.old (reply_link n answer object.old.link) ≡ Ok (record { object = object.new; taken = t.taken; refused = t.refused; grant = t.grant; actions = t.actions.items })) }
+    ensures taken { IfOk result (λ t. told_of object.old (reply_link n answer object.old.link)
+        ≡ Ok (record {
+          object = object.new;
+          taken = t.taken;
+          refused = t.refused;
+          grant = t.grant;
+          actions = t.actions.items;
+        })) }
     ensures few { IfOk result (λ t. vec_len t.actions ≤ 1) }
     ensures room { IfOk result (λ t. vec_len t.actions + more ≤ vec_capacity t.actions) }
     ensures refused { IfErr result (Refuses (reply_link n answer object.old.link)) }
@@ -87,8 +94,8 @@ pub fn told_object(
     }
 }
 
-/// An answer of what is to be done, whether a content was taken, why an object refused a call, and whether one got its frame
-/// without border space.
+/// An answer of what is to be done, whether a content was taken, why an object refused a call, and whether one got its
+/// frame without border space.
 pub fn answered(
     alloc: Global,
     taken: bool,
@@ -96,7 +103,12 @@ pub fn answered(
     no_tools: bool,
     actions: Vec<Action>,
 ) -> Answer
-    ensures { result ≡ record quiet_answer { taken = taken; refused = refused; no_tools = no_tools; actions = actions.items } }
+    ensures { result ≡ record quiet_answer {
+      taken = taken;
+      refused = refused;
+      no_tools = no_tools;
+      actions = actions.items;
+    } }
 {
     Answer {
         frame: None,

@@ -4,14 +4,14 @@ ghost use Rattle.std.specs.Prelude.{◌≡◌, ◌≤◌, All, IfOk, if◌then�
 ghost use Rattle.container_links.specs.Asking.{HasNumber, IsAsking};
 ghost use Rattle.container_model.specs.Commands.{saving_frame};
 ghost use Rattle.container_model.specs.HandOffs.{handing_frame, hands_off};
-ghost use Rattle.wire_msgs.specs.declared.operation.Operation.TheVariants.{Save};
+ghost use Rattle.message_values.specs.declared.operation.Operation.TheVariants.{Save};
 
 use container_links::asking::{Asking, prepare};
 use container_links::settling::hands_off;
 use container_model::record::{Frame, Object, Phase};
+use message_values::operation::Operation;
 use std::alloc::{AllocError, Global};
-use stored_values::bytes::Bytes;
-use wire_msgs::operation::Operation;
+use tree_values::bytes::Bytes;
 
 /// What is needed to ask the objects of a frame for their contents, for the save of number `k`.
 ///
@@ -28,7 +28,8 @@ pub fn prepare_save(
     prepare(alloc, frame, &Operation::Save(k), objects)
 }
 
-/// Where all that a save under another name waits for is there as it begins, the frame hands off at once: nobody is asked.
+/// Where all that a save under another name waits for is there as it begins, the frame hands off at once: nobody is
+/// asked.
 pub fn go_on(number: u32, frame: &mut Frame, objects: &[Object])
     ensures { frame.new ≡ if hands_off number objects.now frame.old then handing_frame frame.old else frame.old }
 {
@@ -37,8 +38,8 @@ pub fn go_on(number: u32, frame: &mut Frame, objects: &[Object])
     }
 }
 
-/// A frame is saved once more, under its name or under another one, with its session or one that it is raised to: its save has
-/// the next number, and waits for contents.
+/// A frame is saved once more, under its name or under another one, with its session or one that it is raised to: its
+/// save has the next number, and waits for contents.
 pub fn begin_save(frame: &mut Frame, raised: Option<u32>, asked: Option<Bytes>)
     requires { frame.old.k ≤ 1000000 }
     ensures { frame.new ≡ saving_frame raised asked frame.old }

@@ -1,6 +1,7 @@
 //! Objects that take their frame: the object that has it is asked first to give it up.
 
-ghost use Rattle.std.specs.Prelude.{◌≡◌, ◌≢◌, ◌≤◌, ◌<◌, ◌++◌, All, IfOk, IfSome, OnErr, OnOk, Some, is_some, length, option_to_list, slice_get, slice_set, true};
+ghost use Rattle.std.specs.Prelude.{◌≡◌, ◌≢◌, ◌≤◌, ◌<◌, ◌++◌, All, IfOk, IfSome, OnErr, OnOk, Some, is_some, length};
+ghost use Rattle.std.specs.Prelude.{option_to_list, slice_get, slice_set, true};
 ghost use Rattle.container_links.specs.Asking.{HasNumber, stepped_by};
 ghost use Rattle.container_model.specs.Grants.{moved};
 ghost use Rattle.container_model.specs.Record.{asked_sent, is_object, sends};
@@ -9,9 +10,9 @@ ghost use Rattle.container_model.specs.Numbered.{IsObjectAt};
 ghost use Rattle.container_model.specs.declared.record.Link.{Link};
 ghost use Rattle.container_model.specs.declared.record.Object.{Object};
 ghost use Rattle.container_objects.specs.Stepping.{both_told, told_objects, told_sent};
-ghost use Rattle.grant_core.specs.Grants.{Ask};
-ghost use Rattle.wire_msgs.specs.Found.{put};
-ghost use Rattle.wire_msgs.specs.declared.operation.Operation.TheVariants.{UiDeactivate};
+ghost use Rattle.object_state.specs.Grants.{Ask};
+ghost use Rattle.message_values.specs.Found.{put};
+ghost use Rattle.message_values.specs.declared.operation.Operation.TheVariants.{UiDeactivate};
 
 use container_checks::lookups::place_object;
 use container_checks::objects::Objects;
@@ -19,11 +20,10 @@ use container_links::closing::{Stepped, ask_steps, prepare_steps, take_up_steps}
 use container_links::requests::{Request, add_action, prepare_one, take_up_one};
 use container_model::answer::Action;
 use container_model::record::{Frame, Object};
-use grant_core::Claim;
-use object_state::Step;
+use message_values::items::Items;
+use message_values::operation::Operation;
+use object_state::{Claim, Step};
 use std::alloc::{AllocError, Global};
-use wire_msgs::items::Items;
-use wire_msgs::operation::Operation;
 
 /// The claim of an object that isn't passive, under a grant.
 pub fn claim_of(object: &Object, g: u32) -> Claim
@@ -56,7 +56,9 @@ fn ask_object(
 ) -> Result<Items<Action>, AllocError>
     requires number { HasNumber object.old }
     requires linked { is_some object.old.link ≡ true }
-    ensures asked { OnOk result (IfSome object.old.link (λ l. object.new ≡ record object.old { link = Some (stepped_link g l steps.now).link })) }
+    ensures asked { OnOk result
+        (IfSome object.old.link
+        (λ l. object.new ≡ record object.old { link = Some (stepped_link g l steps.now).link })) }
     ensures sent { IfOk result (λ a. IfSome object.old.link (λ l. a ≡ sends (stepped_link g l steps.now).sent)) }
     ensures few { IfOk result (λ a. length a ≤ 1) }
     ensures kept { OnErr result (object.new ≡ object.old) }
@@ -76,8 +78,10 @@ fn prepare_object(
 ) -> Result<Stepped, AllocError>
     requires number { HasNumber object.now }
     requires linked { is_some object.now.link ≡ true }
-    ensures asked { IfOk result (λ s. IfSome object.now.link (λ l. stepped_by s.first s.waiting l ≡ (stepped_link g l steps.now).link)) }
-    ensures sent { IfOk result (λ s. IfSome object.now.link (λ l. option_to_list s.action ≡ sends (stepped_link g l steps.now).sent)) }
+    ensures asked { IfOk result
+        (λ s. IfSome object.now.link (λ l. stepped_by s.first s.waiting l ≡ (stepped_link g l steps.now).link)) }
+    ensures sent { IfOk result
+        (λ s. IfSome object.now.link (λ l. option_to_list s.action ≡ sends (stepped_link g l steps.now).sent)) }
 {
     let Some(link) = &object.link else {
         unreachable!()
@@ -89,7 +93,8 @@ fn prepare_object(
 fn take_up_object(object: &mut Object, stepped: Stepped) -> Option<Action>
     requires number { HasNumber object.old }
     requires linked { is_some object.old.link ≡ true }
-    ensures asked { IfSome object.old.link (λ l. object.new ≡ record object.old { link = Some (stepped_by stepped.first stepped.waiting l) }) }
+    ensures asked { IfSome object.old.link
+        (λ l. object.new ≡ record object.old { link = Some (stepped_by stepped.first stepped.waiting l) }) }
     ensures action { result ≡ stepped.action }
 {
     let Some(link) = &mut object.link else {
@@ -109,8 +114,11 @@ fn ask_at(
     requires numbers { All HasNumber objects.old.items }
     requires fits { i < length objects.old.items }
     requires linked { IfSome (slice_get objects.old.items i) (λ o. is_some o.link ≡ true) }
-    ensures asked { OnOk result ((o : Object) (l : Link) → slice_get objects.old.items i ≡ Some o → o.link ≡ Some l → objects.new.items ≡ slice_set objects.old.items i (record o { link = Some (stepped_link g l steps.now).link })) }
-    ensures sent { IfOk result (λ a. (o : Object) (l : Link) → slice_get objects.old.items i ≡ Some o → o.link ≡ Some l → a ≡ sends (stepped_link g l steps.now).sent) }
+    ensures asked { OnOk result ((o : Object) (l : Link) → slice_get objects.old.items i ≡ Some o → o.link ≡ Some l
+        → objects.new.items ≡ slice_set objects.old.items i
+        (record o { link = Some (stepped_link g l steps.now).link })) }
+    ensures sent { IfOk result (λ a. (o : Object) (l : Link) → slice_get objects.old.items i ≡ Some o
+        → o.link ≡ Some l → a ≡ sends (stepped_link g l steps.now).sent) }
     ensures few { IfOk result (λ a. length a ≤ 1) }
     ensures kept { OnErr result (objects.new.items ≡ objects.old.items) }
 {
@@ -131,8 +139,12 @@ fn ask_both(
     requires other_fits { j < length objects.old.items }
     requires apart { i ≢ j }
     requires linked { IfSome (slice_get objects.old.items i) (λ o. is_some o.link ≡ true) }
-    ensures asked { OnOk result ((o h : Object) (l : Link) → slice_get objects.old.items i ≡ Some o → slice_get objects.old.items j ≡ Some h → o.link ≡ Some l → objects.new.items ≡ both_told objects.old.items i (record o { link = Some (stepped_link g l steps.now).link }) j h) }
-    ensures sent { IfOk result (λ a. (o h : Object) (l : Link) → slice_get objects.old.items i ≡ Some o → slice_get objects.old.items j ≡ Some h → o.link ≡ Some l → a ≡ sends (asked_sent UiDeactivate h.link) ++ sends (stepped_link g l steps.now).sent) }
+    ensures asked { OnOk result ((o h : Object) (l : Link) → slice_get objects.old.items i ≡ Some o
+        → slice_get objects.old.items j ≡ Some h → o.link ≡ Some l → objects.new.items
+        ≡ both_told objects.old.items i (record o { link = Some (stepped_link g l steps.now).link }) j h) }
+    ensures sent { IfOk result (λ a. (o h : Object) (l : Link) → slice_get objects.old.items i ≡ Some o
+        → slice_get objects.old.items j ≡ Some h → o.link ≡ Some l → a ≡ sends (asked_sent UiDeactivate h.link)
+        ++ sends (stepped_link g l steps.now).sent) }
     ensures few { IfOk result (λ a. length a ≤ 2) }
     ensures kept { OnErr result (objects.new.items ≡ objects.old.items) }
 {
@@ -146,8 +158,8 @@ fn ask_both(
     Ok(Items::from_vec(actions))
 }
 
-/// The object that stands there, and isn't passive, is asked under this grant for the steps by which it takes its frame; the
-/// object that has the frame, if any, is told first to give it up. What is to be done.
+/// The object that stands there, and isn't passive, is asked under this grant for the steps by which it takes its
+/// frame; the object that has the frame, if any, is told first to give it up. What is to be done.
 ///
 /// Refused for want of memory alone. Then nothing changes.
 pub fn ask_taking(
@@ -162,8 +174,12 @@ pub fn ask_taking(
     requires place { IsObjectAt objects.old.list.items i }
     requires linked { IfSome (slice_get objects.old.list.items i) (λ o. is_some o.link ≡ true) }
     requires apart { IfSome (slice_get objects.old.list.items i) (λ o. IfSome holder (λ n. n ≢ o.number)) }
-    ensures asked { OnOk result ((o : Object) (l : Link) → slice_get objects.old.list.items i ≡ Some o → o.link ≡ Some l → objects.new.list.items ≡ put (is_object o.number) (record o { link = Some (stepped_link g l steps.now).link }) (told_objects holder objects.old.list.items)) }
-    ensures sent { IfOk result (λ a. (o : Object) (l : Link) → slice_get objects.old.list.items i ≡ Some o → o.link ≡ Some l → a ≡ sends (told_sent holder objects.old.list.items ++ (stepped_link g l steps.now).sent)) }
+    ensures asked { OnOk result ((o : Object) (l : Link) → slice_get objects.old.list.items i ≡ Some o
+        → o.link ≡ Some l → objects.new.list.items ≡ put (is_object o.number)
+        (record o { link = Some (stepped_link g l steps.now).link }) (told_objects holder objects.old.list.items)) }
+    ensures sent { IfOk result (λ a. (o : Object) (l : Link) → slice_get objects.old.list.items i ≡ Some o
+        → o.link ≡ Some l → a ≡ sends (told_sent holder objects.old.list.items
+        ++ (stepped_link g l steps.now).sent)) }
     ensures few { IfOk result (λ a. length a ≤ 2) }
     ensures kept { OnErr result (objects.new.list.items ≡ objects.old.list.items) }
 {

@@ -1,16 +1,16 @@
 -- The parts that objects have in the grant of their frame's menus and border.
 use Rattle.std.specs.Prelude.{◌≡◌, ◌≢◌, ◌≤◌, ◌==◌, ℕ, List, [], ◌∷◌, Option, Some, None, IfSome, if◌then◌else◌}
 use Rattle.std.specs.List.{AllByRecursion}
-use Rattle.wire_msgs.specs.Found.{find}
-use Rattle.wire_msgs.specs.declared.operation.Operation.{Operation}
-use Rattle.wire_msgs.specs.declared.operation.Operation.TheVariants.{UiActivate, UiDeactivate}
+use Rattle.message_values.specs.Found.{find}
+use Rattle.message_values.specs.declared.operation.Operation.{Operation}
+use Rattle.message_values.specs.declared.operation.Operation.TheVariants.{UiActivate, UiDeactivate}
 use Rattle.object_state.specs.declared.object_states.ObjectState.{ObjectState}
 use Rattle.object_state.specs.declared.object_states.ObjectState.TheVariants.{UiActive}
-use Rattle.grant_core.specs.declared.grant_states.Claim.{Claim}
-use Rattle.grant_core.specs.declared.grant_states.Tools.{Tools}
-use Rattle.grant_core.specs.declared.grant_states.GrantState.{GrantState}
-use Rattle.grant_core.specs.declared.grant_states.GrantState.TheVariants as state
-use Rattle.grant_core.specs.Grants.{IsApart, waiting, who}
+use Rattle.object_state.specs.declared.grant_states.Claim.{Claim}
+use Rattle.object_state.specs.declared.grant_states.Tools.{Tools}
+use Rattle.object_state.specs.declared.grant_states.GrantState.{GrantState}
+use Rattle.object_state.specs.declared.grant_states.GrantState.TheVariants as state
+use Rattle.object_state.specs.Grants.{IsApart, waiting, who}
 use Rattle.container_model.specs.declared.record.Link.{Link}
 use Rattle.container_model.specs.declared.record.Object.{Object}
 use Rattle.container_model.specs.Record.{Record, is_object}
@@ -23,8 +23,8 @@ queue_of (Some op) waiting = op ∷ waiting
 abbrev pub queue : Link → List Operation
 queue l = queue_of l.pending l.waiting
 
--- An object is to get its frame, under this grant; has it, with these tools; is to give it up; or waits for it. Or none of
--- these.
+-- An object is to get its frame, under this grant; has it, with these tools; is to give it up; or waits for it. Or none
+-- of these.
 pub data Role : Type 0 where
   Other : Role
   Getting : ℕ → Role
@@ -54,8 +54,8 @@ IsPlain (UiActivate g) = ⊥
 IsPlain UiDeactivate = ⊥
 IsPlain op = Unit {0}
 
--- In the queue of whoever is to get the frame stands that it does, under its grant, and in that of whoever is to give it up
--- stands that it does; once each. In no other queue stands either.
+-- In the queue of whoever is to get the frame stands that it does, under its grant, and in that of whoever is to give
+-- it up stands that it does; once each. In no other queue stands either.
 abbrev pub PlaysGetting : ℕ → List Operation → Type 0
 PlaysGetting g [] = ⊥
 PlaysGetting g (UiActivate h ∷ ops) = (h ≡ g) × AllByRecursion IsPlain ops

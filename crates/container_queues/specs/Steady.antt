@@ -1,14 +1,18 @@
 -- What holds of a container's record by itself, whatever is answered to it.
-use Rattle.std.specs.Prelude.{◌≡◌, ◌≤◌, ◌<◌, ◌⊎◌, ℕ, Bool, true, false, List, [], ◌∷◌, length, nat_lt, Option, Some, None, Result, Ok, Err, IfSome, IsSomeAnd, IsOkAnd, is_some}
+use Rattle.std.specs.Prelude.{◌≡◌, ◌≤◌, ◌<◌, ◌⊎◌, ℕ, Bool, true, false, List, [], ◌∷◌, length, nat_lt, Option, Some}
+use Rattle.std.specs.Prelude.{None, Result, Ok, Err, IfSome, IsSomeAnd, IsOkAnd, is_some}
 use Rattle.std.specs.List.{AllByRecursion}
-use Rattle.wire_msgs.specs.Found.{find, nth}
-use Rattle.wire_msgs.specs.Operations.{op_of}
-use Rattle.wire_msgs.specs.declared.operation.Operation.{Operation}
-use Rattle.wire_msgs.specs.declared.operation.Operation.TheVariants.{InitNew, Load, InPlace, UiActivate, UiDeactivate, InPlaceDeactivate, OpenWindow, Edit, Save, HandsOff, SaveCompleted, SaveDropped, Close}
-use Rattle.object_parts.specs.Limits.{is_within}
-use Rattle.ole_parts.specs.CompObjs.{PAST_USER_TYPE}
-use Rattle.file_model.specs.Refusals.{writable}
-use Rattle.file_model.specs.declared.fault.WriteFault.TheVariants.{TooBig}
+use Rattle.message_values.specs.Found.{find, nth}
+use Rattle.message_values.specs.Operations.{op_of}
+use Rattle.message_values.specs.declared.operation.Operation.{Operation}
+use Rattle.message_values.specs.declared.operation.Operation.TheVariants.{InitNew, Load, InPlace, UiActivate}
+use Rattle.message_values.specs.declared.operation.Operation.TheVariants.{UiDeactivate, InPlaceDeactivate, OpenWindow}
+use Rattle.message_values.specs.declared.operation.Operation.TheVariants.{Edit, Save, HandsOff, SaveCompleted}
+use Rattle.message_values.specs.declared.operation.Operation.TheVariants.{SaveDropped, Close}
+use Rattle.tree_streams.specs.Limits.{is_within}
+use Rattle.ole_model.specs.CompObjs.{PAST_USER_TYPE}
+use Rattle.cfb_file.specs.Refusals.{writable}
+use Rattle.cfb_file.specs.declared.fault.WriteFault.TheVariants.{TooBig}
 use Rattle.object_state.specs.Both as both
 use Rattle.object_state.specs.Persists.{may_write}
 use Rattle.object_state.specs.declared.operations.CloseOption.{CloseOption}
@@ -19,7 +23,7 @@ use Rattle.object_state.specs.declared.persist_states.PersistState.TheVariants.{
 use Rattle.object_state.specs.declared.persist_states.PersistState.TheVariants as state
 use Rattle.object_state.specs.declared.object_states.ObjectState.{ObjectState}
 use Rattle.object_state.specs.declared.object_states.ObjectState.TheVariants.{Passive, Loaded, InPlaceActive}
-use Rattle.stored_streams.specs.declared.stored.Stored.{Stored}
+use Rattle.tree_streams.specs.declared.stored.Stored.{Stored}
 use Rattle.container_model.specs.declared.record.Link.{Link}
 use Rattle.container_model.specs.declared.record.Object.{Object}
 use Rattle.container_model.specs.declared.record.Frame.{Frame}
@@ -51,8 +55,9 @@ abbrev pub HasStorage : PersistState → Type 0
 HasStorage Unset = ⊥
 HasStorage state = Unit {0}
 
--- Where a queue ends: with its storage, but for a save that is under way, which is the last one then; under another name the
--- storage is given away before the commit. While no save is under way it may end with a close, which leaves the object passive.
+-- Where a queue ends: with its storage, but for a save that is under way, which is the last one then; under another
+-- name the storage is given away before the commit. While no save is under way it may end with a close, which leaves
+-- the object passive.
 abbrev pub storage_by : Option (List ℕ) → PersistState
 storage_by None = NoScribble
 storage_by (Some name) = state.HandsOff
@@ -105,8 +110,9 @@ abbrev pub WaitsBehind : Option Operation → List Operation → Type 0
 WaitsBehind None waiting = waiting ≡ []
 WaitsBehind (Some op) waiting = Unit {0}
 
--- operations that stand in a queue: a content is asked for only while its frame is saving and until it is answered, a storage
--- only while its frame hands off, and the end of a save is told, and an object closed, only while none is under way
+-- operations that stand in a queue: a content is asked for only while its frame is saving and until it is answered, a
+-- storage only while its frame hands off, and the end of a save is told, and an object closed, only while none is under
+-- way
 abbrev pub IsTimely : Phase → Option Stored → Operation → Type 0
 IsTimely phase saved (InitNew class) = Unit {0}
 IsTimely phase saved (Load class content) = Unit {0}
@@ -133,9 +139,10 @@ abbrev pub MayBeStored : Option Stored → Type 0
 MayBeStored None = Unit {0}
 MayBeStored (Some content) = is_within content ≡ true
 
--- an activation of an object of a frame in this phase, saved under this other name, if any, whose last save has number k, and in
--- whose grant it has this part
-pub record SteadyLink (servers : List Bool) (last_act : ℕ) (phase : Phase) (asked : Option (List ℕ)) (k : ℕ) (role : Role) (l : Link) : Type 0 where
+-- an activation of an object of a frame in this phase, saved under this other name, if any, whose last save has number
+-- k, and in whose grant it has this part
+pub record SteadyLink (servers : List Bool) (last_act : ℕ) (phase : Phase) (asked : Option (List ℕ)) (k : ℕ)
+    (role : Role) (l : Link) : Type 0 where
   -- its number was drawn, and its server was started and isn't reaped
   pub acts_drawn : l.act ≤ last_act
   pub servers_told : is_unreaped (nth servers l.inc) ≡ true
@@ -156,7 +163,9 @@ pub record SteadyObject (r : Record) (o : Object) : Type 0 where
   pub drawn : o.number ≤ r.last_object
   pub within : is_within o.work ≡ true
   pub user_type : nat_lt (length o.user_type) PAST_USER_TYPE ≡ true
-  pub linked : IsSomeAnd (nth r.frames o.frame) (λ (frame : Frame). IfSome o.link (SteadyLink r.servers r.last_act frame.phase frame.asked frame.k (role_in frame.ui.state o.number)))
+  pub linked : IsSomeAnd (nth r.frames o.frame)
+      (λ (frame : Frame). IfSome o.link (SteadyLink r.servers r.last_act frame.phase frame.asked frame.k
+      (role_in frame.ui.state o.number)))
 
 -- a frame: no name is asked for while no save is under way, and one is while it hands off
 abbrev pub IsAskedIn : Phase → Option (List ℕ) → Type 0
@@ -176,7 +185,8 @@ abbrev pub EachPair : {A : Type 0} → (A → A → Type 0) → List A → Type 
 EachPair R [] = Unit {0}
 EachPair R (x ∷ xs) = AllByRecursion (R x) xs × EachPair R xs
 
--- the record of a container: no frame has more objects than a document may have, and each frame's grant is of its objects
+-- the record of a container: no frame has more objects than a document may have, and each frame's grant is of its
+-- objects
 pub record Steady (r : Record) : Type 0 where
   pub frames : AllByRecursion SteadyFrame r.frames
   pub objects : AllByRecursion (SteadyObject r) r.objects
@@ -194,14 +204,18 @@ IsUnsettled phase = (phase ≡ Committing) ⊎ (phase ≡ InDoubt)
 
 -- what is committed is, for each object that isn't passive, the content that it answered in this save
 abbrev pub CommitsAnsweredContents : Type 0
-CommitsAnsweredContents = (r : Record) (n : ℕ) (o : Object) (l : Link) (frame : Frame) → Steady r → find (is_object n) r.objects ≡ Some o → o.link ≡ Some l → nth r.frames o.frame ≡ Some frame → IsUnsettled frame.phase → (content : Stored) × (l.saved ≡ Some content) × (kept o ≡ content)
+CommitsAnsweredContents = (r : Record) (n : ℕ) (o : Object) (l : Link) (frame : Frame) → Steady r
+    → find (is_object n) r.objects ≡ Some o → o.link ≡ Some l → nth r.frames o.frame ≡ Some frame
+    → IsUnsettled frame.phase → (content : Stored) × (l.saved ≡ Some content) × (kept o ≡ content)
 
 -- an activation is of one object
 abbrev pub OneObjectAnActivation : Type 0
-OneObjectAnActivation = (r : Record) (n m : ℕ) (o p : Object) (l k : Link) → Steady r → find (is_object n) r.objects ≡ Some o → find (is_object m) r.objects ≡ Some p → o.link ≡ Some l → p.link ≡ Some k → l.act ≡ k.act → n ≡ m
+OneObjectAnActivation = (r : Record) (n m : ℕ) (o p : Object) (l k : Link) → Steady r
+    → find (is_object n) r.objects ≡ Some o → find (is_object m) r.objects ≡ Some p → o.link ≡ Some l
+    → p.link ≡ Some k → l.act ≡ k.act → n ≡ m
 
--- A close ends its queue, in a frame that is idle: the content that it answers comes under a storage that may be written
--- into, while none is asked for and none was answered.
+-- A close ends its queue, in a frame that is idle: the content that it answers comes under a storage that may be
+-- written into, while none is asked for and none was answered.
 pub record IsOpenWhileClosing (l : Link) : Type 0 where
   pub storage : may_write l.states.persist.state ≡ true
   pub running : IsRunning l.states.object
@@ -210,7 +224,8 @@ pub record IsOpenWhileClosing (l : Link) : Type 0 where
   pub unsaved : l.saved ≡ None
 
 abbrev pub ClosesAreOpen : Type 0
-ClosesAreOpen = (r : Record) (test : Object → Bool) (o : Object) (l : Link) (option : CloseOption) → Steady r → find test r.objects ≡ Some o → o.link ≡ Some l → l.pending ≡ Some (Close option) → IsOpenWhileClosing l
+ClosesAreOpen = (r : Record) (test : Object → Bool) (o : Object) (l : Link) (option : CloseOption) → Steady r
+    → find test r.objects ≡ Some o → o.link ≡ Some l → l.pending ≡ Some (Close option) → IsOpenWhileClosing l
 
 -- what a frame has is a document
 abbrev pub DocumentsHold : Type 0
@@ -219,4 +234,5 @@ DocumentsHold = (r : Record) (f : ℕ) → Steady r → is_document (held_parts 
 -- so there is no room for a document only where its tree is past what a file holds
 abbrev pub FullByTheFileAlone : Type 0
 FullByTheFileAlone = (r : Record) (f : ℕ) → Steady r → image r f ≡ Err Full
-    → (frame : Frame) × (nth r.frames f ≡ Some frame) × (writable (document_tree (frame_document frame (parts_in f r.objects))) ≡ Err TooBig)
+    → (frame : Frame) × (nth r.frames f ≡ Some frame)
+    × (writable (document_tree (frame_document frame (parts_in f r.objects))) ≡ Err TooBig)

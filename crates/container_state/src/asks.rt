@@ -4,15 +4,15 @@ ghost use Rattle.std.specs.Prelude.{◌≡◌, ◌≤◌, IfErr, IfOk, Ok, OnErr
 ghost use Rattle.container_model.specs.Messages.{ask_found, on_ask};
 ghost use Rattle.container_model.specs.Record.{Refuses, counts_none, is_linked};
 ghost use Rattle.container_model.specs.Room.{IsSound};
-ghost use Rattle.wire_msgs.specs.Found.{find, IsPlace};
+ghost use Rattle.message_values.specs.Found.{find, IsPlace};
 
 use crate::state::State;
 use container_checks::lookups::place_linked;
 use container_grants::grants::{ask_number, is_held_by};
 use container_model::answer::Answer;
 use container_model::fault::ContainerFault;
+use message_values::operation::Operation;
 use std::alloc::Global;
-use wire_msgs::operation::Operation;
 
 impl State {
     // An object asks, by its activation and its grant, to be relieved of its frame.
@@ -49,9 +49,11 @@ impl State {
     ) -> Result<Answer, ContainerFault>
         requires sound { IsSound self.old }
         requires place { IsPlace (is_linked inc act) self.old.objects i }
-        ensures taken { IfOk result (λ a. ask_found self.old act g (find (is_linked inc act) self.old.objects) ≡ Ok (counts_none self.new a)) }
+        ensures taken { IfOk result (λ a. ask_found self.old act g (find (is_linked inc act) self.old.objects)
+            ≡ Ok (counts_none self.new a)) }
         ensures few { IfOk result (λ a. length a.actions ≤ 1) }
-        ensures refused { IfErr result (Refuses (ask_found self.old act g (find (is_linked inc act) self.old.objects))) }
+        ensures refused { IfErr result
+            (Refuses (ask_found self.old act g (find (is_linked inc act) self.old.objects))) }
         ensures kept { OnErr result (self.new ≡ self.old) }
     {
         let f = self.objects.list[i].frame;

@@ -44,9 +44,13 @@ impl State {
         requires sound { IsSound self.old }
         requires place { IsObjectAt self.old.objects i }
         requires frame { IfSome (slice_get self.old.objects i) (λ o. IsNth o.frame self.old.frames at) }
-        ensures taken { IfOk result (λ a. IfSome (slice_get self.old.objects i) (λ o. IfSome (slice_get self.old.frames at) (λ frame. close_linked self.old frame o option o.link ≡ Ok (counts_none self.new a)))) }
+        ensures taken { IfOk result (λ a. IfSome (slice_get self.old.objects i)
+            (λ o. IfSome (slice_get self.old.frames at) (λ frame. close_linked self.old frame o option o.link
+            ≡ Ok (counts_none self.new a)))) }
         ensures few { IfOk result (λ a. length a.actions ≤ 1) }
-        ensures refused { IfErr result (λ e. IfSome (slice_get self.old.objects i) (λ o. IfSome (slice_get self.old.frames at) (λ frame. Refuses (close_linked self.old frame o option o.link) e))) }
+        ensures refused { IfErr result (λ e. IfSome (slice_get self.old.objects i)
+            (λ o. IfSome (slice_get self.old.frames at)
+            (λ frame. Refuses (close_linked self.old frame o option o.link) e))) }
         ensures kept { OnErr result (self.new ≡ self.old) }
     {
         let frame = &mut self.frames[at];

@@ -1,7 +1,7 @@
 //! What a container does with a command of a user.
 
 ghost use Rattle.std.specs.Prelude.{◌+◌, ◌≡◌, ◌≤◌, IfErr, IfOk, Ok, OnErr, length};
-ghost use Rattle.container_steady.specs.Steady.{Steady};
+ghost use Rattle.container_queues.specs.Steady.{Steady};
 ghost use Rattle.container_model.specs.Commands.{on_command};
 ghost use Rattle.container_model.specs.Record.{Refuses, counts_none};
 ghost use Rattle.container_model.specs.Room.{IsSound};

@@ -1,14 +1,15 @@
 //! What a container does with a content that an object answers in a save.
 
-ghost use Rattle.std.specs.Prelude.{◌+◌, ◌<◌, ◌≡◌, ◌≤◌, IfErr, IfOk, IfSome, Ok, OnErr, Some, length, slice_get, true, false};
+ghost use Rattle.std.specs.Prelude.{◌+◌, ◌<◌, ◌≡◌, ◌≤◌, IfErr, IfOk, IfSome, Ok, OnErr, Some, length, slice_get, true};
+ghost use Rattle.std.specs.Prelude.{false};
 ghost use Rattle.container_links.specs.Handing.{answers, awaits_but};
-ghost use Rattle.container_steady.specs.Steady.{Steady};
+ghost use Rattle.container_queues.specs.Steady.{Steady};
 ghost use Rattle.container_model.specs.HandOffs.{hands_off_at};
 ghost use Rattle.container_model.specs.Messages.{reply_found, reply_link};
 ghost use Rattle.container_model.specs.Numbered.{IsNth};
 ghost use Rattle.container_model.specs.Record.{Refuses, counts_none, is_linked};
 ghost use Rattle.container_model.specs.Room.{IsSound};
-ghost use Rattle.wire_msgs.specs.Found.{find, IsPlace};
+ghost use Rattle.message_values.specs.Found.{find, IsPlace};
 
 use crate::state::State;
 use container_checks::objects::Objects;
@@ -18,8 +19,8 @@ use container_model::answer::Answer;
 use container_model::fault::ContainerFault;
 use container_model::record::Frame;
 use container_objects::replies::{Told, answered, told_object};
+use message_values::answer as reply;
 use std::alloc::Global;
-use wire_msgs::answer as reply;
 
 // Whether a frame hands off once the object that stands here has answered its content.
 fn hands_off_then(number: u32, place: usize, frame: &Frame, objects: &Objects) -> bool
@@ -43,10 +44,13 @@ impl State {
         requires steady { Steady self.old }
         requires sound { IsSound self.old }
         requires place { IsPlace (is_linked inc act) self.old.objects i }
-        requires content { IfSome (slice_get self.old.objects i) (λ o. answers o.link (reply_link n answer o.link) ≡ true) }
-        ensures taken { IfOk result (λ a. reply_found self.old inc act n answer (find (is_linked inc act) self.old.objects) ≡ Ok (counts_none self.new a)) }
+        requires content { IfSome (slice_get self.old.objects i)
+            (λ o. answers o.link (reply_link n answer o.link) ≡ true) }
+        ensures taken { IfOk result (λ a. reply_found self.old inc act n answer
+            (find (is_linked inc act) self.old.objects) ≡ Ok (counts_none self.new a)) }
         ensures few { IfOk result (λ a. length a.actions ≤ length self.old.objects + length self.old.frames + 1) }
-        ensures refused { IfErr result (Refuses (reply_found self.old inc act n answer (find (is_linked inc act) self.old.objects))) }
+        ensures refused { IfErr result
+            (Refuses (reply_found self.old inc act n answer (find (is_linked inc act) self.old.objects))) }
         ensures kept { OnErr result (self.new ≡ self.old) }
     {
         let f = self.objects.list[i].frame;
@@ -74,12 +78,17 @@ impl State {
         requires steady { Steady self.old }
         requires sound { IsSound self.old }
         requires place { IsPlace (is_linked inc act) self.old.objects i }
-        requires content { IfSome (slice_get self.old.objects i) (λ o. answers o.link (reply_link n answer o.link) ≡ true) }
+        requires content { IfSome (slice_get self.old.objects i)
+            (λ o. answers o.link (reply_link n answer o.link) ≡ true) }
         requires frame { IfSome (slice_get self.old.objects i) (λ o. IsNth o.frame self.old.frames at) }
-        requires hands { IfSome (slice_get self.old.objects i) (λ o. IfSome (slice_get self.old.frames at) (λ x. hands_off_at x.phase x.asked (awaits_but o.frame i self.old.objects) ≡ true)) }
-        ensures taken { IfOk result (λ a. reply_found self.old inc act n answer (find (is_linked inc act) self.old.objects) ≡ Ok (counts_none self.new a)) }
+        requires hands { IfSome (slice_get self.old.objects i)
+            (λ o. IfSome (slice_get self.old.frames at)
+            (λ x. hands_off_at x.phase x.asked (awaits_but o.frame i self.old.objects) ≡ true)) }
+        ensures taken { IfOk result (λ a. reply_found self.old inc act n answer
+            (find (is_linked inc act) self.old.objects) ≡ Ok (counts_none self.new a)) }
         ensures few { IfOk result (λ a. length a.actions ≤ length self.old.objects + length self.old.frames + 1) }
-        ensures refused { IfErr result (Refuses (reply_found self.old inc act n answer (find (is_linked inc act) self.old.objects))) }
+        ensures refused { IfErr result
+            (Refuses (reply_found self.old inc act n answer (find (is_linked inc act) self.old.objects))) }
         ensures kept { OnErr result (self.new ≡ self.old) }
     {
         let f = self.objects.list[i].frame;
@@ -121,12 +130,17 @@ impl State {
         requires steady { Steady self.old }
         requires sound { IsSound self.old }
         requires place { IsPlace (is_linked inc act) self.old.objects i }
-        requires content { IfSome (slice_get self.old.objects i) (λ o. answers o.link (reply_link n answer o.link) ≡ true) }
+        requires content { IfSome (slice_get self.old.objects i)
+            (λ o. answers o.link (reply_link n answer o.link) ≡ true) }
         requires frame { IfSome (slice_get self.old.objects i) (λ o. IsNth o.frame self.old.frames at) }
-        requires hands { IfSome (slice_get self.old.objects i) (λ o. IfSome (slice_get self.old.frames at) (λ x. hands_off_at x.phase x.asked (awaits_but o.frame i self.old.objects) ≡ false)) }
-        ensures taken { IfOk result (λ a. reply_found self.old inc act n answer (find (is_linked inc act) self.old.objects) ≡ Ok (counts_none self.new a)) }
+        requires hands { IfSome (slice_get self.old.objects i)
+            (λ o. IfSome (slice_get self.old.frames at)
+            (λ x. hands_off_at x.phase x.asked (awaits_but o.frame i self.old.objects) ≡ false)) }
+        ensures taken { IfOk result (λ a. reply_found self.old inc act n answer
+            (find (is_linked inc act) self.old.objects) ≡ Ok (counts_none self.new a)) }
         ensures few { IfOk result (λ a. length a.actions ≤ length self.old.objects + length self.old.frames + 1) }
-        ensures refused { IfErr result (Refuses (reply_found self.old inc act n answer (find (is_linked inc act) self.old.objects))) }
+        ensures refused { IfErr result
+            (Refuses (reply_found self.old inc act n answer (find (is_linked inc act) self.old.objects))) }
         ensures kept { OnErr result (self.new ≡ self.old) }
     {
         let more = self.frames.len();

@@ -29,9 +29,11 @@ impl State {
     // The object that stands there goes, where it is passive.
     fn delete_object(&mut self, alloc: Global, i: usize) -> Result<Answer, ContainerFault>
         requires { IsObjectAt self.old.objects i }
-        ensures taken { IfOk result (λ a. IfSome (slice_get self.old.objects i) (λ o. unless (is_some o.link) WrongState (Ok (delete_made self.old o)) ≡ Ok (counts_none self.new a))) }
+        ensures taken { IfOk result (λ a. IfSome (slice_get self.old.objects i)
+            (λ o. unless (is_some o.link) WrongState (Ok (delete_made self.old o)) ≡ Ok (counts_none self.new a))) }
         ensures few { IfOk result (λ a. length a.actions ≤ 1) }
-        ensures refused { IfErr result (λ e. IfSome (slice_get self.old.objects i) (λ o. Refuses (unless (is_some o.link) WrongState (Ok (delete_made self.old o))) e)) }
+        ensures refused { IfErr result (λ e. IfSome (slice_get self.old.objects i)
+            (λ o. Refuses (unless (is_some o.link) WrongState (Ok (delete_made self.old o))) e)) }
         ensures memory { IfErr result (λ fault. fault ≢ NoMemory) }
         ensures kept { OnErr result (self.new ≡ self.old) }
     {

@@ -11,7 +11,7 @@ use container_model::answer::Answer;
 use container_model::fault::ContainerFault;
 use container_objects::edits::edit_one;
 use std::alloc::Global;
-use stored_values::bytes::Bytes;
+use tree_values::bytes::Bytes;
 
 impl State {
     // A running object is asked for an edit.
@@ -42,9 +42,11 @@ impl State {
     ) -> Result<Answer, ContainerFault>
         requires sound { IsSound self.old }
         requires place { IsObjectAt self.old.objects i }
-        ensures taken { IfOk result (λ a. IfSome (slice_get self.old.objects i) (λ o. edit_linked self.old o bytes o.link ≡ Ok (counts_none self.new a))) }
+        ensures taken { IfOk result (λ a. IfSome (slice_get self.old.objects i)
+            (λ o. edit_linked self.old o bytes o.link ≡ Ok (counts_none self.new a))) }
         ensures few { IfOk result (λ a. length a.actions ≤ 1) }
-        ensures refused { IfErr result (λ e. IfSome (slice_get self.old.objects i) (λ o. Refuses (edit_linked self.old o bytes o.link) e)) }
+        ensures refused { IfErr result (λ e. IfSome (slice_get self.old.objects i)
+            (λ o. Refuses (edit_linked self.old o bytes o.link) e)) }
         ensures kept { OnErr result (self.new ≡ self.old) }
     {
         let actions = match edit_one(alloc, self.numbers, &mut self.objects.list[i], bytes) {

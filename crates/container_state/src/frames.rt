@@ -9,9 +9,9 @@ use container_checks::checks;
 use container_model::answer::Answer;
 use container_model::fault::ContainerFault;
 use container_model::record::{Frame, Phase};
-use grant_core::FrameUi;
+use object_state::FrameUi;
 use std::alloc::Global;
-use stored_values::bytes::Bytes;
+use tree_values::bytes::Bytes;
 
 // How many frames there may be.
 const MOST_FRAMES: usize = 8;

@@ -5,7 +5,7 @@ ghost use Rattle.container_model.specs.Commands.{insert, insert_at, insert_into,
 ghost use Rattle.container_model.specs.Record.{Record, Refuses, counts_none, quiet_answer};
 ghost use Rattle.container_model.specs.declared.command.ObjectKind.{ObjectKind};
 ghost use Rattle.container_model.specs.declared.fault.ContainerFault.TheVariants.{NoMemory};
-ghost use Rattle.container_steady.specs.Steady.{Steady};
+ghost use Rattle.container_queues.specs.Steady.{Steady};
 
 use crate::state::State;
 use container_checks::checks;
@@ -14,8 +14,8 @@ use container_model::command::ObjectKind;
 use container_model::fault::ContainerFault;
 use container_model::record::Frame;
 use container_objects::activations::new_object;
-use object_parts::area::Area;
 use std::alloc::{AllocError, Global};
+use tree_streams::area::Area;
 
 // How many objects a frame may have.
 const MOST_OBJECTS: usize = 64;
@@ -24,8 +24,10 @@ const MOST_OBJECTS: usize = 64;
 //
 // Refused: `InDoubt`, `Busy`, `WrongState`.
 fn may_insert(frame: &Frame, area: Area) -> Result<(), ContainerFault>
-    ensures may { OnOk result ((r : Record) (f : ℕ) (kind : ObjectKind) → insert_at r f (kind_of kind) area (Some frame.now) ≡ insert_into r f (kind_of kind) area) }
-    ensures refused { IfErr result (λ e. (r : Record) (f : ℕ) (kind : ObjectKind) → Refuses (insert_at r f (kind_of kind) area (Some frame.now)) e) }
+    ensures may { OnOk result ((r : Record) (f : ℕ) (kind : ObjectKind)
+        → insert_at r f (kind_of kind) area (Some frame.now) ≡ insert_into r f (kind_of kind) area) }
+    ensures refused { IfErr result (λ e. (r : Record) (f : ℕ) (kind : ObjectKind)
+        → Refuses (insert_at r f (kind_of kind) area (Some frame.now)) e) }
     ensures memory { IfErr result (λ fault. fault ≢ NoMemory) }
 {
     if checks::is_doubtful(frame.phase) {
@@ -82,7 +84,8 @@ impl State {
         area: Area,
     ) -> Result<Answer, ContainerFault>
         requires { Steady self.old }
-        ensures taken { IfOk result (λ a. insert_into self.old frame (kind_of kind) area ≡ Ok (counts_none self.new a)) }
+        ensures taken { IfOk result (λ a. insert_into self.old frame (kind_of kind) area
+            ≡ Ok (counts_none self.new a)) }
         ensures few { IfOk result (λ a. length a.actions ≤ 1) }
         ensures refused { IfErr result (Refuses (insert_into self.old frame (kind_of kind) area)) }
         ensures kept { OnErr result (self.new ≡ self.old) }

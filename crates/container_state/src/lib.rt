@@ -1,5 +1,5 @@
-//! A container's record as it is kept, and what a container makes of a command and of a message: a module for each command. What
-//! stays true of every record is kept by the container above; here a step asks for what it needs.
+//! A container's record as it is kept, and what a container makes of a command and of a message: a module for each
+//! command. What stays true of every record is kept by the container above; here a step asks for what it needs.
 #![tactic(auto)]
 
 mod asks;

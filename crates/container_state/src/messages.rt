@@ -1,11 +1,12 @@
 //! What a container does with a message.
 
 ghost use Rattle.std.specs.Prelude.{◌+◌, ◌≡◌, ◌≤◌, IfErr, IfOk, Ok, OnErr, length, true};
-ghost use Rattle.container_steady.specs.Steady.{Steady};
+ghost use Rattle.container_queues.specs.Steady.{Steady};
 ghost use Rattle.container_model.specs.Record.{Refuses, counts_none, is_linked, quiet_answer};
-ghost use Rattle.container_model.specs.Messages.{is_said_by, on_message, on_reply, on_write, reply_found, said_to, write_found};
+ghost use Rattle.container_model.specs.Messages.{is_said_by, on_message, on_reply, on_write, reply_found, said_to};
+ghost use Rattle.container_model.specs.Messages.{write_found};
 ghost use Rattle.container_model.specs.Room.{IsSound};
-ghost use Rattle.wire_msgs.specs.Found.{find, IsPlace};
+ghost use Rattle.message_values.specs.Found.{find, IsPlace};
 
 use crate::state::State;
 use container_checks::lookups::place_linked;
@@ -18,10 +19,10 @@ use container_model::fault::ContainerFault;
 use container_model::server_link::ServerLink;
 use container_objects::replies::{Told, answered, told_object};
 use container_objects::writes::write_one;
+use message_values::answer as reply;
+use message_values::message::{Message, Said};
 use std::alloc::Global;
-use stored_streams::stored::Stored;
-use wire_msgs::answer as reply;
-use wire_msgs::message::{Message, Said};
+use tree_streams::stored::Stored;
 
 // The answer to a write that was taken.
 fn content_taken(alloc: Global) -> Answer
@@ -43,7 +44,8 @@ fn is_said_by(link: u32, said: &Said) -> bool
 }
 
 impl State {
-    /// A message on the link of a server. The answer has what came of it, what is sent and which files are to be committed.
+    /// A message on the link of a server. The answer has what came of it, what is sent and which files are to be
+    /// committed.
     ///
     /// Refused: `WrongLink`, `Stale`, `BadAnswer`; then `NoMemory`. A refusal changes nothing.
     pub fn on_message(
@@ -136,9 +138,11 @@ impl State {
         requires steady { Steady self.old }
         requires sound { IsSound self.old }
         requires place { IsPlace (is_linked inc act) self.old.objects place }
-        ensures taken { IfOk result (λ a. reply_found self.old inc act n answer (find (is_linked inc act) self.old.objects) ≡ Ok (counts_none self.new a)) }
+        ensures taken { IfOk result (λ a. reply_found self.old inc act n answer
+            (find (is_linked inc act) self.old.objects) ≡ Ok (counts_none self.new a)) }
         ensures few { IfOk result (λ a. length a.actions ≤ length self.old.objects + length self.old.frames + 1) }
-        ensures refused { IfErr result (Refuses (reply_found self.old inc act n answer (find (is_linked inc act) self.old.objects))) }
+        ensures refused { IfErr result
+            (Refuses (reply_found self.old inc act n answer (find (is_linked inc act) self.old.objects))) }
         ensures kept { OnErr result (self.new ≡ self.old) }
     {
         if is_content(&self.objects.list[place].link, n, &answer) {
@@ -201,9 +205,11 @@ impl State {
         content: Stored,
     ) -> Result<Answer, ContainerFault>
         requires { IsPlace (is_linked inc act) self.old.objects place }
-        ensures taken { IfOk result (λ a. write_found self.old inc act s w content (find (is_linked inc act) self.old.objects) ≡ Ok (counts_none self.new a)) }
+        ensures taken { IfOk result (λ a. write_found self.old inc act s w content
+            (find (is_linked inc act) self.old.objects) ≡ Ok (counts_none self.new a)) }
         ensures few { IfOk result (λ a. length a.actions ≤ 1) }
-        ensures refused { IfErr result (Refuses (write_found self.old inc act s w content (find (is_linked inc act) self.old.objects))) }
+        ensures refused { IfErr result
+            (Refuses (write_found self.old inc act s w content (find (is_linked inc act) self.old.objects))) }
         ensures kept { OnErr result (self.new ≡ self.old) }
     {
         match write_one(&mut self.objects.list[place], s, w, content) {

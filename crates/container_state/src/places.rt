@@ -19,8 +19,10 @@ use container_model::record::{Frame, Object};
 //
 // Refused: `InDoubt`, `Busy`.
 fn may_ask(frame: &Frame, object: &Object) -> Result<(), ContainerFault>
-    ensures may { OnOk result ((step : Object → Frame → Result Took ContainerFault) → ready step object.now frame.now ≡ step object.now frame.now) }
-    ensures refused { IfErr result (λ e. (step : Object → Frame → Result Took ContainerFault) → Refuses (ready step object.now frame.now) e) }
+    ensures may { OnOk result ((step : Object → Frame → Result Took ContainerFault)
+        → ready step object.now frame.now ≡ step object.now frame.now) }
+    ensures refused { IfErr result (λ e. (step : Object → Frame → Result Took ContainerFault)
+        → Refuses (ready step object.now frame.now) e) }
     ensures memory { IfErr result (λ fault. fault ≢ NoMemory) }
 {
     if checks::is_doubtful(frame.phase) {
@@ -42,9 +44,14 @@ impl State {
     /// Refused: `NoSuch`.
     pub(crate) fn place_both(&self, object: u32) -> Result<(usize, usize), ContainerFault>
         ensures place { IfOk result (λ p. IsObjectAt self.now.objects p.0) }
-        ensures frame { IfOk result (λ p. IfSome (slice_get self.now.objects p.0) (λ o. IsNth o.frame self.now.frames p.1)) }
-        ensures step { IfOk result (λ p. IsSomeAnd (slice_get self.now.objects p.0) (λ o. IsSomeAnd (slice_get self.now.frames p.1) (λ frame. (step : Object → Frame → Result Took ContainerFault) → located self.now object step ≡ step o frame))) }
-        ensures refused { IfErr result (λ e. (step : Object → Frame → Result Took ContainerFault) → Refuses (located self.now object step) e) }
+        ensures frame { IfOk result (λ p. IfSome (slice_get self.now.objects p.0)
+            (λ o. IsNth o.frame self.now.frames p.1)) }
+        ensures step { IfOk result (λ p. IsSomeAnd (slice_get self.now.objects p.0)
+            (λ o. IsSomeAnd (slice_get self.now.frames p.1)
+            (λ frame. (step : Object → Frame → Result Took ContainerFault) → located self.now object step
+            ≡ step o frame))) }
+        ensures refused { IfErr result (λ e. (step : Object → Frame → Result Took ContainerFault)
+            → Refuses (located self.now object step) e) }
         ensures memory { IfErr result (λ fault. fault ≢ NoMemory) }
     {
         let Some(i) = place_object(&self.objects, object) else {
@@ -62,9 +69,14 @@ impl State {
     /// object has a pending call or waits for the frame.
     pub(crate) fn place_ready(&self, object: u32) -> Result<(usize, usize), ContainerFault>
         ensures place { IfOk result (λ p. IsObjectAt self.now.objects p.0) }
-        ensures frame { IfOk result (λ p. IfSome (slice_get self.now.objects p.0) (λ o. IsNth o.frame self.now.frames p.1)) }
-        ensures step { IfOk result (λ p. IsSomeAnd (slice_get self.now.objects p.0) (λ o. IsSomeAnd (slice_get self.now.frames p.1) (λ frame. (step : Object → Frame → Result Took ContainerFault) → located self.now object (ready step) ≡ step o frame))) }
-        ensures refused { IfErr result (λ e. (step : Object → Frame → Result Took ContainerFault) → Refuses (located self.now object (ready step)) e) }
+        ensures frame { IfOk result (λ p. IfSome (slice_get self.now.objects p.0)
+            (λ o. IsNth o.frame self.now.frames p.1)) }
+        ensures step { IfOk result (λ p. IsSomeAnd (slice_get self.now.objects p.0)
+            (λ o. IsSomeAnd (slice_get self.now.frames p.1)
+            (λ frame. (step : Object → Frame → Result Took ContainerFault) → located self.now object (ready step)
+            ≡ step o frame))) }
+        ensures refused { IfErr result (λ e. (step : Object → Frame → Result Took ContainerFault)
+            → Refuses (located self.now object (ready step)) e) }
         ensures memory { IfErr result (λ fault. fault ≢ NoMemory) }
     {
         let (i, at) = match self.place_both(object) {

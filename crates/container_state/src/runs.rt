@@ -37,9 +37,11 @@ impl State {
     // A new activation of the object that stands there.
     fn run_object(&mut self, alloc: Global, i: usize, inc: u32) -> Result<Answer, ContainerFault>
         requires { IsObjectAt self.old.objects i }
-        ensures taken { IfOk result (λ a. IfSome (slice_get self.old.objects i) (λ o. run_object self.old o inc ≡ Ok (counts_none self.new a))) }
+        ensures taken { IfOk result (λ a. IfSome (slice_get self.old.objects i)
+            (λ o. run_object self.old o inc ≡ Ok (counts_none self.new a))) }
         ensures few { IfOk result (λ a. length a.actions ≤ 1) }
-        ensures refused { IfErr result (λ e. IfSome (slice_get self.old.objects i) (λ o. Refuses (run_object self.old o inc) e)) }
+        ensures refused { IfErr result (λ e. IfSome (slice_get self.old.objects i)
+            (λ o. Refuses (run_object self.old o inc) e)) }
         ensures kept { OnErr result (self.new ≡ self.old) }
     {
         let object = &self.objects.list[i];

@@ -1,6 +1,7 @@
 //! Frames that are saved.
 
-ghost use Rattle.std.specs.Prelude.{◌+◌, ◌≡◌, ◌≢◌, ◌≤◌, ℕ, IfErr, IfOk, IfSome, None, Ok, OnErr, OnOk, Result, Some, length, slice_get};
+ghost use Rattle.std.specs.Prelude.{◌+◌, ◌≡◌, ◌≢◌, ◌≤◌, ℕ, IfErr, IfOk, IfSome, None, Ok, OnErr, OnOk, Result, Some};
+ghost use Rattle.std.specs.Prelude.{length, slice_get};
 ghost use Rattle.container_model.specs.Commands.{save, save_as, save_numbered, session};
 ghost use Rattle.container_model.specs.Record.{Record, Refuses, Took, counts_none};
 ghost use Rattle.container_model.specs.Numbered.{IsNth};
@@ -9,7 +10,7 @@ ghost use Rattle.container_model.specs.declared.fault.ContainerFault.{ContainerF
 ghost use Rattle.container_model.specs.declared.fault.ContainerFault.TheVariants.{NoMemory};
 ghost use Rattle.container_model.specs.declared.record.Frame as declared;
 ghost use Rattle.container_model.specs.declared.record.Phase.TheVariants.{Idle};
-ghost use Rattle.container_steady.specs.Steady.{Steady};
+ghost use Rattle.container_queues.specs.Steady.{Steady};
 ghost use Rattle.container_commands.specs.Saving.{named, plain, raising, unready};
 
 use crate::state::State;
@@ -21,9 +22,9 @@ use container_model::answer::Answer;
 use container_model::fault::ContainerFault;
 use container_model::record::Frame;
 use container_objects::saves::{begin_save, go_on, prepare_save};
+use message_values::items::Items;
 use std::alloc::Global;
-use stored_values::bytes::Bytes;
-use wire_msgs::items::Items;
+use tree_values::bytes::Bytes;
 
 // The frame whose document bears the session.
 const FIRST: u32 = 1;
@@ -32,9 +33,11 @@ const FIRST: u32 = 1;
 //
 // Refused: `InDoubt`, `Busy`.
 fn may_save(number: u32, frame: &Frame, objects: &Objects) -> Result<(), ContainerFault>
-    ensures may { OnOk result ((r : Record) (next : Result Took ContainerFault) → r.objects ≡ objects.now.list.items → unready r number frame.now next ≡ next) }
+    ensures may { OnOk result ((r : Record) (next : Result Took ContainerFault) → r.objects ≡ objects.now.list.items
+        → unready r number frame.now next ≡ next) }
     ensures idle { OnOk result (frame.now.phase ≡ Idle) }
-    ensures refused { IfErr result (λ e. (r : Record) (next : Result Took ContainerFault) → r.objects ≡ objects.now.list.items → Refuses (unready r number frame.now next) e) }
+    ensures refused { IfErr result (λ e. (r : Record) (next : Result Took ContainerFault)
+        → r.objects ≡ objects.now.list.items → Refuses (unready r number frame.now next) e) }
     ensures memory { IfErr result (λ fault. fault ≢ NoMemory) }
 {
     if checks::is_doubtful(frame.phase) {
@@ -57,8 +60,10 @@ fn may_save(number: u32, frame: &Frame, objects: &Objects) -> Result<(), Contain
 //
 // Refused: `WrongState`.
 fn may_follow(session: u32) -> Result<(), ContainerFault>
-    ensures may { OnOk result ((r : Record) (f : ℕ) (frame : declared.Frame) → r.session ≡ session → plain r f frame ≡ save_numbered r f frame None None) }
-    ensures refused { IfErr result (λ e. (r : Record) (f : ℕ) (frame : declared.Frame) → r.session ≡ session → Refuses (plain r f frame) e) }
+    ensures may { OnOk result ((r : Record) (f : ℕ) (frame : declared.Frame) → r.session ≡ session
+        → plain r f frame ≡ save_numbered r f frame None None) }
+    ensures refused { IfErr result (λ e. (r : Record) (f : ℕ) (frame : declared.Frame) → r.session ≡ session
+        → Refuses (plain r f frame) e) }
     ensures memory { IfErr result (λ fault. fault ≢ NoMemory) }
 {
     if session == 0 {
@@ -67,8 +72,8 @@ fn may_follow(session: u32) -> Result<(), ContainerFault>
     Ok(())
 }
 
-// Whether a frame may be saved under a name: one that no other frame bears or asked for, and not its own. The container has a
-// session.
+// Whether a frame may be saved under a name: one that no other frame bears or asked for, and not its own. The container
+// has a session.
 //
 // Refused: `Busy`, `WrongState`.
 fn may_bear(
@@ -79,8 +84,10 @@ fn may_bear(
     frames: &[Frame],
 ) -> Result<(), ContainerFault>
     requires { length frames.now ≤ 1000000 }
-    ensures may { OnOk result ((r : Record) → r.session ≡ session → r.frames ≡ frames.now → named r number name.now frame.now ≡ save_numbered r number frame.now None (Some name.now)) }
-    ensures refused { IfErr result (λ e. (r : Record) → r.session ≡ session → r.frames ≡ frames.now → Refuses (named r number name.now frame.now) e) }
+    ensures may { OnOk result ((r : Record) → r.session ≡ session → r.frames ≡ frames.now
+        → named r number name.now frame.now ≡ save_numbered r number frame.now None (Some name.now)) }
+    ensures refused { IfErr result (λ e. (r : Record) → r.session ≡ session → r.frames ≡ frames.now
+        → Refuses (named r number name.now frame.now) e) }
     ensures memory { IfErr result (λ fault. fault ≢ NoMemory) }
 {
     if checks::is_named_beside(number, name, frames) {
@@ -96,8 +103,10 @@ fn may_bear(
 //
 // Refused: `WrongState` where the container has a session, `NumbersSpent`.
 fn may_raise(session: u32, numbers: u32, frame: &Frame) -> Result<u32, ContainerFault>
-    ensures may { IfOk result (λ n. (r : Record) → r.session ≡ session → r.numbers ≡ numbers → raising r frame.now ≡ save_numbered r 1 frame.now (Some n) None) }
-    ensures refused { IfErr result (λ e. (r : Record) → r.session ≡ session → r.numbers ≡ numbers → Refuses (raising r frame.now) e) }
+    ensures may { IfOk result (λ n. (r : Record) → r.session ≡ session → r.numbers ≡ numbers
+        → raising r frame.now ≡ save_numbered r 1 frame.now (Some n) None) }
+    ensures refused { IfErr result (λ e. (r : Record) → r.session ≡ session → r.numbers ≡ numbers
+        → Refuses (raising r frame.now) e) }
     ensures memory { IfErr result (λ fault. fault ≢ NoMemory) }
 {
     if session != 0 {
@@ -200,9 +209,11 @@ impl State {
         requires sound { IsSound self.old }
         requires place { IsNth frame self.old.frames at }
         requires idle { IfSome (slice_get self.old.frames at) (λ x. x.phase ≡ Idle) }
-        ensures taken { IfOk result (λ a. IfSome (slice_get self.old.frames at) (λ x. save_numbered self.old frame x raised asked ≡ Ok (counts_none self.new a))) }
+        ensures taken { IfOk result (λ a. IfSome (slice_get self.old.frames at)
+            (λ x. save_numbered self.old frame x raised asked ≡ Ok (counts_none self.new a))) }
         ensures few { IfOk result (λ a. length a.actions ≤ length self.old.objects + length self.old.frames) }
-        ensures refused { IfErr result (λ e. IfSome (slice_get self.old.frames at) (λ x. Refuses (save_numbered self.old frame x raised asked) e)) }
+        ensures refused { IfErr result (λ e. IfSome (slice_get self.old.frames at)
+            (λ x. Refuses (save_numbered self.old frame x raised asked) e)) }
         ensures kept { OnErr result (self.new ≡ self.old) }
     {
         let k = self.frames[at].k;

@@ -8,8 +8,8 @@ use container_model::record::{Frame, Object};
 use std::alloc::Global;
 use std::marker::Model;
 
-/// The frames and objects of a container, and the servers that it started: its record as it is kept. Whoever holds it keeps
-/// what stays true of a record, and its methods ask for that where they need it.
+/// The frames and objects of a container, and the servers that it started: its record as it is kept. Whoever holds it
+/// keeps what stays true of a record, and its methods ask for that where they need it.
 #[derive(Drop)]
 pub struct State {
     pub session: u32,
@@ -27,12 +27,21 @@ impl Model for State {
 
     ghost Value = { Record };
 
-    ghost view = { λ c. record { session = c.session; frames = c.frames; objects = c.objects.list.items; servers = c.servers; last_object = c.last_object; last_act = c.last_act; last_g = c.last_g; numbers = c.numbers } };
+    ghost view = { λ c. record {
+      session = c.session;
+      frames = c.frames;
+      objects = c.objects.list.items;
+      servers = c.servers;
+      last_object = c.last_object;
+      last_act = c.last_act;
+      last_g = c.last_g;
+      numbers = c.numbers;
+    } };
 }
 
 impl State {
     ghost use Rattle.std.specs.Prelude.{◌≡◌, option_copied};
-    ghost use Rattle.wire_msgs.specs.Found.{find, nth};
+    ghost use Rattle.message_values.specs.Found.{find, nth};
     ghost use Rattle.container_model.specs.Record.{empty, is_object};
 
     /// No frames, objects and servers.

@@ -1,11 +1,13 @@
 //! Objects that do a verb.
 
-ghost use Rattle.std.specs.Prelude.{◌≡◌, ◌≢◌, ◌≤◌, ◌<◌, IfErr, IfOk, IfSome, Ok, OnErr, Some, is_some, length, slice_get, true};
-ghost use Rattle.container_steady.specs.Steady.{Steady};
+ghost use Rattle.std.specs.Prelude.{◌≡◌, ◌≢◌, ◌≤◌, ◌<◌, IfErr, IfOk, IfSome, Ok, OnErr, Some, is_some, length};
+ghost use Rattle.std.specs.Prelude.{slice_get, true};
+ghost use Rattle.container_queues.specs.Steady.{Steady};
 ghost use Rattle.container_model.specs.Numbered.{IsNth, IsObjectAt};
 ghost use Rattle.container_model.specs.Record.{Refuses, counts_none};
 ghost use Rattle.container_model.specs.Room.{IsSound};
-ghost use Rattle.container_model.specs.Verbs.{holder_of, leaving_made, taking, taking_made, verb, verb_framed, verb_linked};
+ghost use Rattle.container_model.specs.Verbs.{holder_of, leaving_made, taking, taking_made, verb, verb_framed};
+ghost use Rattle.container_model.specs.Verbs.{verb_linked};
 ghost use Rattle.container_model.specs.declared.record.Frame.{Frame};
 ghost use Rattle.container_model.specs.declared.record.Link.{Link};
 ghost use Rattle.container_model.specs.declared.record.Object.{Object};
@@ -56,9 +58,12 @@ impl State {
         requires sound { IsSound self.old }
         requires place { IsObjectAt self.old.objects i }
         requires frame { IfSome (slice_get self.old.objects i) (λ o. IsNth o.frame self.old.frames at) }
-        ensures taken { IfOk result (λ a. IfSome (slice_get self.old.objects i) (λ o. IfSome (slice_get self.old.frames at) (λ frame. verb_framed self.old verb o frame ≡ Ok (counts_none self.new a)))) }
+        ensures taken { IfOk result (λ a. IfSome (slice_get self.old.objects i)
+            (λ o. IfSome (slice_get self.old.frames at) (λ frame. verb_framed self.old verb o frame
+            ≡ Ok (counts_none self.new a)))) }
         ensures few { IfOk result (λ a. length a.actions ≤ 2) }
-        ensures refused { IfErr result (λ e. IfSome (slice_get self.old.objects i) (λ o. IfSome (slice_get self.old.frames at) (λ frame. Refuses (verb_framed self.old verb o frame) e))) }
+        ensures refused { IfErr result (λ e. IfSome (slice_get self.old.objects i)
+            (λ o. IfSome (slice_get self.old.frames at) (λ frame. Refuses (verb_framed self.old verb o frame) e))) }
         ensures kept { OnErr result (self.new ≡ self.old) }
     {
         match may_move(&self.frames[at], verb) {
@@ -79,9 +84,13 @@ impl State {
         requires sound { IsSound self.old }
         requires place { IsObjectAt self.old.objects i }
         requires frame { IfSome (slice_get self.old.objects i) (λ o. IsNth o.frame self.old.frames at) }
-        ensures taken { IfOk result (λ a. IfSome (slice_get self.old.objects i) (λ o. IfSome (slice_get self.old.frames at) (λ frame. verb_linked self.old frame o verb o.link ≡ Ok (counts_none self.new a)))) }
+        ensures taken { IfOk result (λ a. IfSome (slice_get self.old.objects i)
+            (λ o. IfSome (slice_get self.old.frames at) (λ frame. verb_linked self.old frame o verb o.link
+            ≡ Ok (counts_none self.new a)))) }
         ensures few { IfOk result (λ a. length a.actions ≤ 2) }
-        ensures refused { IfErr result (λ e. IfSome (slice_get self.old.objects i) (λ o. IfSome (slice_get self.old.frames at) (λ frame. Refuses (verb_linked self.old frame o verb o.link) e))) }
+        ensures refused { IfErr result (λ e. IfSome (slice_get self.old.objects i)
+            (λ o. IfSome (slice_get self.old.frames at)
+            (λ frame. Refuses (verb_linked self.old frame o verb o.link) e))) }
         ensures kept { OnErr result (self.new ≡ self.old) }
     {
         let steps = match verb_steps(self.numbers, &self.objects.list[i], verb) {
@@ -109,7 +118,9 @@ impl State {
         requires place { IsObjectAt self.old.objects i }
         requires frame { IfSome (slice_get self.old.objects i) (λ o. IsNth o.frame self.old.frames at) }
         requires linked { IfSome (slice_get self.old.objects i) (λ o. is_some o.link ≡ true) }
-        ensures taken { IfOk result (λ a. (o : Object) (l : Link) (frame : Frame) → slice_get self.old.objects i ≡ Some o → slice_get self.old.frames at ≡ Some frame → o.link ≡ Some l → leaving_made self.old frame o l steps.now ≡ counts_none self.new a) }
+        ensures taken { IfOk result (λ a. (o : Object) (l : Link) (frame : Frame)
+            → slice_get self.old.objects i ≡ Some o → slice_get self.old.frames at ≡ Some frame → o.link ≡ Some l
+            → leaving_made self.old frame o l steps.now ≡ counts_none self.new a) }
         ensures few { IfOk result (λ a. length a.actions ≤ 1) }
         ensures refused { IfErr result (λ e. e ≡ ContainerFault.NoMemory) }
         ensures kept { OnErr result (self.new ≡ self.old) }
@@ -134,10 +145,15 @@ impl State {
         requires place { IsObjectAt self.old.objects i }
         requires frame { IfSome (slice_get self.old.objects i) (λ o. IsNth o.frame self.old.frames at) }
         requires linked { IfSome (slice_get self.old.objects i) (λ o. is_some o.link ≡ true) }
-        requires apart { IfSome (slice_get self.old.objects i) (λ o. IfSome (slice_get self.old.frames at) (λ f. IfSome (holder_of f.ui.state) (λ n. n ≢ o.number))) }
-        ensures taken { IfOk result (λ a. (o : Object) (l : Link) (frame : Frame) → slice_get self.old.objects i ≡ Some o → slice_get self.old.frames at ≡ Some frame → o.link ≡ Some l → taking self.old frame o l steps.now ≡ Ok (counts_none self.new a)) }
+        requires apart { IfSome (slice_get self.old.objects i)
+            (λ o. IfSome (slice_get self.old.frames at) (λ f. IfSome (holder_of f.ui.state) (λ n. n ≢ o.number))) }
+        ensures taken { IfOk result (λ a. (o : Object) (l : Link) (frame : Frame)
+            → slice_get self.old.objects i ≡ Some o → slice_get self.old.frames at ≡ Some frame → o.link ≡ Some l
+            → taking self.old frame o l steps.now ≡ Ok (counts_none self.new a)) }
         ensures few { IfOk result (λ a. length a.actions ≤ 2) }
-        ensures refused { IfErr result (λ e. (o : Object) (l : Link) (frame : Frame) → slice_get self.old.objects i ≡ Some o → slice_get self.old.frames at ≡ Some frame → o.link ≡ Some l → Refuses (taking self.old frame o l steps.now) e) }
+        ensures refused { IfErr result (λ e. (o : Object) (l : Link) (frame : Frame)
+            → slice_get self.old.objects i ≡ Some o → slice_get self.old.frames at ≡ Some frame → o.link ≡ Some l
+            → Refuses (taking self.old frame o l steps.now) e) }
         ensures kept { OnErr result (self.new ≡ self.old) }
     {
         let state = self.frames[at].ui.state();
@@ -163,8 +179,11 @@ impl State {
         requires place { IsObjectAt self.old.objects i }
         requires frame { IfSome (slice_get self.old.objects i) (λ o. IsNth o.frame self.old.frames at) }
         requires linked { IfSome (slice_get self.old.objects i) (λ o. is_some o.link ≡ true) }
-        requires apart { IfSome (slice_get self.old.objects i) (λ o. IfSome (slice_get self.old.frames at) (λ f. IfSome (holder_of f.ui.state) (λ n. n ≢ o.number))) }
-        ensures taken { IfOk result (λ a. (o : Object) (l : Link) (frame : Frame) → slice_get self.old.objects i ≡ Some o → slice_get self.old.frames at ≡ Some frame → o.link ≡ Some l → taking_made self.old frame o l steps.now ≡ counts_none self.new a) }
+        requires apart { IfSome (slice_get self.old.objects i)
+            (λ o. IfSome (slice_get self.old.frames at) (λ f. IfSome (holder_of f.ui.state) (λ n. n ≢ o.number))) }
+        ensures taken { IfOk result (λ a. (o : Object) (l : Link) (frame : Frame)
+            → slice_get self.old.objects i ≡ Some o → slice_get self.old.frames at ≡ Some frame → o.link ≡ Some l
+            → taking_made self.old frame o l steps.now ≡ counts_none self.new a) }
         ensures few { IfOk result (λ a. length a.actions ≤ 2) }
         ensures refused { IfErr result (λ e. e ≡ ContainerFault.NoMemory) }
         ensures kept { OnErr result (self.new ≡ self.old) }

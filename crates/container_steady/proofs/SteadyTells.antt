@@ -1,14 +1,17 @@
 -- What choices and options tell.
-use Rattle.std.proofs.Common.{◌≡◌, Bool, true, false, Option, Some, None, Result, Ok, refl, sym, ap, subst, if◌then◌else◌}
+use Rattle.std.proofs.Common.{◌≡◌, Bool, true, false, Option, Some, None, Result, Ok, refl, sym, ap, subst}
+use Rattle.std.proofs.Common.{if◌then◌else◌}
 use Rattle.std.specs.Prelude.{◌||◌, ◌&&◌, IsSomeAnd, IfSome}
 use Rattle.container_model.specs.declared.fault.ContainerFault.{ContainerFault}
 use Rattle.container_model.specs.Record.{Took, unless}
 
-pub if_told : {A : Type 0} (P : A → Type 0) (b : Bool) (x y : A) → (b ≡ true → P x) → (b ≡ false → P y) → P (if b then x else y)
+pub if_told : {A : Type 0} (P : A → Type 0) (b : Bool) (x y : A) → (b ≡ true → P x) → (b ≡ false → P y)
+    → P (if b then x else y)
 if_told P true x y p q = p refl
 if_told P false x y p q = q refl
 
-pub unless_ok : {A : Type 0} (b : Bool) (fault : ContainerFault) (next : Result A ContainerFault) (t : A) → unless b fault next ≡ Ok t → (b ≡ false) × (next ≡ Ok t)
+pub unless_ok : {A : Type 0} (b : Bool) (fault : ContainerFault) (next : Result A ContainerFault) (t : A)
+    → unless b fault next ≡ Ok t → (b ≡ false) × (next ≡ Ok t)
 unless_ok true fault next t e = cc
 unless_ok false fault next t e = (refl, e)
 
@@ -34,7 +37,8 @@ pub if_weaker : {A : Type 0} (P Q : A → Type 0) (o : Option A) → ((x : A) �
 if_weaker P Q None k h = tt
 if_weaker P Q (Some x) k h = k x h
 
-pub if_each : {A : Type 0} (P Q : A → Type 0) (o : Option A) → ((x : A) → o ≡ Some x → P x → Q x) → IfSome o P → IfSome o Q
+pub if_each : {A : Type 0} (P Q : A → Type 0) (o : Option A) → ((x : A) → o ≡ Some x → P x → Q x) → IfSome o P
+    → IfSome o Q
 if_each P Q None k h = tt
 if_each P Q (Some x) k h = k x refl h
 

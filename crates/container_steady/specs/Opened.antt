@@ -1,6 +1,6 @@
 -- What holds where a file is opened, and what it made.
 use Rattle.std.specs.Prelude.{◌≡◌, ◌≤◌, ◌<◌, ◌+◌, ℕ, true, false, List, length, Ok}
-use Rattle.document_model.specs.Documents.{Doc}
+use Rattle.ole_model.specs.Documents.{Doc}
 use Rattle.container_model.specs.Record.{Record, Took, MOST_FRAMES, MOST_OBJECTS}
 use Rattle.container_model.specs.Saves.{are_objects}
 use Rattle.container_model.specs.Commands.{is_named, is_size}
@@ -21,4 +21,5 @@ pub record IsOpened (r : Record) (name : List ℕ) (w h : ℕ) (given : Given) (
 
 -- Law: each file that is opened is opened so.
 abbrev pub FilesAreOpenedSo : Type 0
-FilesAreOpenedSo = (r : Record) (name : List ℕ) (w h : ℕ) (given : Given) (t : Took) → opened r name w h given ≡ Ok t → IsOpened r name w h given t
+FilesAreOpenedSo = (r : Record) (name : List ℕ) (w h : ℕ) (given : Given) (t : Took)
+    → opened r name w h given ≡ Ok t → IsOpened r name w h given t

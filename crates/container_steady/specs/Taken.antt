@@ -1,14 +1,15 @@
 -- What holds where a command is taken, and what it made: a case a command.
-use Rattle.std.specs.Prelude.{◌≡◌, ◌≢◌, ◌<◌, ◌+◌, ◌&&◌, ℕ, ℤ, true, false, List, [], ◌∷◌, length, nat_lt, Some, None, Ok}
+use Rattle.std.specs.Prelude.{◌≡◌, ◌≢◌, ◌<◌, ◌+◌, ◌&&◌, ℕ, ℤ, true, false, List, [], ◌∷◌, length, nat_lt, Some, None}
+use Rattle.std.specs.Prelude.{Ok}
 use Rattle.std.specs.Str.{bytes_eq}
-use Rattle.wire_msgs.specs.Found.{find, nth}
-use Rattle.wire_msgs.specs.declared.operation.Operation.TheVariants.{Edit}
-use Rattle.object_parts.specs.declared.area.Area.{Area}
+use Rattle.message_values.specs.Found.{find, nth}
+use Rattle.message_values.specs.declared.operation.Operation.TheVariants.{Edit}
+use Rattle.tree_streams.specs.declared.area.Area.{Area}
 use Rattle.object_state.specs.Verbs.{activates_ui, close_steps, steps, verb_of}
 use Rattle.object_state.specs.declared.operations.CloseOption.{CloseOption}
 use Rattle.object_state.specs.declared.verbs.Step.{Step}
 use Rattle.object_state.specs.declared.verbs.Verb.{Verb}
-use Rattle.grant_core.specs.Grants.{waiting}
+use Rattle.object_state.specs.Grants.{waiting}
 use Rattle.container_model.specs.declared.answer.Action.TheVariants.{End}
 use Rattle.container_model.specs.declared.command.Command.{Command}
 use Rattle.container_model.specs.declared.command.Command.TheVariants as command
@@ -17,12 +18,16 @@ use Rattle.container_model.specs.declared.record.Frame.{Frame}
 use Rattle.container_model.specs.declared.record.Link.{Link}
 use Rattle.container_model.specs.declared.record.Object.{Object}
 use Rattle.container_model.specs.declared.record.Phase.TheVariants.{Idle}
-use Rattle.container_model.specs.Record.{Record, Took, MARGIN, MOST_FRAMES, MOST_OBJECTS, MOST_SERVERS, acts, ask, count_alive, count_objects, counts_none, has_numbers, is_alive, is_asked, is_claim, is_moving, is_object, quiet_answer, sends, with_object}
-use Rattle.container_model.specs.Commands.{MOST_EDIT, all_have_numbers, any_busy, delete_made, insert_made, is_empty_area, is_known_class, is_named, is_named_beside, is_size, kind_of, new_made, on_command, run_made, save_made, start_made}
+use Rattle.container_model.specs.Record.{Record, Took, MARGIN, MOST_FRAMES, MOST_OBJECTS, MOST_SERVERS, acts, ask}
+use Rattle.container_model.specs.Record.{count_alive, count_objects, counts_none, has_numbers, is_alive, is_asked}
+use Rattle.container_model.specs.Record.{is_claim, is_moving, is_object, quiet_answer, sends, with_object}
+use Rattle.container_model.specs.Commands.{MOST_EDIT, all_have_numbers, any_busy, delete_made, insert_made}
+use Rattle.container_model.specs.Commands.{is_empty_area, is_known_class, is_named, is_named_beside, is_size, kind_of}
+use Rattle.container_model.specs.Commands.{new_made, on_command, run_made, save_made, start_made}
 use Rattle.container_model.specs.Verbs.{holder_has_numbers, holder_of, leaving_made, takes, taking_made}
 
--- An object of this number and its frame are there, the frame is idle, and the object neither has a pending call nor waits for
--- the frame.
+-- An object of this number and its frame are there, the frame is idle, and the object neither has a pending call nor
+-- waits for the frame.
 pub record IsReadyAt (r : Record) (n : ℕ) : Type 0 where
   pub object : Object
   pub frame : Frame
@@ -90,8 +95,11 @@ pub record IsRaised (r : Record) (frame : Frame) : Type 0 where
 -- what a verb comes to: nothing, steps that leave the frame to whoever has it, or steps that take it
 pub data IsStepped (r : Record) (frame : Frame) (o : Object) (l : Link) (ts : List Step) (t : Took) : Type 0 where
   steps_nothing : ts ≡ [] → counts_none r quiet_answer ≡ t → IsStepped r frame o l ts t
-  steps_leave : has_numbers r.numbers l ≡ true → takes ts ≡ false → leaving_made r frame o l ts ≡ t → IsStepped r frame o l ts t
-  steps_take : has_numbers r.numbers l ≡ true → takes ts ≡ true → r.last_g < r.numbers → holder_has_numbers r (holder_of frame.ui.state) ≡ true → taking_made r frame o l ts ≡ t → IsStepped r frame o l ts t
+  steps_leave : has_numbers r.numbers l ≡ true → takes ts ≡ false → leaving_made r frame o l ts ≡ t
+      → IsStepped r frame o l ts t
+  steps_take : has_numbers r.numbers l ≡ true → takes ts ≡ true → r.last_g < r.numbers
+      → holder_has_numbers r (holder_of frame.ui.state) ≡ true → taking_made r frame o l ts ≡ t
+      → IsStepped r frame o l ts t
 
 pub record IsVerb (r : Record) (frame : Frame) (o : Object) (l : Link) (number : ℤ) (t : Took) : Type 0 where
   pub verb : Verb
@@ -104,17 +112,30 @@ pub record IsVerb (r : Record) (frame : Frame) (o : Object) (l : Link) (number :
 -- a command that is taken
 pub data IsTakenAs (r : Record) (t : Took) : Command → Type 0 where
   as_new : (name : List ℕ) (w h : ℕ) → IsNew r name w h → new_made r name w h ≡ t → IsTakenAs r t (command.New name w h)
-  as_insert : (f : ℕ) (kind : ObjectKind) (area : Area) → IsInserted r f area → insert_made r f (kind_of kind) area ≡ t → IsTakenAs r t (command.Insert f kind area)
+  as_insert : (f : ℕ) (kind : ObjectKind) (area : Area) → IsInserted r f area
+      → insert_made r f (kind_of kind) area ≡ t → IsTakenAs r t (command.Insert f kind area)
   as_start : IsStarted r → start_made r ≡ t → IsTakenAs r t command.Start
-  as_run : (n inc : ℕ) (at : IsReadyAt r n) → IsRun r at.object inc → run_made r at.object inc ≡ t → IsTakenAs r t (command.Run n inc)
-  as_edit : (n : ℕ) (bytes : List ℕ) (go : IsRunningAt r n) → nat_lt MOST_EDIT (length bytes) ≡ false → has_numbers r.numbers go.link ≡ true → edited r go.at.object go.link bytes ≡ t → IsTakenAs r t (command.Edit n bytes)
-  as_session : (at : IsSaved r 1) → IsRaised r at.frame → save_made r 1 at.frame (Some (at.frame.session + 1)) None ≡ t → IsTakenAs r t command.Session
-  as_save : (f : ℕ) (at : IsSaved r f) → r.session ≢ 0 → save_made r f at.frame None None ≡ t → IsTakenAs r t (command.Save f)
-  as_save_as : (f : ℕ) (name : List ℕ) (at : IsSaved r f) → r.session ≢ 0 → is_named_beside f name 1 r.frames ≡ false → bytes_eq at.frame.name name ≡ false → save_made r f at.frame None (Some name) ≡ t → IsTakenAs r t (command.SaveAs f name)
-  as_delete : (n : ℕ) (at : IsReadyAt r n) → at.object.link ≡ None → delete_made r at.object ≡ t → IsTakenAs r t (command.Delete n)
-  as_kill : (inc : ℕ) → is_alive r inc ≡ true → counts_none r (acts (End inc ∷ [])) ≡ t → IsTakenAs r t (command.Kill inc)
-  as_close : (n : ℕ) (option : CloseOption) (go : IsRunningAt r n) (ts : List Step) → has_numbers r.numbers go.link ≡ true → close_steps option go.link.states.object ≡ Some ts → leaving_made r go.at.frame go.at.object go.link ts ≡ t → IsTakenAs r t (command.Close n option)
-  as_verb : (n : ℕ) (number : ℤ) (go : IsRunningAt r n) → IsVerb r go.at.frame go.at.object go.link number t → IsTakenAs r t (command.Verb n number)
+  as_run : (n inc : ℕ) (at : IsReadyAt r n) → IsRun r at.object inc → run_made r at.object inc ≡ t
+      → IsTakenAs r t (command.Run n inc)
+  as_edit : (n : ℕ) (bytes : List ℕ) (go : IsRunningAt r n) → nat_lt MOST_EDIT (length bytes) ≡ false
+      → has_numbers r.numbers go.link ≡ true → edited r go.at.object go.link bytes ≡ t
+      → IsTakenAs r t (command.Edit n bytes)
+  as_session : (at : IsSaved r 1) → IsRaised r at.frame → save_made r 1 at.frame (Some (at.frame.session + 1)) None
+      ≡ t → IsTakenAs r t command.Session
+  as_save : (f : ℕ) (at : IsSaved r f) → r.session ≢ 0 → save_made r f at.frame None None ≡ t
+      → IsTakenAs r t (command.Save f)
+  as_save_as : (f : ℕ) (name : List ℕ) (at : IsSaved r f) → r.session ≢ 0
+      → is_named_beside f name 1 r.frames ≡ false → bytes_eq at.frame.name name ≡ false
+      → save_made r f at.frame None (Some name) ≡ t → IsTakenAs r t (command.SaveAs f name)
+  as_delete : (n : ℕ) (at : IsReadyAt r n) → at.object.link ≡ None → delete_made r at.object ≡ t
+      → IsTakenAs r t (command.Delete n)
+  as_kill : (inc : ℕ) → is_alive r inc ≡ true → counts_none r (acts (End inc ∷ [])) ≡ t
+      → IsTakenAs r t (command.Kill inc)
+  as_close : (n : ℕ) (option : CloseOption) (go : IsRunningAt r n) (ts : List Step)
+      → has_numbers r.numbers go.link ≡ true → close_steps option go.link.states.object ≡ Some ts
+      → leaving_made r go.at.frame go.at.object go.link ts ≡ t → IsTakenAs r t (command.Close n option)
+  as_verb : (n : ℕ) (number : ℤ) (go : IsRunningAt r n) → IsVerb r go.at.frame go.at.object go.link number t
+      → IsTakenAs r t (command.Verb n number)
 
 -- Law: each command that is taken is taken so.
 abbrev pub CommandsAreTakenSo : Type 0

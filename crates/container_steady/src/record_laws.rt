@@ -2,7 +2,8 @@
 
 ghost use Rattle.container_steady.specs.Made.{TakenIsMade};
 ghost use Rattle.container_steady.specs.Opened.{FilesAreOpenedSo};
-ghost use Rattle.container_queues.specs.Steady.{ClosesAreOpen, CommitsAnsweredContents, DocumentsHold, FullByTheFileAlone, OneObjectAnActivation, SteadyFromTheStart};
+ghost use Rattle.container_queues.specs.Steady.{ClosesAreOpen, CommitsAnsweredContents, DocumentsHold};
+ghost use Rattle.container_queues.specs.Steady.{FullByTheFileAlone, OneObjectAnActivation, SteadyFromTheStart};
 ghost use Rattle.container_steady.specs.Taken.{CommandsAreTakenSo};
 
 /// A container without frames, objects and servers has a steady record.

@@ -1,7 +1,7 @@
 -- A record is steady whatever was done from the start on.
 use Rattle.std.proofs.Common.{List, [], ◌∷◌, subst}
 use Rattle.container_model.specs.Record.{Record, empty}
-use Rattle.container_steady.specs.Steady.{Steady}
+use Rattle.container_queues.specs.Steady.{Steady}
 use Rattle.container_model.specs.Inputs.{Input, Leads}
 use Rattle.container_steps.specs.Steps.{SteadyAfter, SteadyAlways}
 use Rattle.container_steady.proofs.SteadyRecords.{empty_steady}

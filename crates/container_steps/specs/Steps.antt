@@ -1,19 +1,22 @@
 -- Each step of a container keeps what holds of its record.
 use Rattle.std.specs.Prelude.{◌≡◌, ℕ, true, List, Some, Ok, IsOk}
-use Rattle.wire_msgs.specs.Found.{find}
-use Rattle.wire_msgs.specs.declared.message.Said.TheVariants.{Reply}
-use Rattle.wire_msgs.specs.declared.operation.Operation.{Operation}
-use Rattle.wire_msgs.specs.declared.operation.Operation.TheVariants.{InitNew, Load, InPlace, UiActivate, UiDeactivate, InPlaceDeactivate, OpenWindow, Edit, Save, HandsOff, SaveCompleted, SaveDropped, Close}
-use Rattle.wire_msgs.specs.declared.answer.Answer.{Answer}
-use Rattle.wire_msgs.specs.declared.answer.Answer.TheVariants.{Done, Refused, Content, Tools}
-use Rattle.object_parts.specs.Limits.{is_within}
+use Rattle.message_values.specs.Found.{find}
+use Rattle.message_values.specs.declared.message.Said.TheVariants.{Reply}
+use Rattle.message_values.specs.declared.operation.Operation.{Operation}
+use Rattle.message_values.specs.declared.operation.Operation.TheVariants.{InitNew, Load, InPlace, UiActivate}
+use Rattle.message_values.specs.declared.operation.Operation.TheVariants.{UiDeactivate, InPlaceDeactivate, OpenWindow}
+use Rattle.message_values.specs.declared.operation.Operation.TheVariants.{Edit, Save, HandsOff, SaveCompleted}
+use Rattle.message_values.specs.declared.operation.Operation.TheVariants.{SaveDropped, Close}
+use Rattle.message_values.specs.declared.answer.Answer.{Answer}
+use Rattle.message_values.specs.declared.answer.Answer.TheVariants.{Done, Refused, Content, Tools}
+use Rattle.tree_streams.specs.Limits.{is_within}
 use Rattle.object_state.specs.declared.operations.CloseOption.TheVariants.{SaveIfDirty, NoSave}
 use Rattle.container_model.specs.declared.record.Link.{Link}
 use Rattle.container_model.specs.declared.record.Object.{Object}
 use Rattle.container_model.specs.Record.{Record, Took, empty, is_linked}
 use Rattle.container_model.specs.Inputs.{Input, Leads, on_input}
 use Rattle.container_model.specs.Messages.{on_message}
-use Rattle.container_steady.specs.Steady.{Steady}
+use Rattle.container_queues.specs.Steady.{Steady}
 
 -- Laws: each step that is taken keeps it.
 abbrev pub SteadyAfter : Type 0
@@ -42,7 +45,11 @@ Fits op answer = ⊥
 
 -- an answer to the pending call that fits it is taken: the tables refuse none
 abbrev pub FittingAnswersTaken : Type 0
-FittingAnswersTaken = (r : Record) (inc act : ℕ) (answer : Answer) (o : Object) (l : Link) (op : Operation) → Steady r → find (is_linked inc act) r.objects ≡ Some o → o.link ≡ Some l → l.pending ≡ Some op → Fits op answer → IsOk (on_message r (record { session = r.session; inc = inc }) (record { session = r.session; said = Reply inc act l.last answer }))
+FittingAnswersTaken = (r : Record) (inc act : ℕ) (answer : Answer) (o : Object) (l : Link) (op : Operation)
+    → Steady r → find (is_linked inc act) r.objects ≡ Some o → o.link ≡ Some l → l.pending ≡ Some op
+    → Fits op answer
+    → IsOk (on_message r (record { session = r.session; inc = inc })
+    (record { session = r.session; said = Reply inc act l.last answer }))
 
 -- so it holds whatever was done from the start on
 abbrev pub SteadyAlways : Type 0

@@ -2,8 +2,8 @@
 
 ghost use Rattle.container_steps.specs.Steps.{FittingAnswersTaken, SteadyAfter, SteadyAlways};
 
-/// Whatever a container is given and takes, a command, a message, the end of a server or of a commit, or a file that is opened,
-/// leaves a steady record steady.
+/// Whatever a container is given and takes, a command, a message, the end of a server or of a commit, or a file that is
+/// opened, leaves a steady record steady.
 pub fn steady_after()
     ensures { SteadyAfter }
 {}

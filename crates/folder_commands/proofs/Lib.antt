@@ -1,3 +1,10 @@
+pub mod Bytes
+pub mod Components
+pub mod Folded
+pub mod Results
+pub mod ReadNames
+pub mod Packed
+pub mod Parsed
 pub mod Adding
 pub mod Found
 pub mod Picked

@@ -2,14 +2,14 @@
 use Rattle.std.specs.Prelude.{◌≡◌, ℕ, List, [], ◌∷◌, Option, Some, None, Result, Ok, Err, IsOk, cond, slice_get}
 use Rattle.std.specs.List.{AllByRecursion, flat_map}
 use Rattle.cfb_names.specs.Names.{key, key_eq}
-use Rattle.storage_tree.specs.Tree.{Tree, Children, tree, none, stream, storage}
-use Rattle.storage_tree.specs.Change.{Seen, bytes, inner, look}
-use Rattle.storage_tree.specs.declared.fault.TreeFault.{TreeFault}
-use Rattle.file_folders.specs.Paths.{joined}
-use Rattle.file_folders.specs.Plan.{Entry, file, folder_plan}
+use Rattle.cfb_entries.specs.Tree.{Tree, Children, tree, none, stream, storage}
+use Rattle.tree_storage.specs.Change.{Seen, bytes, inner, look}
+use Rattle.tree_storage.specs.declared.fault.TreeFault.{TreeFault}
+use Rattle.folder_commands.specs.Paths.{joined}
+use Rattle.folder_commands.specs.Plan.{Entry, file, folder_plan}
 
--- What is left of a path below the child under a key: nothing where the child isn't on it; of one that ended above the child,
--- which stands below it then, the empty path.
+-- What is left of a path below the child under a key: nothing where the child isn't on it; of one that ended above the
+-- child, which stands below it then, the empty path.
 abbrev pub step : List ℕ → List (List ℕ) → Option (List (List ℕ))
 step k [] = Some []
 step k (name ∷ rest) = cond (key_eq (key name) k) (Some rest) None
@@ -34,8 +34,10 @@ abbrev mutual
 
   pub chosen_of : List (List (List ℕ)) → Children → Children
   chosen_of paths none = none
-  chosen_of paths (stream k n b cs) = where_any (left_of k paths) (stream k n b (chosen_of paths cs)) (chosen_of paths cs)
-  chosen_of paths (storage k n t cs) = where_any (left_of k paths) (storage k n (chosen (left_of k paths) t) (chosen_of paths cs)) (chosen_of paths cs)
+  chosen_of paths (stream k n b cs) = where_any (left_of k paths) (stream k n b (chosen_of paths cs))
+      (chosen_of paths cs)
+  chosen_of paths (storage k n t cs) = where_any (left_of k paths)
+      (storage k n (chosen (left_of k paths) t) (chosen_of paths cs)) (chosen_of paths cs)
 
 -- what is asked for of a tree: all of it where no path is given
 abbrev pub asked : List (List (List ℕ)) → Tree → Tree

@@ -1,21 +1,24 @@
 -- What is made of a file in a folder, and where that stops.
 use Rattle.std.specs.Prelude.{◌≡◌, ◌<◌, ℕ, List, Option, Some, length, slice_get, take}
-use Rattle.storage_tree.specs.Tree.{Tree}
-use Rattle.file_model.specs.Denotes.{Denotes}
-use Rattle.texts.specs.Input.{MayRefuseInput}
-use Rattle.stream_io.specs.Reads.{MayRefuseRead}
-use Rattle.file_folders.specs.Plan.{Entry, plan}
-use Rattle.file_moving.specs.declared.fault.SourceFault.{SourceFault}
-use Rattle.file_moving.specs.declared.fault.SourceFault.TheVariants as source
+use Rattle.cfb_entries.specs.Tree.{Tree}
+use Rattle.cfb_file.specs.Denotes.{Denotes}
+use Rattle.text_io.specs.Input.{MayRefuseInput}
+use Rattle.read_files.specs.Reads.{MayRefuseRead}
+use Rattle.folder_commands.specs.Plan.{Entry, plan}
+use Rattle.write_cleaned.specs.declared.moving_fault.SourceFault.{SourceFault}
+use Rattle.write_cleaned.specs.declared.moving_fault.SourceFault.TheVariants as source
 use Rattle.folder_commands.specs.Chosen.{AllStand, IsMissing, asked}
 use Rattle.folder_commands.specs.Made.{Adds}
 use Rattle.folder_commands.specs.declared.fault.ExtractFault.{ExtractFault}
-use Rattle.folder_commands.specs.declared.fault.ExtractFault.TheVariants.{Input, Read, NoMemory, Missing, Cut, Entry as InFolder}
+use Rattle.folder_commands.specs.declared.fault.ExtractFault.TheVariants.{Input, Read, NoMemory, Missing, Cut}
+use Rattle.folder_commands.specs.declared.fault.ExtractFault.TheVariants.{Entry as InFolder}
 use Rattle.folder_commands.specs.declared.folder.FolderFault.{FolderFault}
 use Rattle.folder_commands.specs.declared.folder.FolderFault.TheVariants as why
 
--- all of what the paths ask for of the tree that the file denotes was made, so many folders and files; something stands at each path
-pub record Extracts (paths : List (List (List ℕ))) (file : List ℕ) (old new : Option (List Entry)) (count : ℕ) : Type 0 where
+-- all of what the paths ask for of the tree that the file denotes was made, so many folders and files; something stands
+-- at each path
+pub record Extracts (paths : List (List (List ℕ))) (file : List ℕ) (old new : Option (List Entry)) (count : ℕ) :
+    Type 0 where
   pub t : Tree
   pub denotes : ∥ Denotes file t ∥₁
   pub there : AllStand paths t
@@ -23,7 +26,8 @@ pub record Extracts (paths : List (List (List ℕ))) (file : List ℕ) (old new 
   pub counted : count ≡ length (plan (asked paths t))
 
 -- so many of them were made, and not the next, which has this path
-pub record IsCutShort (paths : List (List (List ℕ))) (file : List ℕ) (old new : Option (List Entry)) (count : ℕ) (path : List ℕ) : Type 0 where
+pub record IsCutShort (paths : List (List (List ℕ))) (file : List ℕ) (old new : Option (List Entry)) (count : ℕ)
+    (path : List ℕ) : Type 0 where
   pub t : Tree
   pub denotes : ∥ Denotes file t ∥₁
   pub made : Adds old new (take count (plan (asked paths t)))
@@ -32,7 +36,8 @@ pub record IsCutShort (paths : List (List (List ℕ))) (file : List ℕ) (old ne
   pub at : path ≡ next.path
 
 -- when a file may be stopped at
-abbrev pub MayStop : List (List (List ℕ)) → List ℕ → Option (List Entry) → Option (List Entry) → ℕ → ExtractFault → Type 0
+abbrev pub MayStop : List (List (List ℕ)) → List ℕ → Option (List Entry) → Option (List Entry) → ℕ → ExtractFault
+    → Type 0
 MayStop paths file old new count (Input fault) = MayRefuseInput file fault
 MayStop paths file old new count (Read fault) = MayRefuseRead file fault
 MayStop paths file old new count (Missing n fault) = (t : Tree) × ∥ Denotes file t ∥₁ × IsMissing paths t n fault

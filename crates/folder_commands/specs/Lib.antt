@@ -1,3 +1,10 @@
+pub mod Paths
+pub mod Plan
+pub mod Laws
+pub mod Notes
+pub mod Names
+pub mod PackedNotes
+pub mod Packing
 pub mod Chosen
 pub mod Streams
 pub mod Made

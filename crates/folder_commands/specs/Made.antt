@@ -1,6 +1,6 @@
 -- What was made in a folder, where that is known.
 use Rattle.std.specs.Prelude.{◌≡◌, ◌++◌, ⊤, ℕ, List, Option, Some, None, codes}
-use Rattle.file_folders.specs.Plan.{Entry}
+use Rattle.folder_commands.specs.Plan.{Entry}
 use Rattle.folder_commands.specs.declared.folder.FolderFault.{FolderFault}
 use Rattle.folder_commands.specs.declared.folder.FolderFault.TheVariants.{Exists, Unwritable, NoMemory, Unreadable}
 

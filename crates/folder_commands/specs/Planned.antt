@@ -1,9 +1,9 @@
 -- What is to be made in a folder, and what that is once the streams are read.
 use Rattle.std.specs.Prelude.{ℕ, List, map}
-use Rattle.file_folders.specs.Plan.{Entry}
-use Rattle.file_folders.specs.declared.plan.Content.{Content}
-use Rattle.file_folders.specs.declared.plan.Content.TheVariants.{Folder, File}
-use Rattle.file_outline.specs.declared.outline.Place.{Place}
+use Rattle.folder_commands.specs.Plan.{Entry}
+use Rattle.folder_commands.specs.declared.plan.Content.{Content}
+use Rattle.folder_commands.specs.declared.plan.Content.TheVariants.{Folder, File}
+use Rattle.read_outlines.specs.declared.outline.Place.{Place}
 use Rattle.folder_commands.specs.declared.planning.Planned.{Planned}
 use Rattle.folder_commands.specs.declared.planning.What.{What}
 use Rattle.folder_commands.specs.declared.planning.What.TheVariants.{Storage, Stream}

@@ -1,6 +1,6 @@
 -- The bytes of streams.
 use Rattle.std.specs.Prelude.{ℕ, List}
-use Rattle.stream_seeking.specs.Blocks.{held_in}
+use Rattle.read_streams.specs.Blocks.{held_in}
 use Rattle.folder_commands.specs.declared.streams.Stream.{Stream}
 use Rattle.folder_commands.specs.declared.streams.Stream.TheVariants.{Held, Lies}
 

@@ -4,19 +4,19 @@ ghost use Rattle.folder_commands.specs.Extracting.{Extracts, IsLate, MayStop, of
 ghost use Rattle.folder_commands.specs.declared.planning.Planned.{Planned};
 ghost use Rattle.std.specs.Prelude.{Some, ◌<◌, ◌≡◌, ◌≤◌, ◌⊎◌, IfErr, IfOk, IfSome, OnOk, length, slice_get};
 ghost use Rattle.std.specs.Vec.{vec_len};
-ghost use Rattle.texts.specs.Input.{most};
+ghost use Rattle.text_io.specs.Input.{most};
 
 use crate::chosen::TreePath;
 use crate::fault::{ExtractFault, Stop};
 use crate::folder::{Folder, FolderFault};
 use crate::making::make_all;
+use crate::path::FolderPath;
 use crate::planning::{Planned, plan_asked};
-use file_folders::path::FolderPath;
-use file_moving::fault::SourceFault;
-use file_moving::reading::open;
-use file_places::source::Source;
+use read_source::source::Source;
 use std::alloc::Global;
-use stream_moving::window::Window;
+use write_cleaned::moving_fault::SourceFault;
+use write_cleaned::reading::open;
+use write_cleaned::window::Window;
 
 /// Makes a folder of what paths ask for of the tree that a compound file holds: a folder for each storage, and a file
 /// for each stream, under their names as a folder can hold them. Asked for is what is on or below one of the paths;

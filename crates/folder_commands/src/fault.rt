@@ -1,10 +1,10 @@
 //! Why a folder isn't made.
 
 use crate::folder::FolderFault;
-use file_folders::path::FolderPath;
-use storage_tree::fault::TreeFault;
-use stream_io::fault::ReadFault;
-use texts::input::InputFault;
+use crate::path::FolderPath;
+use read_files::fault::ReadFault;
+use text_io::input::InputFault;
+use tree_storage::fault::TreeFault;
 
 /// Why a file isn't made into a folder.
 #[derive(Drop)]

@@ -1,16 +1,16 @@
 //! What stands at paths of an outline.
 
 ghost use Rattle.cfb_names.specs.Names.{key};
-ghost use Rattle.file_outline.specs.View.{shown, shown_part, shown_parts};
-ghost use Rattle.file_outline.specs.declared.outline.Place as place;
+ghost use Rattle.read_outlines.specs.View.{shown, shown_part, shown_parts};
+ghost use Rattle.read_outlines.specs.declared.outline.Place as place;
 ghost use Rattle.folder_commands.specs.Chosen.{AllStand, IsMissing, standing};
 ghost use Rattle.std.specs.Prelude.{◌≡◌, IfErr, IfNone, IfSome, List, None, OnOk, Some, ℕ};
-ghost use Rattle.storage_tree.specs.Change.{find, inner, look};
+ghost use Rattle.tree_storage.specs.Change.{find, inner, look};
 
 use crate::chosen::TreePath;
 use cfb_names::name::{Name, key};
-use file_outline::outline::{Outline, Part};
-use storage_tree::fault::TreeFault;
+use read_outlines::outline::{Outline, Part};
+use tree_storage::fault::TreeFault;
 
 /// The part of a name.
 fn part_of<'o>(outline: &'o Outline, name: &Name) -> Option<&'o Part>

@@ -1,15 +1,15 @@
 //! Folders in which entries are made.
 
-ghost use Rattle.file_folders.specs.Plan.{Entry, file, folder};
+ghost use Rattle.folder_commands.specs.Plan.{Entry, file, folder};
 ghost use Rattle.folder_commands.specs.Made.{Adds};
 ghost use Rattle.folder_commands.specs.Streams.{bytes_in};
 ghost use Rattle.std.specs.Prelude.{[], ◌≡◌, ◌∷◌, IfSome, List, None, OnErr, OnOk, Option, length};
 
+use crate::path::FolderPath;
 use crate::streams::Stream;
-use file_folders::path::FolderPath;
-use file_places::source::Source;
-use stored_values::class_id::ClassId;
+use read_source::source::Source;
 use thiserror::Error;
+use tree_values::class_id::ClassId;
 
 /// Why an entry isn't made.
 #[derive(Debug, Clone, Copy, Error)]

@@ -1,22 +1,22 @@
 //! Making what is planned in a folder, an entry after another.
 
-ghost use Rattle.file_folders.specs.Plan.{file};
+ghost use Rattle.folder_commands.specs.Plan.{file};
 ghost use Rattle.folder_commands.specs.Made.{Adds};
 ghost use Rattle.folder_commands.specs.Planned.{entries_of, entry_at};
 ghost use Rattle.std.specs.Prelude.{[], ◌*◌, ◌<◌, ◌≡◌, ◌∷◌, IfErr, List, OnErr, OnOk, Some, length, take, ℕ};
-ghost use Rattle.stream_moving.specs.Windows.{IsWindow};
-ghost use Rattle.stream_seeking.specs.Tables.{read_by};
+ghost use Rattle.write_cleaned.specs.Windows.{IsWindow};
+ghost use Rattle.read_streams.specs.Tables.{read_by};
 
 use crate::folder::{Folder, FolderFault};
+use crate::path::FolderPath;
 use crate::planning::{Planned, What};
 use crate::seeking::seek;
-use file_folders::path::FolderPath;
-use file_outline::outline::Place;
-use file_places::source::Source;
+use read_outlines::outline::Place;
+use read_source::source::Source;
+use read_streams::fault::CopyFault;
+use read_streams::tables::Tables;
 use std::alloc::Global;
-use stream_moving::window::Window;
-use stream_seeking::fault::CopyFault;
-use stream_seeking::tables::Tables;
+use write_cleaned::window::Window;
 
 /// A fault of a stream whose bytes are sought.
 fn of_copy(fault: CopyFault) -> FolderFault {

@@ -1,8 +1,8 @@
 //! What is to be made in a folder of what paths choose of an outline.
 
-ghost use Rattle.file_folders.specs.Plan.{folder_plan, plan};
-ghost use Rattle.file_outline.specs.View.{shown, shown_part};
-ghost use Rattle.file_outline.specs.declared.outline.Place as place;
+ghost use Rattle.folder_commands.specs.Plan.{folder_plan, plan};
+ghost use Rattle.read_outlines.specs.View.{shown, shown_part};
+ghost use Rattle.read_outlines.specs.declared.outline.Place as place;
 ghost use Rattle.folder_commands.specs.Chosen.{AllStand, asked, chosen, chosen_plan, picked_plan};
 ghost use Rattle.folder_commands.specs.Extracting.{MayRefusePlan};
 ghost use Rattle.folder_commands.specs.Planned.{entries_of, entry_at};
@@ -11,11 +11,11 @@ ghost use Rattle.std.specs.Prelude.{[], ◌++◌, ◌≡◌, ◌∷◌, IfErr, I
 use crate::chosen::{TreePath, left_of};
 use crate::fault::ExtractFault;
 use crate::finding::find_all;
+use crate::path::FolderPath;
 use cfb_names::name::{Name, key};
-use file_folders::path::FolderPath;
-use file_outline::outline::{Outline, Part, Place};
+use read_outlines::outline::{Outline, Part, Place};
 use std::alloc::{AllocError, Global};
-use stored_values::class_id::ClassId;
+use tree_values::class_id::ClassId;
 
 /// What is to be made at a path of a folder.
 #[derive(Drop)]

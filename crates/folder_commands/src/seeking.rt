@@ -1,24 +1,24 @@
 //! The bytes of the streams of an opened file, by its tables.
 
-ghost use Rattle.file_model.specs.Limits.{CUTOFF};
+ghost use Rattle.cfb_file.specs.Limits.{CUTOFF};
 ghost use Rattle.folder_commands.specs.Streams.{bytes_in};
 ghost use Rattle.std.specs.Prelude.{◌*◌, ◌<◌, ◌≡◌, ◌≤◌, IfOk, IfSome, List, length, ℕ};
-ghost use Rattle.stream_moving.specs.Windows.{IsWindow};
-ghost use Rattle.stream_seeking.specs.Blocks.{held_in};
-ghost use Rattle.stream_seeking.specs.Tables.{read_by};
+ghost use Rattle.write_cleaned.specs.Windows.{IsWindow};
+ghost use Rattle.read_streams.specs.Blocks.{held_in};
+ghost use Rattle.read_streams.specs.Tables.{read_by};
 
 use crate::streams::Stream;
-use cfb_chain::links::Links;
-use file_outline::outline::{Place, is_short};
-use file_parts::pieces::finish;
-use file_places::source::Source;
+use read_chains::links::Links;
+use read_outlines::outline::{Place, is_short};
+use read_source::source::Source;
+use read_streams::blocks::{Blocks, Lies, count_sectors};
+use read_streams::chains::follow;
+use read_streams::fault::CopyFault;
+use read_streams::tables::Tables;
 use std::alloc::Global;
-use stream_moving::moving::send_short;
-use stream_moving::window::Window;
-use stream_seeking::blocks::{Blocks, Lies, count_sectors};
-use stream_seeking::chains::follow;
-use stream_seeking::fault::CopyFault;
-use stream_seeking::tables::Tables;
+use write_cleaned::stream_moving::send_short;
+use write_cleaned::window::Window;
+use write_parts::pieces::finish;
 
 /// Reads the stream of fewer than 4,096 bytes that lies at a place, by way of a window of the mini stream.
 fn read_short<S: Source>(

@@ -4,13 +4,13 @@ ghost use Rattle.folder_commands.specs.Streams.{bytes_in};
 ghost use Rattle.std.specs.Io.KnownBytes.{Appends};
 ghost use Rattle.std.specs.Prelude.{◌≡◌, IfSome, OnOk, length};
 
-use file_places::source::Source;
+use read_source::source::Source;
+use read_streams::blocks::Lies;
+use read_streams::copying::copy_blocks;
+use read_streams::fault::CopyFault;
 use std::alloc::Global;
 use std::io::Write;
-use stream_seeking::blocks::Lies;
-use stream_seeking::copying::copy_blocks;
-use stream_seeking::fault::CopyFault;
-use texts::output::write_all;
+use text_io::output::write_all;
 
 /// The bytes of a stream of a file.
 #[derive(Drop)]

@@ -1,30 +1,34 @@
 //! Bodies of frames, read from left to right.
 
 ghost use Rattle.message_bodies.specs.Decoding.{Continues, Gives, Makes};
-ghost use Rattle.stored_streams.specs.declared.streams.NamedStream.{NamedStream};
-ghost use Rattle.message_model.specs.declared.codes.OperationCode.TheVariants.{Close, Edit, InitNew, Load, Save, SaveCompleted, SaveDropped, UiActivate};
+ghost use Rattle.tree_streams.specs.declared.streams.NamedStream.{NamedStream};
+ghost use Rattle.message_model.specs.declared.codes.OperationCode.TheVariants.{Close, Edit, InitNew, Load, Save};
+ghost use Rattle.message_model.specs.declared.codes.OperationCode.TheVariants.{SaveCompleted, SaveDropped, UiActivate};
 ghost use Rattle.message_model.specs.declared.codes.Kind.TheVariants.{Turn};
 ghost use Rattle.message_model.specs.Frames.{number_in};
-ghost use Rattle.object_parts.specs.Limits.{MOST_BYTES};
-ghost use Rattle.message_model.specs.Reading.{answer, ask_in, blob, byte, bytes, call_in, flag_of, more, may_follow, name, number, operation, option_of, pictured, read_body, reply_in, stored, text, tools, whole, width_in, widths_in, write_in};
-ghost use Rattle.std.specs.Prelude.{[], ◌∷◌, ◌++◌, ◌≡◌, ◌≤◌, ◌<◌, ◌-◌, ◌^◌, ℕ, List, None, IfOk, true, length, take, drop};
+ghost use Rattle.tree_streams.specs.Limits.{MOST_BYTES};
+ghost use Rattle.message_model.specs.Reading.{answer, ask_in, blob, byte, bytes, call_in, flag_of, more, may_follow};
+ghost use Rattle.message_model.specs.Reading.{name, number, operation, option_of, pictured, read_body, reply_in};
+ghost use Rattle.message_model.specs.Reading.{stored, text, tools, whole, width_in, widths_in, write_in};
+ghost use Rattle.std.specs.Prelude.{[], ◌∷◌, ◌++◌, ◌≡◌, ◌≤◌, ◌<◌, ◌-◌, ◌^◌, ℕ, List, None, IfOk, true, length, take};
+ghost use Rattle.std.specs.Prelude.{drop};
 
 use cfb_names::name::{Name, named};
 use message_model::codes::{
     AnswerCode, Kind, OperationCode, answer_code_of, operation_code_of, refusal_of,
 };
 use message_model::frame::{Frame, MOST_EDIT};
-use object_parts::limits::{MOST_BYTES, MOST_STREAMS, is_ole_name};
+use message_values::answer::Answer;
+use message_values::message::{Message, Said};
+use message_values::operation::Operation;
 use object_state::{CloseOption, MenuText, Menus};
 use std::alloc::{AllocError, Global};
-use stored_streams::fault::StreamsFault;
-use stored_streams::stored::Stored;
-use stored_streams::streams::{NamedStream, Streams};
-use stored_values::bytes::Bytes;
-use stored_values::class_id::ClassId;
-use wire_msgs::answer::Answer;
-use wire_msgs::message::{Message, Said};
-use wire_msgs::operation::Operation;
+use tree_streams::fault::StreamsFault;
+use tree_streams::limits::{MOST_BYTES, MOST_STREAMS, is_ole_name};
+use tree_streams::stored::Stored;
+use tree_streams::streams::{NamedStream, Streams};
+use tree_values::bytes::Bytes;
+use tree_values::class_id::ClassId;
 
 /// Why a body makes no frame.
 #[derive(Drop)]
@@ -267,7 +271,8 @@ fn take_streams(
     count: usize,
     xs: &[u8],
 ) -> Result<(Streams, usize, &[u8]), BodyFault>
-    ensures { Gives {B = List NamedStream × ℕ} (λ x. (x.0, x.1)) (λ x. x.2.now) result (λ k. more count [] MOST_BYTES (λ ss room. k (ss, room))) xs.now }
+    ensures { Gives {B = List NamedStream × ℕ} (λ x. (x.0, x.1)) (λ x. x.2.now) result
+        (λ k. more count [] MOST_BYTES (λ ss room. k (ss, room))) xs.now }
 {
     let mut streams = Streams::new(alloc);
     let mut room = MOST_BYTES;

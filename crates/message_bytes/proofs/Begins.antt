@@ -1,5 +1,6 @@
 -- Bytes that stand before others.
-use Rattle.std.proofs.Common.{◌≡◌, ◌≤◌, ℕ, List, ◌++◌, length, take, sym, ap, subst, ◌∙◌, arith, Bool, true, false, if◌then◌else◌}
+use Rattle.std.proofs.Common.{◌≡◌, ◌≤◌, ℕ, List, ◌++◌, length, take, sym, ap, subst, ◌∙◌, arith, Bool, true, false}
+use Rattle.std.proofs.Common.{if◌then◌else◌}
 use Rattle.std.proofs.lemmas.List.{length-take, take-append-le, take-take, take_all}
 use Rattle.message_bytes.specs.Encoding.{Begins}
 
@@ -7,7 +8,10 @@ pub itself : (bytes : List ℕ) → Begins bytes bytes
 itself bytes = record { same = take_all (length bytes) bytes (omega arith) }
 
 pub before : (old new text : List ℕ) → new ≡ old ++ text → Begins old new
-before old new text added = record { same = ap (take (length old)) added ∙ take-append-le (length old) old text (omega arith) ∙ take_all (length old) old (omega arith) }
+before old new text added = record {
+  same = ap (take (length old)) added
+      ∙ take-append-le (length old) old text (omega arith) ∙ take_all (length old) old (omega arith);
+}
 
 -- one step behind another
 pub through : (old mid new : List ℕ) → Begins old mid → Begins mid new → Begins old new

@@ -3,9 +3,10 @@ use Rattle.std.specs.Prelude.{◌≡◌, ◌≤◌, ℕ, List, [], ◌∷◌, �
 use Rattle.std.specs.Global.{Vec}
 use Rattle.std.specs.List.{AllByRecursion}
 use Rattle.cfb_names.specs.Names.{IsName}
-use Rattle.stored_streams.specs.declared.streams.NamedStream.{NamedStream}
+use Rattle.tree_streams.specs.declared.streams.NamedStream.{NamedStream}
 use Rattle.message_model.specs.declared.fault.WireFault.{WireFault}
-use Rattle.message_model.specs.declared.fault.WireFault.TheVariants.{BadMagic, BadVersion, BadKind, TooLong, BadField, NoMemory}
+use Rattle.message_model.specs.declared.fault.WireFault.TheVariants.{BadMagic, BadVersion, BadKind, TooLong, BadField}
+use Rattle.message_model.specs.declared.fault.WireFault.TheVariants.{NoMemory}
 use Rattle.message_model.specs.declared.frame.Frame.{Frame}
 use Rattle.message_model.specs.Frames.{MOST_BODY, fits}
 use Rattle.message_model.specs.Spelling.{body, kind, spell}

@@ -1,5 +1,6 @@
 -- What stands at the front of bytes, and how a decoder stands.
-use Rattle.std.specs.Prelude.{◌≡◌, ◌≢◌, ◌⊎◌, ◌<◌, ◌≤◌, ℕ, List, [], ◌∷◌, ◌++◌, length, take, drop, Option, Some, None, Result, Ok, Err}
+use Rattle.std.specs.Prelude.{◌≡◌, ◌≢◌, ◌⊎◌, ◌<◌, ◌≤◌, ℕ, List, [], ◌∷◌, ◌++◌, length, take, drop, Option, Some, None}
+use Rattle.std.specs.Prelude.{Result, Ok, Err}
 use Rattle.std.specs.List.{AllByRecursion}
 use Rattle.message_model.specs.declared.codes.Kind.{Kind}
 use Rattle.message_drafts.specs.Opens.{Form}
@@ -24,7 +25,8 @@ HeadIs (Body kind len) bytes = IsHead kind len bytes
 abbrev pub LengthIs : Head → Kind → List ℕ → Type 0
 LengthIs Short kind bytes = (length bytes < 4) × (shown_length bytes ≡ None)
 LengthIs (Bad fault) kind bytes = (fault ≡ TooLong) × ((more : List ℕ) → shown_length (bytes ++ more) ≡ Some fault)
-LengthIs (Body k len) kind bytes = (k ≡ kind) × (4 ≤ length bytes) × (number_in (take 4 bytes) ≡ len) × (len ≤ MOST_BODY)
+LengthIs (Body k len) kind bytes = (k ≡ kind) × (4 ≤ length bytes) × (number_in (take 4 bytes) ≡ len)
+    × (len ≤ MOST_BODY)
 
 -- no frame's byte form begins these bytes
 abbrev pub BeginsNone : List ℕ → Type 0
@@ -67,11 +69,13 @@ AreRead fed taken fault = (more : List Frame) × Reads fed (taken ++ more) fault
 abbrev pub Feeds : Result (Unit {0}) WireFault → List ℕ → List ℕ → List Frame → Decoder → Type 0
 Feeds (Ok u) fed piece taken new = Stands new (fed ++ piece) taken × AreRead (fed ++ piece) taken None
 Feeds (Err fault) fed piece taken new =
-    ((fault ≡ NoMemory) × Stands new fed taken) ⊎ (Stands new (fed ++ piece) taken × AreRead (fed ++ piece) taken (Some fault))
+    ((fault ≡ NoMemory) × Stands new fed taken)
+    ⊎ (Stands new (fed ++ piece) taken × AreRead (fed ++ piece) taken (Some fault))
 
 -- What next does: the next frame, that there is none yet, or the fault behind the last one.
 abbrev pub HandsOut : Result (Option Frame) WireFault → List ℕ → List Frame → Decoder → Type 0
-HandsOut (Ok (Some f)) fed taken new = Stands new fed (taken ++ f ∷ []) × ((fault : Option WireFault) × AreRead fed (taken ++ f ∷ []) fault)
+HandsOut (Ok (Some f)) fed taken new = Stands new fed (taken ++ f ∷ [])
+    × ((fault : Option WireFault) × AreRead fed (taken ++ f ∷ []) fault)
 HandsOut (Ok None) fed taken new = Stands new fed taken × Reads fed taken None
 HandsOut (Err fault) fed taken new = Stands new fed taken × Reads fed taken (Some fault)
 
@@ -98,9 +102,11 @@ pub record Leaves (old new : List Frame) (bytes : List ℕ) (kept : Rest) (fault
 
 -- the same of a piece behind what was kept
 abbrev pub Fed : Rest → Rest → List Frame → List Frame → List ℕ → Option WireFault → Type 0
-Fed kept after old new piece fault = (rest : List ℕ) → Holds kept rest → shown rest ≡ None → Leaves old new (rest ++ piece) after fault
+Fed kept after old new piece fault = (rest : List ℕ) → Holds kept rest → shown rest ≡ None
+    → Leaves old new (rest ++ piece) after fault
 
 -- A body of which these bytes came: it goes on, or something stands behind it.
-abbrev pub Grows : {X : Type 0} → (X → Rest) → (X → Option WireFault) → Option X → Form → List Frame → List Frame → List ℕ → Type 0
+abbrev pub Grows : {X : Type 0} → (X → Rest) → (X → Option WireFault) → Option X → Form → List Frame → List Frame
+    → List ℕ → Type 0
 Grows kept fault None body old new bytes = (new ≡ old) × IsBody body bytes × (shown bytes ≡ None)
 Grows kept fault (Some x) body old new bytes = Leaves old new bytes (kept x) (fault x)

@@ -9,8 +9,8 @@ use std::collections::VecDeque;
 
 /// Takes bytes as they come, and gives the frames that they spell.
 ///
-/// The frames that were handed out, and those that wait, are the longest list whose byte forms, joined, are a prefix of all
-/// bytes that were fed. Once the rest shows a fault, that stays.
+/// The frames that were handed out, and those that wait, are the longest list whose byte forms, joined, are a prefix of
+/// all bytes that were fed. Once the rest shows a fault, that stays.
 #[derive(Drop)]
 pub struct Decoder {
     alloc: Global,
@@ -53,10 +53,11 @@ impl Decoder {
 
     /// Takes the next piece of the bytes.
     ///
-    /// Refused: the fault that all bytes so far show, at the call that shows it and ever after; `NoMemory`, before that.
-    /// After `NoMemory` the decoder is as before, and the same piece can be fed again.
+    /// Refused: the fault that all bytes so far show, at the call that shows it and ever after; `NoMemory`, before
+    /// that. After `NoMemory` the decoder is as before, and the same piece can be fed again.
     pub fn feed(&mut self, piece: &[u8]) -> Result<(), WireFault>
-        ensures fed { (fed : List ℕ) (taken : List Frame) → Stands self.old fed taken → Feeds result fed piece.now taken self.new }
+        ensures fed { (fed : List ℕ) (taken : List Frame) → Stands self.old fed taken
+            → Feeds result fed piece.now taken self.new }
         ensures stuck { IfSome self.old.fault (λ fault. (result ≡ Err fault) × (self.new ≡ self.old)) }
     {
         match self.fault {

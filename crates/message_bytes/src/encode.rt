@@ -3,23 +3,24 @@
 ghost use Rattle.cfb_names.specs.Names.{IsName};
 ghost use Rattle.message_bytes.specs.Encoding.{Adds, AreNamed, Begins, Encodes, EncodesInto, IsUnmeasured};
 ghost use Rattle.message_model.specs.Frames.{MOST_BODY, MOST_EDIT, answer_fits, fits, operation_fits, said_fits};
-ghost use Rattle.message_model.specs.Spelling.{answer, blob, body, four_bytes, kind, operation, option_number, said_body, said_kind, stored, streams, text, two_bytes, widths};
-ghost use Rattle.object_parts.specs.Limits.{is_within, total};
-ghost use Rattle.wire_msgs.specs.declared.operation.Operation.TheVariants.{SaveCompleted};
+ghost use Rattle.message_model.specs.Spelling.{answer, blob, body, four_bytes, kind, operation, option_number};
+ghost use Rattle.message_model.specs.Spelling.{said_body, said_kind, stored, streams, text, two_bytes, widths};
+ghost use Rattle.tree_streams.specs.Limits.{is_within, total};
+ghost use Rattle.message_values.specs.declared.operation.Operation.TheVariants.{SaveCompleted};
 ghost use Rattle.std.specs.Prelude.{[], ◌∷◌, ◌++◌, ◌≡◌, ◌≤◌, ◌<◌, ◌+◌, ◌^◌, OnOk, drop, length, take, true};
 
 use crate::unfinished::MOST_HELD;
 use message_model::fault::WireFault;
 use message_model::frame::Frame;
 pub use message_model::frame::MOST_EDIT;
-use object_parts::limits::is_within;
+use message_values::answer::Answer;
+use message_values::message::{Message, Said};
+use message_values::operation::Operation;
 use object_state::{CloseOption, MenuText};
 use std::alloc::{AllocError, Global};
-use stored_streams::stored::Stored;
-use stored_streams::streams::NamedStream;
-use wire_msgs::answer::Answer;
-use wire_msgs::message::{Message, Said};
-use wire_msgs::operation::Operation;
+use tree_streams::limits::is_within;
+use tree_streams::stored::Stored;
+use tree_streams::streams::NamedStream;
 
 /// How many bytes stand beside a stream's name and its bytes in a content.
 const MOST_BESIDE: usize = 5;
@@ -78,7 +79,7 @@ fn said_fits(said: &Said) -> bool
 }
 
 /// Whether a frame may be sent: no number in it is 0, an edit has at most 65,536 bytes, and a content may be stored
-/// (`object_parts::limits::is_within`).
+/// (`tree_streams::limits::is_within`).
 pub fn fits(frame: &Frame) -> bool
     ensures { result ≡ fits frame.now }
 {
@@ -398,7 +399,9 @@ fn push_said(out: &mut Vec<u8>, said: &Said) -> Result<(), AllocError>
 #[tactic(auto, using(crate::proofs::Begins::through))]
 fn push_message(out: &mut Vec<u8>, message: &Message) -> Result<(), AllocError>
     requires { said_fits message.now.said ≡ true }
-    ensures added { OnOk result (Adds out.old.items out.new.items (four_bytes message.now.session ++ said_body message.now.said) MOST_BODY) }
+    ensures added { OnOk result
+        (Adds out.old.items out.new.items (four_bytes message.now.session ++ said_body message.now.said)
+        MOST_BODY) }
     ensures begins { Begins out.old.items out.new.items }
 {
     push_u32(out, message.session)?;
@@ -478,7 +481,8 @@ fn said_room(said: &Said) -> usize {
     }
 }
 
-// How many bytes a frame takes at the most, so that its vector grows once. It is a guess: what doesn't fit grows it again.
+// How many bytes a frame takes at the most, so that its vector grows once. It is a guess: what doesn't fit grows it
+// again.
 fn room(frame: &Frame) -> usize {
     match frame {
         Frame::Message(message) => said_room(&message.said).saturating_add(MOST_HELD),

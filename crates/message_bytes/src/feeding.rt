@@ -24,7 +24,8 @@ fn put(waiting: &mut VecDeque<Frame>, at: usize, frame: Frame)
     }
 }
 
-// Puts the frames at the front of bytes behind those that wait: what comes behind them, or the fault that is shown there.
+// Puts the frames at the front of bytes behind those that wait: what comes behind them, or the fault that is shown
+// there.
 //
 // Refused for want of memory alone. Then some of the frames may have been put there.
 fn take_behind(
@@ -97,7 +98,8 @@ fn close_body(
     waiting: &mut VecDeque<Frame>,
 ) -> Result<(Unfinished, Option<WireFault>), AllocError>
     requires { length front.now ≡ body.old.to_come }
-    ensures leaves { IfOk result (λ x. (rest : List ℕ) → IsBody body.old rest → Leaves waiting.old.items waiting.new.items (rest ++ (front.now ++ behind.now)) x.0 x.1) }
+    ensures leaves { IfOk result (λ x. (rest : List ℕ) → IsBody body.old rest
+        → Leaves waiting.old.items waiting.new.items (rest ++ (front.now ++ behind.now)) x.0 x.1) }
     ensures kept { OnErr result (body.new ≡ body.old) }
     ensures waiting { OnErr result (waiting.new.items ≡ waiting.old.items) }
 {
@@ -139,7 +141,8 @@ fn feed_body(
     piece: &[u8],
     waiting: &mut VecDeque<Frame>,
 ) -> Result<Option<(Unfinished, Option<WireFault>)>, AllocError>
-    ensures grows { IfOk result (λ x. (rest : List ℕ) → IsBody body.old rest → Grows (λ y. y.0) (λ y. y.1) x body.new waiting.old.items waiting.new.items (rest ++ piece.now)) }
+    ensures grows { IfOk result (λ x. (rest : List ℕ) → IsBody body.old rest
+        → Grows (λ y. y.0) (λ y. y.1) x body.new waiting.old.items waiting.new.items (rest ++ piece.now)) }
     ensures kept { OnErr result (body.new ≡ body.old) }
     ensures waiting { OnErr result (waiting.new.items ≡ waiting.old.items) }
 {
@@ -166,7 +169,8 @@ fn feed_few(
     piece: &[u8],
     waiting: &mut VecDeque<Frame>,
 ) -> Result<(Unfinished, Option<WireFault>), AllocError>
-    ensures leaves { IfOk result (λ x. shown held.now.front ≡ None → Leaves waiting.old.items waiting.new.items (held.now.front ++ piece.now) x.0 x.1) }
+    ensures leaves { IfOk result (λ x. shown held.now.front ≡ None
+        → Leaves waiting.old.items waiting.new.items (held.now.front ++ piece.now) x.0 x.1) }
     ensures kept { OnErr result (take (length waiting.old.items) waiting.new.items ≡ waiting.old.items) }
 {
     let len = held.as_slice().len();
@@ -203,8 +207,8 @@ fn feed_few(
     }
 }
 
-/// Takes a piece behind what came of a frame, and puts the frames that are whole behind those that wait: the fault that is
-/// shown, if one is.
+/// Takes a piece behind what came of a frame, and puts the frames that are whole behind those that wait: the fault that
+/// is shown, if one is.
 ///
 /// Refused for want of memory alone. Then what came and the frames that wait are as before.
 pub(crate) fn feed(

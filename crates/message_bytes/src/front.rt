@@ -111,8 +111,8 @@ pub(crate) fn put_behind(waiting: &mut VecDeque<Frame>, frame: Frame) -> Result<
     Ok(())
 }
 
-/// Puts the frames at the front of bytes behind those that wait. It gives how many bytes they have, and the fault that the
-/// bytes behind them show.
+/// Puts the frames at the front of bytes behind those that wait. It gives how many bytes they have, and the fault that
+/// the bytes behind them show.
 ///
 /// Refused for want of memory alone. Then some of the frames may have been put there.
 pub(crate) fn take_frames(
@@ -120,7 +120,8 @@ pub(crate) fn take_frames(
     bytes: &[u8],
     waiting: &mut VecDeque<Frame>,
 ) -> Result<(usize, Option<WireFault>), AllocError>
-    ensures took { IfOk result (λ x. Took waiting.old.items waiting.new.items bytes.now x.0 × Ends x.1 (drop x.0 bytes.now)) }
+    ensures took { IfOk result (λ x. Took waiting.old.items waiting.new.items bytes.now x.0
+        × Ends x.1 (drop x.0 bytes.now)) }
     ensures kept { OnErr result (take (length waiting.old.items) waiting.new.items ≡ waiting.old.items) }
 {
     let mut used = 0;

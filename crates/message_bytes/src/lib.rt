@@ -6,5 +6,3 @@ pub mod encode;
 mod feeding;
 mod front;
 mod unfinished;
-
-pub use message_model::{codes, fault, frame, laws};

@@ -1,7 +1,8 @@
 -- A body of which some bytes came, and what is read of it with those that are to come.
-use Rattle.std.specs.Prelude.{◌≡◌, ◌⊎◌, ◌<◌, ◌≤◌, ◌+◌, ℕ, zero, suc, Bool, cond, List, [], ◌∷◌, ◌++◌, length, take, drop, Option, Some, None}
-use Rattle.stored_streams.specs.Streams.{AreInOrder}
-use Rattle.stored_streams.specs.declared.streams.NamedStream.{NamedStream}
+use Rattle.std.specs.Prelude.{◌≡◌, ◌⊎◌, ◌<◌, ◌≤◌, ◌+◌, ℕ, zero, suc, Bool, cond, List, [], ◌∷◌, ◌++◌, length, take}
+use Rattle.std.specs.Prelude.{drop, Option, Some, None}
+use Rattle.tree_streams.specs.Streams.{AreInOrder}
+use Rattle.tree_streams.specs.declared.streams.NamedStream.{NamedStream}
 use Rattle.message_drafts.specs.declared.draft.Draft.{Draft}
 use Rattle.message_drafts.specs.declared.draft.Plan.{Plan}
 use Rattle.message_drafts.specs.declared.back.Mark.{Mark}
@@ -9,10 +10,10 @@ use Rattle.message_drafts.specs.declared.draft.Phase.{Phase}
 use Rattle.message_drafts.specs.declared.draft.Phase.TheVariants.{Fields, Picture, Bad}
 use Rattle.message_drafts.specs.declared.draft.Opening.{Opening}
 use Rattle.message_drafts.specs.declared.draft.Opening.TheVariants as opening
-use Rattle.wire_msgs.specs.declared.operation.Operation.{Operation}
-use Rattle.wire_msgs.specs.declared.operation.Operation.TheVariants as op
-use Rattle.wire_msgs.specs.declared.answer.Answer.TheVariants as ans
-use Rattle.wire_msgs.specs.declared.message.Said.TheVariants.{Call, Reply, Write}
+use Rattle.message_values.specs.declared.operation.Operation.{Operation}
+use Rattle.message_values.specs.declared.operation.Operation.TheVariants as op
+use Rattle.message_values.specs.declared.answer.Answer.TheVariants as ans
+use Rattle.message_values.specs.declared.message.Said.TheVariants.{Call, Reply, Write}
 use Rattle.message_model.specs.declared.frame.Frame.{Frame}
 use Rattle.message_model.specs.declared.frame.Frame.TheVariants.{Message}
 use Rattle.message_model.specs.Reading.{Reader, bad, blob, more, name, sized, whole}
@@ -24,9 +25,13 @@ call_of session inc act n o = Message (record { session = session; said = Call i
 -- the frame that these streams and this picture complete; an edit stands in the place of the picture
 abbrev pub frame_of : Opening → List NamedStream → List ℕ → Frame
 frame_of (opening.Edit session inc act n) ss bs = call_of session inc act n (op.Edit bs)
-frame_of (opening.Load session inc act n class) ss bs = call_of session inc act n (op.Load class (record { streams = ss; picture = bs }))
-frame_of (opening.Content session inc act n) ss bs = Message (record { session = session; said = Reply inc act n (ans.Content (record { streams = ss; picture = bs })) })
-frame_of (opening.Write session inc act s w) ss bs = Message (record { session = session; said = Write inc act s w (record { streams = ss; picture = bs }) })
+frame_of (opening.Load session inc act n class) ss bs =
+    call_of session inc act n (op.Load class (record { streams = ss; picture = bs }))
+frame_of (opening.Content session inc act n) ss bs =
+    Message
+    (record { session = session; said = Reply inc act n (ans.Content (record { streams = ss; picture = bs })) })
+frame_of (opening.Write session inc act s w) ss bs =
+    Message (record { session = session; said = Write inc act s w (record { streams = ss; picture = bs }) })
 
 -- the last bytes of a body, and nothing behind them
 abbrev pub last : Opening → List NamedStream → ℕ → Reader
@@ -43,12 +48,15 @@ lengthened (s ∷ t ∷ ss) bs = s ∷ lengthened (t ∷ ss) bs
 
 -- What is read of a body with the bytes that are to come: first those that the last blob lacks, then fields.
 abbrev pub read_on : Phase → ℕ → ℕ → ℕ → List ℕ → Opening → List NamedStream → List ℕ → Reader
-read_on Fields left room missing held o ss picture xs = more left (lengthened ss (take missing xs)) room (last o) (held ++ drop missing xs)
-read_on Picture left room missing held o ss picture xs = whole (frame_of o ss (picture ++ take missing xs)) (drop missing xs)
+read_on Fields left room missing held o ss picture xs = more left (lengthened ss (take missing xs)) room (last o)
+    (held ++ drop missing xs)
+read_on Picture left room missing held o ss picture xs = whole (frame_of o ss (picture ++ take missing xs))
+    (drop missing xs)
 read_on Bad left room missing held o ss picture xs = None
 
 unfoldable pub resume : Draft → Reader
-resume d xs = read_on d.plan.phase d.plan.left d.plan.room d.plan.missing (take d.plan.len d.plan.held) d.opening d.streams.items d.picture xs
+resume d xs = read_on d.plan.phase d.plan.left d.plan.room d.plan.missing (take d.plan.len d.plan.held) d.opening
+    d.streams.items d.picture xs
 
 -- how many bytes the next field has, of which these came: the length of the picture, or a stream's name and length
 abbrev pub need : ℕ → List ℕ → ℕ
@@ -59,7 +67,8 @@ need (suc left) (n ∷ held) = n + 5
 -- what holds of a body at all times
 abbrev pub IsPlannedAt : Phase → ℕ → ℕ → ℕ → List ℕ → List ℕ → Type 0
 IsPlannedAt Fields left missing to_come held picture =
-    (length held < need left held) × (need left held ≤ 36) × (missing ≤ to_come) × (picture ≡ []) × (0 < missing → held ≡ [])
+    (length held < need left held) × (need left held ≤ 36) × (missing ≤ to_come) × (picture ≡ [])
+    × (0 < missing → held ≡ [])
 IsPlannedAt Picture left missing to_come held picture = missing ≤ to_come
 IsPlannedAt Bad left missing to_come held picture = Unit {0}
 
@@ -133,7 +142,8 @@ pub record Begins (old new : Draft) : Type 0 where
 abbrev pub IsStreamField : Option (List ℕ × ℕ) → ℕ → List ℕ → Type 0
 IsStreamField (Some f) n rest =
     (follows : List ℕ → Bool) (room : ℕ) (k : List ℕ → List ℕ → Reader) (ys : List ℕ)
-    → name (λ m. cond (follows m) (blob room (k m)) bad) (n ∷ (rest ++ ys)) ≡ cond (follows f.0) (sized room (k f.0) f.1) bad ys
+    → name (λ m. cond (follows m) (blob room (k m)) bad) (n ∷ (rest ++ ys))
+    ≡ cond (follows f.0) (sized room (k f.0) f.1) bad ys
 IsStreamField None n rest = (k : List ℕ → Reader) (ys : List ℕ) → name k (n ∷ (rest ++ ys)) ≡ None
 
 abbrev pub IsField : Option (List ℕ × ℕ) → List ℕ → Type 0

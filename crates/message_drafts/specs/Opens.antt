@@ -1,10 +1,10 @@
 -- The first fields of a body, and the bytes behind them, whatever comes.
 use Rattle.std.specs.Prelude.{◌≡◌, ◌<◌, ◌+◌, ℕ, List, [], ◌++◌, length, take, Option, Some, None}
-use Rattle.object_parts.specs.Limits.{MOST_BYTES}
-use Rattle.stored_streams.specs.declared.stored.Stored.{Stored}
-use Rattle.stored_streams.specs.declared.streams.NamedStream.{NamedStream}
+use Rattle.tree_streams.specs.Limits.{MOST_BYTES}
+use Rattle.tree_streams.specs.declared.stored.Stored.{Stored}
+use Rattle.tree_streams.specs.declared.streams.NamedStream.{NamedStream}
 use Rattle.message_drafts.specs.declared.draft.Phase.{Phase}
-use Rattle.wire_msgs.specs.declared.operation.Operation.TheVariants.{Load}
+use Rattle.message_values.specs.declared.operation.Operation.TheVariants.{Load}
 use Rattle.message_model.specs.declared.frame.Frame.{Frame}
 use Rattle.message_model.specs.declared.codes.Kind.{Kind}
 use Rattle.message_model.specs.declared.codes.OperationCode.TheVariants as code
@@ -17,11 +17,13 @@ use Rattle.message_drafts.specs.Drafts.{call_of, last, read_on}
 
 -- A part of a body and the bytes behind it; none where no frame is read of it.
 abbrev pub Takes : {X B : Type 0} → (X → B) → (X → List ℕ) → Option X → ((B → Reader) → Reader) → List ℕ → Type 0
-Takes {X} {B} value rest (Some x) reader xs = (k : B → Reader) (ys : List ℕ) → reader k (xs ++ ys) ≡ k (value x) (rest x ++ ys)
+Takes {X} {B} value rest (Some x) reader xs = (k : B → Reader) (ys : List ℕ)
+    → reader k (xs ++ ys) ≡ k (value x) (rest x ++ ys)
 Takes {X} {B} value rest None reader xs = (k : B → Reader) (ys : List ℕ) → reader k (xs ++ ys) ≡ None
 
 abbrev pub Counts : {X : Type 0} → (X → ℕ) → (X → List ℕ) → Option X → List ℕ → Type 0
-Counts count rest (Some x) xs = (k : Stored → Reader) (ys : List ℕ) → stored k (xs ++ ys) ≡ more (count x) [] MOST_BYTES (pictured k) (rest x ++ ys)
+Counts count rest (Some x) xs = (k : Stored → Reader) (ys : List ℕ)
+    → stored k (xs ++ ys) ≡ more (count x) [] MOST_BYTES (pictured k) (rest x ++ ys)
 Counts count rest None xs = (k : Stored → Reader) (ys : List ℕ) → stored k (xs ++ ys) ≡ None
 
 -- how many bytes may stand in the blobs
@@ -31,19 +33,24 @@ room_of (opening.Load session inc act n class) = MOST_BYTES
 room_of (opening.Content session inc act n) = MOST_BYTES
 room_of (opening.Write session inc act s w) = MOST_BYTES
 
-abbrev pub OpensLoad : {X : Type 0} → (X → Opening) → (X → ℕ) → (X → List ℕ) → Option X → ℕ → ℕ → ℕ → ℕ → List ℕ → Type 0
+abbrev pub OpensLoad : {X : Type 0} → (X → Opening) → (X → ℕ) → (X → List ℕ) → Option X → ℕ → ℕ → ℕ → ℕ → List ℕ
+    → Type 0
 OpensLoad o left rest (Some x) session inc act n xs =
-    (ys : List ℕ) → operation code.Load (λ p. whole (call_of session inc act n p)) (xs ++ ys) ≡ more (left x) [] (room_of (o x)) (last (o x)) (rest x ++ ys)
-OpensLoad o left rest None session inc act n xs = (ys : List ℕ) → operation code.Load (λ p. whole (call_of session inc act n p)) (xs ++ ys) ≡ None
+    (ys : List ℕ) → operation code.Load (λ p. whole (call_of session inc act n p)) (xs ++ ys)
+    ≡ more (left x) [] (room_of (o x)) (last (o x)) (rest x ++ ys)
+OpensLoad o left rest None session inc act n xs = (ys : List ℕ)
+    → operation code.Load (λ p. whole (call_of session inc act n p)) (xs ++ ys) ≡ None
 
 -- The first fields behind a session, with more than 72 bytes to read; none where they make no frame.
 abbrev pub OpensSaid : {X : Type 0} → (X → Opening) → (X → ℕ) → (X → List ℕ) → Option X → Reader → List ℕ → Type 0
-OpensSaid o left rest (Some x) said xs = (ys : List ℕ) → said (xs ++ ys) ≡ more (left x) [] (room_of (o x)) (last (o x)) (rest x ++ ys)
+OpensSaid o left rest (Some x) said xs = (ys : List ℕ) → said (xs ++ ys)
+    ≡ more (left x) [] (room_of (o x)) (last (o x)) (rest x ++ ys)
 OpensSaid o left rest None said xs = (ys : List ℕ) → 72 < length (xs ++ ys) → said (xs ++ ys) ≡ None
 
 -- The first fields of a body of more than 76 bytes; none where it makes no frame.
 abbrev pub Opens : {X : Type 0} → (X → Opening) → (X → ℕ) → (X → List ℕ) → Option X → Kind → List ℕ → Type 0
-Opens o left rest (Some x) kind xs = (ys : List ℕ) → read_body kind (xs ++ ys) ≡ more (left x) [] (room_of (o x)) (last (o x)) (rest x ++ ys)
+Opens o left rest (Some x) kind xs = (ys : List ℕ) → read_body kind (xs ++ ys)
+    ≡ more (left x) [] (room_of (o x)) (last (o x)) (rest x ++ ys)
 Opens o left rest None kind xs = (ys : List ℕ) → 76 < length (xs ++ ys) → read_body kind (xs ++ ys) ≡ None
 
 -- What a body that comes has.

@@ -1,19 +1,20 @@
 //! The bytes of a blob, as they come.
 
 ghost use Rattle.message_drafts.specs.Drafts.{longer};
-ghost use Rattle.stored_streams.specs.declared.streams.NamedStream.{NamedStream};
+ghost use Rattle.tree_streams.specs.declared.streams.NamedStream.{NamedStream};
 ghost use Rattle.std.specs.Prelude.{[], ◌++◌, ◌≡◌, ◌≤◌, IfOk, OnErr, OnOk, length, take};
 
 use cfb_names::name::Name;
 use std::alloc::{AllocError, Global};
 use std::marker::Model;
-use stored_streams::streams::NamedStream;
-use stored_values::bytes::Bytes;
+use tree_streams::streams::NamedStream;
+use tree_values::bytes::Bytes;
 
 /// The bytes of a blob, as they come.
 #[derive(Drop)]
 pub struct Blob {
-    // So many of the bytes that were shared once, then those of the vector. Where nothing was refused, only one has some.
+    // So many of the bytes that were shared once, then those of the vector. Where nothing was refused, only one has
+    // some.
     shared: Bytes,
     len: usize,
     more: Vec<u8>,
@@ -29,7 +30,8 @@ impl Model for Blob {
     ghost invariant = { λ b. b.len ≤ length b.shared };
 }
 
-// Puts bytes to the end of a blob that lacks so many. The blob takes at most twice what came, and no more than its length.
+// Puts bytes to the end of a blob that lacks so many. The blob takes at most twice what came, and no more than its
+// length.
 fn lengthen(blob: &mut Vec<u8>, missing: usize, bytes: &[u8]) -> Result<(), AllocError>
     requires { length bytes.now ≤ missing }
     ensures added { OnOk result (blob.new.items ≡ blob.old.items ++ bytes.now) }
@@ -123,7 +125,7 @@ pub struct Growing {
 }
 
 impl Model for Growing {
-    ghost use Rattle.stored_streams.specs.declared.streams.NamedStream.{NamedStream};
+    ghost use Rattle.tree_streams.specs.declared.streams.NamedStream.{NamedStream};
 
     ghost Value = { NamedStream };
 

@@ -10,8 +10,8 @@ use message_model::frame::Frame;
 use std::alloc::{AllocError, Global};
 use std::marker::Model;
 
-/// A body that comes in pieces: how many bytes are to come, and what is read of them. It keeps its blobs alone, each in a
-/// vector of its own.
+/// A body that comes in pieces: how many bytes are to come, and what is read of them. It keeps its blobs alone, each in
+/// a vector of its own.
 #[derive(Drop)]
 pub struct Body {
     draft: Draft,

@@ -1,18 +1,19 @@
 //! A body of which some bytes came.
 
-ghost use Rattle.message_drafts.specs.Drafts.{Begins, Advances, IsFull, IsLong, IsOver, IsPlanned, Keeps, Took, lengthened};
+ghost use Rattle.message_drafts.specs.Drafts.{Begins, Advances, IsFull, IsLong, IsOver, IsPlanned, Keeps, Took};
+ghost use Rattle.message_drafts.specs.Drafts.{lengthened};
 ghost use Rattle.message_drafts.specs.declared.draft.Phase.TheVariants.{Fields, Picture};
 ghost use Rattle.message_model.specs.Reading.{may_follow};
-ghost use Rattle.stored_streams.specs.Streams.{is_next};
+ghost use Rattle.tree_streams.specs.Streams.{is_next};
 ghost use Rattle.std.specs.Prelude.{[], ◌∷◌, ◌≡◌, ◌≤◌, ◌<◌, IfOk, OnErr, OnOk, length, take};
 
 use crate::blob::{Blob, Growing};
 use crate::fields::{hold, need, stream_field};
 use cfb_names::name::Name;
 use message_bodies::body::number_in;
-use object_parts::limits::is_ole_name;
 use std::alloc::{AllocError, Global};
-use stored_values::class_id::ClassId;
+use tree_streams::limits::is_ole_name;
+use tree_values::class_id::ClassId;
 
 /// What a body says before its first blob, the session first.
 #[derive(Drop)]

@@ -6,7 +6,8 @@ ghost use Rattle.std.specs.Prelude.{◌++◌, ◌≡◌, ◌≤◌, ◌<◌, ◌
 use cfb_names::name::{Name, named};
 use message_bodies::body::number_in;
 
-/// How many bytes a field has, of which these came: a stream's name and length, or where none is to come, the picture's length.
+/// How many bytes a field has, of which these came: a stream's name and length, or where none is to come, the picture's
+/// length.
 pub(crate) fn need(left: usize, held: &[u8]) -> usize
     ensures { result ≡ need left held.now }
 {

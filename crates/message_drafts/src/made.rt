@@ -6,12 +6,12 @@ ghost use Rattle.std.specs.Prelude.{[], ◌≡◌, IfOk};
 use crate::blob::Growing;
 use crate::draft::{Draft, Opening, Phase};
 use message_model::frame::Frame;
+use message_values::answer::Answer;
+use message_values::message::{Message, Said};
+use message_values::operation::Operation;
 use std::alloc::{AllocError, Global};
-use stored_streams::stored::Stored;
-use stored_streams::streams::{NamedStream, Streams};
-use wire_msgs::answer::Answer;
-use wire_msgs::message::{Message, Said};
-use wire_msgs::operation::Operation;
+use tree_streams::stored::Stored;
+use tree_streams::streams::{NamedStream, Streams};
 
 // A call.
 fn call(session: u32, inc: u32, act: u32, n: u32, operation: Operation) -> Frame

@@ -10,9 +10,9 @@ use crate::draft::{Draft, Opening, Phase, Plan};
 use message_bodies::body::number_in;
 use message_model::codes::{AnswerCode, Kind, OperationCode, answer_code_of, operation_code_of};
 use message_model::frame::MOST_EDIT;
-use object_parts::limits::{MOST_BYTES, MOST_STREAMS};
 use std::alloc::Global;
-use stored_values::class_id::ClassId;
+use tree_streams::limits::{MOST_BYTES, MOST_STREAMS};
+use tree_values::class_id::ClassId;
 
 // A number that isn't 0.
 fn take_number(xs: &[u8]) -> Option<(u32, &[u8])>
@@ -190,8 +190,8 @@ fn open_write(session: u32, xs: &[u8]) -> Option<(Opening, usize, &[u8])>
     Some((Opening::Write(session, inc, act, s, w), count, rest))
 }
 
-/// What the first fields of a body say: how many streams come, and the bytes behind these fields. Nothing where a body of
-/// more than 76 bytes that begins so makes no frame.
+/// What the first fields of a body say: how many streams come, and the bytes behind these fields. Nothing where a body
+/// of more than 76 bytes that begins so makes no frame.
 pub(crate) fn opened(kind: Kind, xs: &[u8]) -> Option<(Opening, usize, &[u8])>
     requires { 76 ≤ length xs.now }
     ensures opens { Opens (λ x. x.0) (λ x. x.1) (λ x. x.2.now) result kind xs.now }
@@ -222,7 +222,15 @@ fn room_of(opening: &Opening) -> usize
 
 // Nothing of what comes behind the first fields.
 fn plan(phase: Phase, left: usize, room: usize, to_come: usize) -> Plan
-    ensures { result ≡ record { phase = phase; left = left; room = room; missing = 0; to_come = to_come; held = result.held; len = 0 } }
+    ensures { result ≡ record {
+      phase = phase;
+      left = left;
+      room = room;
+      missing = 0;
+      to_come = to_come;
+      held = result.held;
+      len = 0;
+    } }
 {
     Plan {
         phase,

@@ -1,7 +1,10 @@
 -- Fields: what was spelled is read, and what is read was spelled.
-use Rattle.std.proofs.Common.{◌≡◌, ℕ, suc, ◌+◌, ◌^◌, ◌<◌, ◌≤◌, Bool, true, false, cond, ◌&&◌, List, [], ◌∷◌, ◌++◌, length, get_or, take, drop, Some, None, refl, sym, ap, ◌∙◌, append_assoc, arith, rules, nat_le, nat_lt, inl, inr}
+use Rattle.std.proofs.Common.{◌≡◌, ℕ, suc, ◌+◌, ◌^◌, ◌<◌, ◌≤◌, Bool, true, false, cond, ◌&&◌, List, [], ◌∷◌, ◌++◌}
+use Rattle.std.proofs.Common.{length, get_or, take, drop, Some, None, refl, sym, ap, ◌∙◌, append_assoc, arith, rules}
+use Rattle.std.proofs.Common.{nat_le, nat_lt, inl, inr}
 use Rattle.std.proofs.lemmas.Bool.{cases_lt, ltb-false, le-ltb}
-use Rattle.std.proofs.lemmas.List.{take_at, drop_at, take-append-drop, length-append, length-take, get_or-drop, get_or-take, get_or_past}
+use Rattle.std.proofs.lemmas.List.{take_at, drop_at, take-append-drop, length-append, length-take, get_or-drop}
+use Rattle.std.proofs.lemmas.List.{get_or-take, get_or_past}
 use Rattle.std.proofs.lemmas.Nat.{le_bytes_2, le_bytes_4, from_le_bytes-to_le_bytes_2, from_le_bytes-to_le_bytes_4}
 use Rattle.message_model.specs.declared.frame.Frame.{Frame}
 use Rattle.message_model.specs.Spelling as spelling
@@ -11,7 +14,8 @@ use Rattle.message_model.specs.Reading.{Reader, bad, whole, bytes, byte, nonzero
 
 -- ---- tests
 
-pub chosen : {A : Type 0} (P : Type 0) (b : Bool) (x y z : A) → cond b x y ≡ z → (b ≡ true → x ≡ z → P) → (b ≡ false → y ≡ z → P) → P
+pub chosen : {A : Type 0} (P : Type 0) (b : Bool) (x y z : A) → cond b x y ≡ z → (b ≡ true → x ≡ z → P)
+    → (b ≡ false → y ≡ z → P) → P
 chosen P true x y z e p q = p refl e
 chosen P false x y z e p q = q refl e
 
@@ -70,7 +74,8 @@ pub record Taken (k : List ℕ → Reader) (n : ℕ) (xs : List ℕ) (f : Frame)
   pub rest_bytes : IsBytes rest
   pub next : k front rest ≡ Some f
 
-pub bytes_found : (n : ℕ) (k : List ℕ → Reader) (xs : List ℕ) (f : Frame) → IsBytes xs → bytes n k xs ≡ Some f → Taken k n xs f
+pub bytes_found : (n : ℕ) (k : List ℕ → Reader) (xs : List ℕ) (f : Frame) → IsBytes xs → bytes n k xs ≡ Some f
+    → Taken k n xs f
 unfolding bytes
 bytes_found n k xs f are e =
     chosen (Taken k n xs f) (nat_lt (length xs) n) None (k (take n xs) (drop n xs)) (Some f) e
@@ -97,7 +102,14 @@ pub record TakenByte (k : ℕ → Reader) (xs : List ℕ) (f : Frame) : Type 0 w
 
 pub byte_found : (k : ℕ → Reader) (xs : List ℕ) (f : Frame) → IsBytes xs → byte k xs ≡ Some f → TakenByte k xs f
 byte_found k [] f are e = absurd cc
-byte_found k (b ∷ xs) f are e = record { value = b; rest = xs; parts = refl; small = are 0; rest_bytes = IsBytes-rest b xs are; next = e }
+byte_found k (b ∷ xs) f are e = record {
+  value = b;
+  rest = xs;
+  parts = refl;
+  small = are 0;
+  rest_bytes = IsBytes-rest b xs are;
+  next = e;
+}
 
 pub whole_found : (g : Frame) (xs : List ℕ) (f : Frame) → whole g xs ≡ Some f → (xs ≡ []) × (g ≡ f)
 whole_found g [] f e = (refl, some_is g f e)
@@ -137,7 +149,8 @@ pub width_in-below : (bs : List ℕ) → IsBytes bs → width_in bs < 2 ^ 16
 unfolding width_in
 width_in-below bs are = omega (arith, are 0, are 1)
 
-pub number_again : (k : ℕ → Reader) (n : ℕ) (rest : List ℕ) → nat_lt 0 n ≡ true → n < 2 ^ 32 → number k (four_bytes n ++ rest) ≡ k n rest
+pub number_again : (k : ℕ → Reader) (n : ℕ) (rest : List ℕ) → nat_lt 0 n ≡ true → n < 2 ^ 32
+    → number k (four_bytes n ++ rest) ≡ k n rest
 unfolding number
 number_again k n rest some small =
     bytes_again 4 (λ bs. nonzero k (number_in bs)) (four_bytes n) rest (length-four_bytes n)
@@ -162,7 +175,8 @@ pub number_found : (k : ℕ → Reader) (xs : List ℕ) (f : Frame) → IsBytes 
 unfolding number
 number_found k xs f are e =
     let t : Taken (λ bs. nonzero k (number_in bs)) 4 xs f = bytes_found 4 (λ bs. nonzero k (number_in bs)) xs f are e in
-    let h : (nat_lt 0 (number_in t.front) ≡ true) × (k (number_in t.front) t.rest ≡ Some f) = tested (nat_lt 0 (number_in t.front)) (k (number_in t.front)) t.rest f t.next in
+    let h : (nat_lt 0 (number_in t.front) ≡ true) × (k (number_in t.front) t.rest ≡ Some f) =
+    tested (nat_lt 0 (number_in t.front)) (k (number_in t.front)) t.rest f t.next in
     record {
       value = number_in t.front;
       rest = t.rest;
@@ -175,11 +189,13 @@ number_found k xs f are e =
 
 -- ---- blobs
 
-pub blob_again : (most : ℕ) (k : List ℕ → Reader) (bs rest : List ℕ) → length bs ≤ most → most < 2 ^ 32 → blob most k (spelling.blob bs ++ rest) ≡ k bs rest
+pub blob_again : (most : ℕ) (k : List ℕ → Reader) (bs rest : List ℕ) → length bs ≤ most → most < 2 ^ 32
+    → blob most k (spelling.blob bs ++ rest) ≡ k bs rest
 unfolding blob
 blob_again most k bs rest le lt =
     ap (bytes 4 (λ ns. sized most k (number_in ns))) (append_assoc (four_bytes (length bs)) bs rest)
-    ∙ bytes_again 4 (λ ns. sized most k (number_in ns)) (four_bytes (length bs)) (bs ++ rest) (length-four_bytes (length bs))
+    ∙ bytes_again 4 (λ ns. sized most k (number_in ns)) (four_bytes (length bs)) (bs ++ rest)
+    (length-four_bytes (length bs))
     ∙ ap (λ n. sized most k n (bs ++ rest)) (number_in-four_bytes (length bs) (omega arith))
     ∙ ap (λ b. cond b (bytes (length bs) k) bad (bs ++ rest)) (le_passes (length bs) most le)
     ∙ bytes_again (length bs) k bs rest refl
@@ -192,19 +208,23 @@ pub record TakenBlob (most : ℕ) (k : List ℕ → Reader) (xs : List ℕ) (f :
   pub rest_bytes : IsBytes rest
   pub next : k value rest ≡ Some f
 
-pub blob_found : (most : ℕ) (k : List ℕ → Reader) (xs : List ℕ) (f : Frame) → IsBytes xs → blob most k xs ≡ Some f → TakenBlob most k xs f
+pub blob_found : (most : ℕ) (k : List ℕ → Reader) (xs : List ℕ) (f : Frame) → IsBytes xs → blob most k xs ≡ Some f
+    → TakenBlob most k xs f
 unfolding blob
 blob_found most k xs f are e =
-    let t : Taken (λ ns. sized most k (number_in ns)) 4 xs f = bytes_found 4 (λ ns. sized most k (number_in ns)) xs f are e in
+    let t : Taken (λ ns. sized most k (number_in ns)) 4 xs f = bytes_found 4 (λ ns. sized most k (number_in ns)) xs
+    f are e in
     let n : ℕ = number_in t.front in
     let h : (nat_le n most ≡ true) × (bytes n k t.rest ≡ Some f) = tested (nat_le n most) (bytes n k) t.rest f t.next in
     let u : Taken k n t.rest f = bytes_found n k t.rest f t.rest_bytes h.1 in
-    let len : t.front ≡ four_bytes (length u.front) = sym (four_bytes-number_in t.front t.len t.front_bytes) ∙ ap four_bytes (sym u.len) in
+    let len : t.front ≡ four_bytes (length u.front) = sym (four_bytes-number_in t.front t.len t.front_bytes)
+    ∙ ap four_bytes (sym u.len) in
     let le : n ≤ most = le_told n most h.0 in
     record {
       value = u.front;
       rest = u.rest;
-      parts = t.parts ∙ ap (λ (a : List ℕ). t.front ++ a) u.parts ∙ ap (λ (a : List ℕ). a ++ (u.front ++ u.rest)) len ∙ sym (append_assoc (four_bytes (length u.front)) u.front u.rest);
+      parts = t.parts ∙ ap (λ (a : List ℕ). t.front ++ a) u.parts ∙ ap (λ (a : List ℕ). a ++ (u.front ++ u.rest))
+          len ∙ sym (append_assoc (four_bytes (length u.front)) u.front u.rest);
       short = omega (arith, u.len);
       rest_bytes = u.rest_bytes;
       next = u.next;

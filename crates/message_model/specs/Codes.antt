@@ -1,7 +1,7 @@
 -- The numbers by which kinds, operations, answers and refusals stand in frames, and back.
 use Rattle.std.specs.Prelude.{ℕ, List, [], ◌∷◌, Option, Some, None, nat_eq, cond}
-use Rattle.wire_msgs.specs.declared.refusal.Refusal.{Refusal}
-use Rattle.wire_msgs.specs.declared.refusal.Refusal.TheVariants as refusal
+use Rattle.message_values.specs.declared.refusal.Refusal.{Refusal}
+use Rattle.message_values.specs.declared.refusal.Refusal.TheVariants as refusal
 use Rattle.message_model.specs.declared.codes.Kind.{Kind}
 use Rattle.message_model.specs.declared.codes.Kind.TheVariants as kind
 use Rattle.message_model.specs.declared.codes.OperationCode.{OperationCode}
@@ -29,8 +29,10 @@ kind_number kind.Turn = 5
 
 abbrev pub operations : List (ℕ × OperationCode)
 operations =
-    (1, operation.InitNew) ∷ (2, operation.Load) ∷ (3, operation.InPlace) ∷ (4, operation.UiActivate) ∷ (5, operation.UiDeactivate)
-    ∷ (6, operation.InPlaceDeactivate) ∷ (7, operation.OpenWindow) ∷ (8, operation.Edit) ∷ (9, operation.Save) ∷ (10, operation.HandsOff)
+    (1, operation.InitNew) ∷ (2, operation.Load) ∷ (3, operation.InPlace) ∷ (4, operation.UiActivate)
+    ∷ (5, operation.UiDeactivate)
+    ∷ (6, operation.InPlaceDeactivate) ∷ (7, operation.OpenWindow) ∷ (8, operation.Edit) ∷ (9, operation.Save)
+    ∷ (10, operation.HandsOff)
     ∷ (11, operation.SaveCompleted) ∷ (12, operation.SaveDropped) ∷ (13, operation.Close) ∷ []
 
 abbrev pub operation_code_of : ℕ → Option OperationCode
@@ -65,7 +67,8 @@ answer_number answer.Tools = 3
 
 abbrev pub refusals : List (ℕ × Refusal)
 refusals =
-    (1, refusal.BadEdit) ∷ (2, refusal.BadContent) ∷ (3, refusal.TooBig) ∷ (11, refusal.AlreadyInitialized) ∷ (12, refusal.NotInitialized)
+    (1, refusal.BadEdit) ∷ (2, refusal.BadContent) ∷ (3, refusal.TooBig) ∷ (11, refusal.AlreadyInitialized)
+    ∷ (12, refusal.NotInitialized)
     ∷ (13, refusal.Scribble) ∷ (14, refusal.HandsOff) ∷ (15, refusal.NeedsStorage) ∷ (16, refusal.WrongState) ∷ []
 
 abbrev pub refusal_of : ℕ → Option Refusal

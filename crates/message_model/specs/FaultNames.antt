@@ -1,7 +1,8 @@
 -- The names by which faults are printed.
 use Rattle.std.specs.Prelude.{ℕ, List, codes}
 use Rattle.message_model.specs.declared.fault.WireFault.{WireFault}
-use Rattle.message_model.specs.declared.fault.WireFault.TheVariants.{BadMagic, BadVersion, BadKind, TooLong, BadField, NoMemory}
+use Rattle.message_model.specs.declared.fault.WireFault.TheVariants.{BadMagic, BadVersion, BadKind, TooLong, BadField}
+use Rattle.message_model.specs.declared.fault.WireFault.TheVariants.{NoMemory}
 
 abbrev pub fault_name : WireFault → List ℕ
 fault_name BadMagic = codes "BadMagic"

@@ -1,19 +1,21 @@
 -- Which frames have a byte form, and what bytes are as frames.
-use Rattle.std.specs.Prelude.{◌≡◌, ◌<◌, ◌^◌, ℕ, Bool, true, cond, ◌&&◌, List, [], ◌∷◌, ◌++◌, length, Option, Some, None, is_some, nat_lt, nat_le, nat_eq, IsTrue}
+use Rattle.std.specs.Prelude.{◌≡◌, ◌<◌, ◌^◌, ℕ, Bool, true, cond, ◌&&◌, List, [], ◌∷◌, ◌++◌, length, Option, Some, None}
+use Rattle.std.specs.Prelude.{is_some, nat_lt, nat_le, nat_eq, IsTrue}
 use Rattle.std.specs.Int.{w32, from_le_bytes}
 use Rattle.std.specs.List.{AllByRecursion}
 use Rattle.cfb_names.specs.Names.{IsName}
-use Rattle.object_parts.specs.Limits.{is_within}
+use Rattle.tree_streams.specs.Limits.{is_within}
 use Rattle.object_state.specs.MenuTexts.{is_menu_text}
-use Rattle.stored_streams.specs.Streams.{AreInOrder}
-use Rattle.stored_streams.specs.declared.streams.NamedStream.{NamedStream}
-use Rattle.stored_streams.specs.declared.stored.Stored.{Stored}
-use Rattle.wire_msgs.specs.declared.operation.Operation.{Operation}
-use Rattle.wire_msgs.specs.declared.operation.Operation.TheVariants.{InitNew, Load, UiActivate, Edit, Save, SaveCompleted, SaveDropped}
-use Rattle.wire_msgs.specs.declared.answer.Answer.{Answer}
-use Rattle.wire_msgs.specs.declared.answer.Answer.TheVariants.{Content, Tools}
-use Rattle.wire_msgs.specs.declared.message.Said.{Said}
-use Rattle.wire_msgs.specs.declared.message.Said.TheVariants.{Call, Reply, Write, Ask}
+use Rattle.tree_streams.specs.Streams.{AreInOrder}
+use Rattle.tree_streams.specs.declared.streams.NamedStream.{NamedStream}
+use Rattle.tree_streams.specs.declared.stored.Stored.{Stored}
+use Rattle.message_values.specs.declared.operation.Operation.{Operation}
+use Rattle.message_values.specs.declared.operation.Operation.TheVariants.{InitNew, Load, UiActivate, Edit, Save}
+use Rattle.message_values.specs.declared.operation.Operation.TheVariants.{SaveCompleted, SaveDropped}
+use Rattle.message_values.specs.declared.answer.Answer.{Answer}
+use Rattle.message_values.specs.declared.answer.Answer.TheVariants.{Content, Tools}
+use Rattle.message_values.specs.declared.message.Said.{Said}
+use Rattle.message_values.specs.declared.message.Said.TheVariants.{Call, Reply, Write, Ask}
 use Rattle.message_model.specs.declared.fault.WireFault.{WireFault}
 use Rattle.message_model.specs.declared.fault.WireFault.TheVariants.{BadMagic, BadVersion, BadKind, TooLong, BadField}
 use Rattle.message_model.specs.declared.frame.Frame.{Frame}
@@ -42,7 +44,8 @@ answer_fits _ = true
 abbrev pub said_fits : Said → Bool
 said_fits (Call inc act n op) = nat_lt 0 inc && (nat_lt 0 act && (nat_lt 0 n && operation_fits op))
 said_fits (Reply inc act n told) = nat_lt 0 inc && (nat_lt 0 act && (nat_lt 0 n && answer_fits told))
-said_fits (Write inc act s w content) = nat_lt 0 inc && (nat_lt 0 act && (nat_lt 0 s && (nat_lt 0 w && is_within content)))
+said_fits (Write inc act s w content) =
+    nat_lt 0 inc && (nat_lt 0 act && (nat_lt 0 s && (nat_lt 0 w && is_within content)))
 said_fits (Ask inc act g) = nat_lt 0 inc && (nat_lt 0 act && nat_lt 0 g)
 
 abbrev pub fits : Frame → Bool
@@ -93,8 +96,9 @@ number_in bytes = from_le_bytes w32 bytes
 abbrev pub MOST_BODY : ℕ
 MOST_BODY = 1048576
 
--- What bytes show that begin with no frame's byte form: another beginning by their fourth byte, another version by their
--- fifth, another kind by their sixth, a body that is too long by their tenth, and a body that is none by its last byte.
+-- What bytes show that begin with no frame's byte form: another beginning by their fourth byte, another version by
+-- their fifth, another kind by their sixth, a body that is too long by their tenth, and a body that is none by its last
+-- byte.
 abbrev pub shown_body : ℕ → List ℕ → Option WireFault
 shown_body len rest = cond (nat_lt MOST_BODY len) (Some TooLong) (cond (nat_lt (length rest) len) None (Some BadField))
 
@@ -111,7 +115,8 @@ shown_version [] = None
 shown_version (version ∷ rest) = cond (nat_eq version 2) (shown_kind rest) (Some BadVersion)
 
 abbrev pub shown : List ℕ → Option WireFault
-shown (a ∷ b ∷ c ∷ d ∷ rest) = cond (nat_eq a 79 && (nat_eq b 76 && (nat_eq c 67 && nat_eq d 77))) (shown_version rest) (Some BadMagic)
+shown (a ∷ b ∷ c ∷ d ∷ rest) = cond (nat_eq a 79 && (nat_eq b 76 && (nat_eq c 67 && nat_eq d 77)))
+    (shown_version rest) (Some BadMagic)
 shown _ = None
 
 -- What bytes are as frames: these frames, one after another, and then bytes that begin with no frame's byte form, which
@@ -125,15 +130,18 @@ pub record Reads (bytes : List ℕ) (frames : List Frame) (fault : Option WireFa
 
 -- no byte form of a frame is a proper prefix of another's
 abbrev pub SpellingsAreApart : Type 0
-SpellingsAreApart = (f g : Frame) (more : List ℕ) → IsFrame f → IsFrame g → spell f ++ more ≡ spell g → (more ≡ []) × (f ≡ g)
+SpellingsAreApart = (f g : Frame) (more : List ℕ) → IsFrame f → IsFrame g → spell f ++ more ≡ spell g
+    → (more ≡ []) × (f ≡ g)
 
 -- bytes are read in one way, so frames are the longest list whose byte forms, joined, are a prefix
 abbrev pub ReadingIsOne : Type 0
-ReadingIsOne = (bytes : List ℕ) (fs gs : List Frame) (e d : Option WireFault) → Reads bytes fs e → Reads bytes gs d → (fs ≡ gs) × (e ≡ d)
+ReadingIsOne = (bytes : List ℕ) (fs gs : List Frame) (e d : Option WireFault) → Reads bytes fs e → Reads bytes gs d
+    → (fs ≡ gs) × (e ≡ d)
 
 abbrev pub FramesAreLongest : Type 0
 FramesAreLongest =
-    (bytes : List ℕ) (fs gs : List Frame) (fault : Option WireFault) (more : List ℕ) → Reads bytes fs fault → AllByRecursion IsFrame gs → bytes ≡ joined gs ++ more
+    (bytes : List ℕ) (fs gs : List Frame) (fault : Option WireFault) (more : List ℕ) → Reads bytes fs fault
+    → AllByRecursion IsFrame gs → bytes ≡ joined gs ++ more
     → (others : List Frame) × (fs ≡ gs ++ others)
 
 -- what was spelled is read again

@@ -1,20 +1,21 @@
 -- Reading a body from left to right, all of it.
-use Rattle.std.specs.Prelude.{ℕ, zero, suc, ◌-◌, Bool, true, false, cond, ◌&&◌, not, List, [], ◌∷◌, ◌++◌, length, take, drop, Option, Some, None, Result, Ok, Err, nat_lt, nat_le}
+use Rattle.std.specs.Prelude.{ℕ, zero, suc, ◌-◌, Bool, true, false, cond, ◌&&◌, not, List, [], ◌∷◌, ◌++◌, length, take}
+use Rattle.std.specs.Prelude.{drop, Option, Some, None, Result, Ok, Err, nat_lt, nat_le}
 use Rattle.std.specs.Int.{w16, from_le_bytes}
 use Rattle.cfb_names.specs.declared.fault.DirFault.{DirFault}
 use Rattle.cfb_names.specs.Names.{name_read}
-use Rattle.object_parts.specs.Limits.{MOST_BYTES, MOST_STREAMS, is_ole_name}
+use Rattle.tree_streams.specs.Limits.{MOST_BYTES, MOST_STREAMS, is_ole_name}
 use Rattle.object_state.specs.MenuTexts.{is_menu_text}
 use Rattle.object_state.specs.declared.operations.CloseOption.{CloseOption}
 use Rattle.object_state.specs.declared.operations.CloseOption.TheVariants.{SaveIfDirty, NoSave}
-use Rattle.stored_streams.specs.Streams.{is_next}
-use Rattle.stored_streams.specs.declared.streams.NamedStream.{NamedStream}
-use Rattle.stored_streams.specs.declared.stored.Stored.{Stored}
-use Rattle.wire_msgs.specs.declared.operation.Operation.{Operation}
-use Rattle.wire_msgs.specs.declared.operation.Operation.TheVariants as op
-use Rattle.wire_msgs.specs.declared.answer.Answer.{Answer}
-use Rattle.wire_msgs.specs.declared.answer.Answer.TheVariants as ans
-use Rattle.wire_msgs.specs.declared.message.Said.TheVariants.{Call, Reply, Write, Ask}
+use Rattle.tree_streams.specs.Streams.{is_next}
+use Rattle.tree_streams.specs.declared.streams.NamedStream.{NamedStream}
+use Rattle.tree_streams.specs.declared.stored.Stored.{Stored}
+use Rattle.message_values.specs.declared.operation.Operation.{Operation}
+use Rattle.message_values.specs.declared.operation.Operation.TheVariants as op
+use Rattle.message_values.specs.declared.answer.Answer.{Answer}
+use Rattle.message_values.specs.declared.answer.Answer.TheVariants as ans
+use Rattle.message_values.specs.declared.message.Said.TheVariants.{Call, Reply, Write, Ask}
 use Rattle.message_model.specs.declared.frame.Frame.{Frame}
 use Rattle.message_model.specs.declared.frame.Frame.TheVariants.{Message, Turn}
 use Rattle.message_model.specs.declared.codes.Kind.{Kind}
@@ -84,7 +85,8 @@ may_follow streams name = is_next streams name && not (is_ole_name name)
 unfoldable pub more : ℕ → List NamedStream → ℕ → (List NamedStream → ℕ → Reader) → Reader
 more zero streams room k = k streams room
 more (suc left) streams room k =
-    name (λ n. cond (may_follow streams n) (blob room (λ bs. more left (streams ++ record { name = n; bytes = bs } ∷ []) (room - length bs) k)) bad)
+    name (λ n. cond (may_follow streams n)
+    (blob room (λ bs. more left (streams ++ record { name = n; bytes = bs } ∷ []) (room - length bs) k)) bad)
 
 -- then the picture
 abbrev pub pictured : (Stored → Reader) → List NamedStream → ℕ → Reader
@@ -118,7 +120,8 @@ operation code.OpenWindow k = k op.OpenWindow
 operation code.Edit k = blob MOST_EDIT (λ bs. k (op.Edit bs))
 operation code.Save k = number (λ save. k (op.Save save))
 operation code.HandsOff k = k op.HandsOff
-operation code.SaveCompleted k = number (λ save. byte (λ b. some (λ storage. k (op.SaveCompleted save storage)) (flag_of b)))
+operation code.SaveCompleted k =
+    number (λ save. byte (λ b. some (λ storage. k (op.SaveCompleted save storage)) (flag_of b)))
 operation code.SaveDropped k = number (λ save. k (op.SaveDropped save))
 operation code.Close k = byte (λ b. some (λ option. k (op.Close option)) (option_of b))
 
@@ -137,7 +140,8 @@ width_in bs = from_le_bytes w16 bs
 
 -- four widths in eight bytes
 abbrev pub widths_in : List ℕ → List ℕ
-widths_in bs = width_in (take 2 bs) ∷ width_in (take 2 (drop 2 bs)) ∷ width_in (take 2 (drop 4 bs)) ∷ width_in (drop 6 bs) ∷ []
+widths_in bs = width_in (take 2 bs) ∷ width_in (take 2 (drop 2 bs)) ∷ width_in (take 2 (drop 4 bs))
+    ∷ width_in (drop 6 bs) ∷ []
 
 unfoldable pub tools : (Answer → Reader) → Reader
 tools k = text (λ edit. text (λ object. text (λ help.
@@ -152,18 +156,35 @@ answer said.Tools k = tools k
 -- what is said of each kind, behind the session that it is said in
 abbrev pub call_in : ℕ → Reader
 call_in session =
-    number (λ inc. number (λ act. number (λ n. byte (λ b. some (λ c. operation c (λ o. whole (Message (record { session = session; said = Call inc act n o })))) (operation_code_of b)))))
+    number
+    (λ inc. number
+    (λ act. number
+    (λ n. byte
+    (λ b. some (λ c. operation c (λ o. whole (Message (record { session = session; said = Call inc act n o }))))
+    (operation_code_of b)))))
 
 abbrev pub reply_in : ℕ → Reader
 reply_in session =
-    number (λ inc. number (λ act. number (λ n. byte (λ b. some (λ c. answer c (λ a. whole (Message (record { session = session; said = Reply inc act n a })))) (answer_code_of b)))))
+    number
+    (λ inc. number
+    (λ act. number
+    (λ n. byte
+    (λ b. some (λ c. answer c (λ a. whole (Message (record { session = session; said = Reply inc act n a }))))
+    (answer_code_of b)))))
 
 abbrev pub write_in : ℕ → Reader
 write_in session =
-    number (λ inc. number (λ act. number (λ s. number (λ w. stored (λ content. whole (Message (record { session = session; said = Write inc act s w content })))))))
+    number
+    (λ inc. number
+    (λ act. number
+    (λ s. number
+    (λ w. stored
+    (λ content. whole (Message (record { session = session; said = Write inc act s w content })))))))
 
 abbrev pub ask_in : ℕ → Reader
-ask_in session = number (λ inc. number (λ act. number (λ g. whole (Message (record { session = session; said = Ask inc act g })))))
+ask_in session =
+    number
+    (λ inc. number (λ act. number (λ g. whole (Message (record { session = session; said = Ask inc act g })))))
 
 -- a body of a kind
 unfoldable pub read_body : Kind → Reader

@@ -1,19 +1,22 @@
--- The one byte form of a frame: `OLCM`, the version 2, its kind, the length of its body in four bytes, and its body. All
--- numbers stand with their low bytes first. The body of a message begins with its session.
+-- The one byte form of a frame: `OLCM`, the version 2, its kind, the length of its body in four bytes, and its body.
+-- All numbers stand with their low bytes first. The body of a message begins with its session.
 use Rattle.std.specs.Prelude.{ℕ, Bool, true, false, List, [], ◌∷◌, ◌++◌, length}
 use Rattle.std.specs.Int.{w16, w32, to_le_bytes}
 use Rattle.object_state.specs.declared.operations.CloseOption.{CloseOption}
 use Rattle.object_state.specs.declared.operations.CloseOption.TheVariants.{SaveIfDirty, NoSave}
 use Rattle.object_state.specs.declared.menu_texts.Menus.{Menus}
-use Rattle.stored_streams.specs.declared.streams.NamedStream.{NamedStream}
-use Rattle.stored_streams.specs.declared.stored.Stored.{Stored}
-use Rattle.wire_msgs.specs.Refusals.{code_of}
-use Rattle.wire_msgs.specs.declared.operation.Operation.{Operation}
-use Rattle.wire_msgs.specs.declared.operation.Operation.TheVariants.{InitNew, Load, InPlace, UiActivate, UiDeactivate, InPlaceDeactivate, OpenWindow, Edit, Save, HandsOff, SaveCompleted, SaveDropped, Close}
-use Rattle.wire_msgs.specs.declared.answer.Answer.{Answer}
-use Rattle.wire_msgs.specs.declared.answer.Answer.TheVariants.{Done, Refused, Content, Tools}
-use Rattle.wire_msgs.specs.declared.message.Said.{Said}
-use Rattle.wire_msgs.specs.declared.message.Said.TheVariants.{Call, Reply, Write, Ask}
+use Rattle.tree_streams.specs.declared.streams.NamedStream.{NamedStream}
+use Rattle.tree_streams.specs.declared.stored.Stored.{Stored}
+use Rattle.message_values.specs.Refusals.{code_of}
+use Rattle.message_values.specs.declared.operation.Operation.{Operation}
+use Rattle.message_values.specs.declared.operation.Operation.TheVariants.{InitNew, Load, InPlace, UiActivate}
+use Rattle.message_values.specs.declared.operation.Operation.TheVariants.{UiDeactivate, InPlaceDeactivate, OpenWindow}
+use Rattle.message_values.specs.declared.operation.Operation.TheVariants.{Edit, Save, HandsOff, SaveCompleted}
+use Rattle.message_values.specs.declared.operation.Operation.TheVariants.{SaveDropped, Close}
+use Rattle.message_values.specs.declared.answer.Answer.{Answer}
+use Rattle.message_values.specs.declared.answer.Answer.TheVariants.{Done, Refused, Content, Tools}
+use Rattle.message_values.specs.declared.message.Said.{Said}
+use Rattle.message_values.specs.declared.message.Said.TheVariants.{Call, Reply, Write, Ask}
 use Rattle.message_model.specs.declared.frame.Frame.{Frame}
 use Rattle.message_model.specs.declared.frame.Frame.TheVariants.{Message, Turn}
 
@@ -93,7 +96,8 @@ kind Turn = 5
 abbrev pub said_body : Said → List ℕ
 said_body (Call inc act n op) = four_bytes inc ++ (four_bytes act ++ (four_bytes n ++ operation op))
 said_body (Reply inc act n told) = four_bytes inc ++ (four_bytes act ++ (four_bytes n ++ answer told))
-said_body (Write inc act s w content) = four_bytes inc ++ (four_bytes act ++ (four_bytes s ++ (four_bytes w ++ stored content)))
+said_body (Write inc act s w content) = four_bytes inc
+    ++ (four_bytes act ++ (four_bytes s ++ (four_bytes w ++ stored content)))
 said_body (Ask inc act g) = four_bytes inc ++ (four_bytes act ++ four_bytes g)
 
 abbrev pub body : Frame → List ℕ

@@ -3,7 +3,7 @@
 ghost use Rattle.std.specs.Prelude.{◌≡◌};
 ghost use Rattle.message_model.specs.Codes.{answer_code_of, kind_of, operation_code_of, refusal_of};
 
-use wire_msgs::refusal::Refusal;
+use message_values::refusal::Refusal;
 
 /// The kinds of frames.
 #[derive(Clone, Copy)]

@@ -1,6 +1,6 @@
 //! Frames: what goes over a link.
 
-use wire_msgs::message::Message;
+use message_values::message::Message;
 
 /// The greatest length of an edit, in bytes.
 pub const MOST_EDIT: usize = 65_536;

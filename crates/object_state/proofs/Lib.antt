@@ -1,2 +1,3 @@
 pub mod Inline
 pub mod Tables
+pub mod Table

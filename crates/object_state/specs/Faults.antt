@@ -1,7 +1,8 @@
 -- The names of the faults.
 use Rattle.std.specs.Prelude.{ℕ, List, codes}
 use Rattle.object_state.specs.declared.faults.StateFault.{StateFault}
-use Rattle.object_state.specs.declared.faults.StateFault.TheVariants.{AlreadyInitialized, NotInitialized, Scribble, HandsOff, NeedsStorage, WrongState}
+use Rattle.object_state.specs.declared.faults.StateFault.TheVariants.{AlreadyInitialized, NotInitialized, Scribble}
+use Rattle.object_state.specs.declared.faults.StateFault.TheVariants.{HandsOff, NeedsStorage, WrongState}
 
 abbrev pub fault_name : StateFault → List ℕ
 fault_name AlreadyInitialized = codes "AlreadyInitialized"

@@ -8,7 +8,8 @@ use Rattle.object_state.specs.declared.persist_states.PersistState.TheVariants.{
 use Rattle.object_state.specs.declared.persist_states.PersistState.TheVariants as state
 use Rattle.object_state.specs.declared.persist_states.Persist.{Persist}
 use Rattle.object_state.specs.declared.object_states.ObjectState.{ObjectState}
-use Rattle.object_state.specs.declared.object_states.ObjectState.TheVariants.{Passive, Running, InPlaceActive, UiActive, Open}
+use Rattle.object_state.specs.declared.object_states.ObjectState.TheVariants.{Passive, Running, InPlaceActive, UiActive}
+use Rattle.object_state.specs.declared.object_states.ObjectState.TheVariants.{Open}
 use Rattle.object_state.specs.declared.verbs.Verb.{Verb}
 use Rattle.object_state.specs.declared.verbs.Verb.TheVariants.{Primary, Show, Hide, InPlaceActivate}
 use Rattle.object_state.specs.declared.verbs.Verb.TheVariants as verb
@@ -25,7 +26,8 @@ EndsSave p op = (k : ℕ) × (p.last_save ≡ Some k) × (ended_save op ≡ Some
 
 -- storage that an object may write into was given to it just now, or came back as its last save ended
 abbrev pub NormalAgain : Type 0
-NormalAgain = (p q : Persist) (op : Op) → persist.step p op ≡ Ok q → may_write p.state ≡ false → may_write q.state ≡ true → (p.state ≡ Unset) ⊎ EndsSave p op
+NormalAgain = (p q : Persist) (op : Op) → persist.step p op ≡ Ok q → may_write p.state ≡ false
+    → may_write q.state ≡ true → (p.state ≡ Unset) ⊎ EndsSave p op
 
 -- what an operation makes of a state that it may be refused in
 abbrev pub kept : Persist → Result Persist StateFault → Persist
@@ -43,7 +45,8 @@ IsAway s = (s ≡ NoScribble) ⊎ (s ≡ state.HandsOff)
 -- storage that is with the container stays there, unwritten, whatever operations come, until one ends
 -- the last save
 abbrev pub AwayUntilEnded : Type 0
-AwayUntilEnded = (p : Persist) (ops : List Op) → IsAway p.state → All (λ op. ¬ EndsSave p op) ops → IsAway (after p ops).state × (may_write (after p ops).state ≡ false)
+AwayUntilEnded = (p : Persist) (ops : List Op) → IsAway p.state → All (λ op. ¬ EndsSave p op) ops
+    → IsAway (after p ops).state × (may_write (after p ops).state ≡ false)
 
 -- the state after a list of operations, none of them refused
 abbrev pub then_run : List Op → Result ObjectState StateFault → Result ObjectState StateFault
@@ -63,8 +66,10 @@ goal_of InPlaceActivate = InPlaceActive
 -- the table of verbs fits that of the states: from a state that takes the verb no operation is refused,
 -- and they end where the verb leads
 abbrev pub VerbsLead : Type 0
-VerbsLead = (v : Verb) (s : ObjectState) (ts : List Step) (g : ℕ) → steps v s ≡ Some ts → then_run (map (op_of g) ts) (Ok s) ≡ Ok (goal_of v)
+VerbsLead = (v : Verb) (s : ObjectState) (ts : List Step) (g : ℕ) → steps v s ≡ Some ts
+    → then_run (map (op_of g) ts) (Ok s) ≡ Ok (goal_of v)
 
 -- and so do those of a close
 abbrev pub ClosesEnd : Type 0
-ClosesEnd = (option : CloseOption) (s : ObjectState) (ts : List Step) (g : ℕ) → close_steps option s ≡ Some ts → then_run (map (op_of g) ts) (Ok s) ≡ Ok Passive
+ClosesEnd = (option : CloseOption) (s : ObjectState) (ts : List Step) (g : ℕ) → close_steps option s ≡ Some ts
+    → then_run (map (op_of g) ts) (Ok s) ≡ Ok Passive

@@ -1,9 +1,12 @@
 -- The state of an object's window: the table in the manner of IOleObject.
 use Rattle.std.specs.Prelude.{Result, Ok, Err}
 use Rattle.object_state.specs.declared.operations.Op.{Op}
-use Rattle.object_state.specs.declared.operations.Op.TheVariants.{InitNew, Load, InPlace, UiActivate, UiDeactivate, InPlaceDeactivate, OpenWindow, Edit, Save, HandsOff, SaveCompleted, SaveDropped, Close}
+use Rattle.object_state.specs.declared.operations.Op.TheVariants.{InitNew, Load, InPlace, UiActivate, UiDeactivate}
+use Rattle.object_state.specs.declared.operations.Op.TheVariants.{InPlaceDeactivate, OpenWindow, Edit, Save, HandsOff}
+use Rattle.object_state.specs.declared.operations.Op.TheVariants.{SaveCompleted, SaveDropped, Close}
 use Rattle.object_state.specs.declared.object_states.ObjectState.{ObjectState}
-use Rattle.object_state.specs.declared.object_states.ObjectState.TheVariants.{Passive, Loaded, Running, InPlaceActive, UiActive, Open}
+use Rattle.object_state.specs.declared.object_states.ObjectState.TheVariants.{Passive, Loaded, Running, InPlaceActive}
+use Rattle.object_state.specs.declared.object_states.ObjectState.TheVariants.{UiActive, Open}
 use Rattle.object_state.specs.declared.faults.StateFault.{StateFault}
 use Rattle.object_state.specs.declared.faults.StateFault.TheVariants.{WrongState}
 

@@ -8,7 +8,8 @@ use Rattle.object_state.specs.declared.persist_states.PersistState.TheVariants.{
 use Rattle.object_state.specs.declared.persist_states.PersistState.TheVariants as state
 use Rattle.object_state.specs.declared.persist_states.Persist.{Persist}
 use Rattle.object_state.specs.declared.faults.StateFault.{StateFault}
-use Rattle.object_state.specs.declared.faults.StateFault.TheVariants.{AlreadyInitialized, NotInitialized, Scribble, NeedsStorage, WrongState}
+use Rattle.object_state.specs.declared.faults.StateFault.TheVariants.{AlreadyInitialized, NotInitialized, Scribble}
+use Rattle.object_state.specs.declared.faults.StateFault.TheVariants.{NeedsStorage, WrongState}
 use Rattle.object_state.specs.declared.faults.StateFault.TheVariants as fault
 
 -- an object without storage may do neither

@@ -1,16 +1,19 @@
 -- What the verbs of an object do in each of its states.
-use Rattle.std.specs.Prelude.{ℕ, ℤ, pos, negsuc, zero, suc, Bool, true, false, List, [], ◌∷◌, ◌++◌, Option, Some, None, option_map}
+use Rattle.std.specs.Prelude.{ℕ, ℤ, pos, negsuc, zero, suc, Bool, true, false, List, [], ◌∷◌, ◌++◌, Option, Some, None}
+use Rattle.std.specs.Prelude.{option_map}
 use Rattle.object_state.specs.declared.operations.Op.{Op}
 use Rattle.object_state.specs.declared.operations.Op.TheVariants as op
 use Rattle.object_state.specs.declared.operations.CloseOption.{CloseOption}
 use Rattle.object_state.specs.declared.object_states.ObjectState.{ObjectState}
-use Rattle.object_state.specs.declared.object_states.ObjectState.TheVariants.{Passive, Loaded, Running, InPlaceActive, UiActive}
+use Rattle.object_state.specs.declared.object_states.ObjectState.TheVariants.{Passive, Loaded, Running, InPlaceActive}
+use Rattle.object_state.specs.declared.object_states.ObjectState.TheVariants.{UiActive}
 use Rattle.object_state.specs.declared.object_states.ObjectState.TheVariants as state
 use Rattle.object_state.specs.declared.verbs.Verb.{Verb}
 use Rattle.object_state.specs.declared.verbs.Verb.TheVariants.{Primary, Show, Hide, InPlaceActivate}
 use Rattle.object_state.specs.declared.verbs.Verb.TheVariants as verb
 use Rattle.object_state.specs.declared.verbs.Step.{Step}
-use Rattle.object_state.specs.declared.verbs.Step.TheVariants.{InPlace, UiActivate, UiDeactivate, InPlaceDeactivate, OpenWindow, Close}
+use Rattle.object_state.specs.declared.verbs.Step.TheVariants.{InPlace, UiActivate, UiDeactivate, InPlaceDeactivate}
+use Rattle.object_state.specs.declared.verbs.Step.TheVariants.{OpenWindow, Close}
 
 -- OLE's numbers: OLEIVERB_PRIMARY is 0, OLEIVERB_SHOW -1, and so on
 abbrev pub number_of : Verb → ℤ
@@ -53,8 +56,10 @@ abbrev pub steps : Verb → ObjectState → Option (List Step)
 steps Primary = columns (Some (InPlace ∷ UiActivate ∷ [])) (Some (UiActivate ∷ [])) (Some []) None
 steps Show = columns (Some (InPlace ∷ UiActivate ∷ [])) (Some (UiActivate ∷ [])) (Some []) None
 steps verb.UiActivate = columns (Some (InPlace ∷ UiActivate ∷ [])) (Some (UiActivate ∷ [])) (Some []) None
-steps verb.Open = columns (Some (OpenWindow ∷ [])) (Some (InPlaceDeactivate ∷ OpenWindow ∷ [])) (Some (UiDeactivate ∷ InPlaceDeactivate ∷ OpenWindow ∷ [])) (Some [])
-steps Hide = columns (Some []) (Some (InPlaceDeactivate ∷ [])) (Some (UiDeactivate ∷ InPlaceDeactivate ∷ [])) (Some (InPlaceDeactivate ∷ []))
+steps verb.Open = columns (Some (OpenWindow ∷ [])) (Some (InPlaceDeactivate ∷ OpenWindow ∷ []))
+    (Some (UiDeactivate ∷ InPlaceDeactivate ∷ OpenWindow ∷ [])) (Some [])
+steps Hide = columns (Some []) (Some (InPlaceDeactivate ∷ [])) (Some (UiDeactivate ∷ InPlaceDeactivate ∷ []))
+    (Some (InPlaceDeactivate ∷ []))
 steps InPlaceActivate = columns (Some (InPlace ∷ [])) (Some []) (Some (UiDeactivate ∷ [])) None
 
 -- a close takes the steps of the verb that hides, and then Close

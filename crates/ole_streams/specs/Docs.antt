@@ -1,14 +1,14 @@
 -- Documents as values.
 use Rattle.std.specs.Prelude.{◌≡◌, ◌<◌, ◌≤◌, ◌^◌, List, [], ◌∷◌, true, length, Result, Ok, Err, IsOk}
-use Rattle.object_parts.specs.declared.area.Area.{Area}
-use Rattle.stored_streams.specs.Streams.{AreInOrder}
-use Rattle.ole_parts.specs.CompObjs.{CLASS_BYTES}
-use Rattle.document_model.specs.DocOf.{is_object}
-use Rattle.document_model.specs.Documents.{Doc}
-use Rattle.document_model.specs.Layouts.{MOST_OBJECTS}
-use Rattle.document_model.specs.declared.object.DocObject.{DocObject}
-use Rattle.ole_parts.specs.declared.fault.OleFault.{OleFault}
-use Rattle.ole_parts.specs.declared.fault.OleFault.TheVariants.{NoMemory}
+use Rattle.tree_streams.specs.declared.area.Area.{Area}
+use Rattle.tree_streams.specs.Streams.{AreInOrder}
+use Rattle.ole_model.specs.CompObjs.{CLASS_BYTES}
+use Rattle.ole_model.specs.DocOf.{is_object}
+use Rattle.ole_model.specs.Documents.{Doc}
+use Rattle.ole_model.specs.Layouts.{MOST_OBJECTS}
+use Rattle.ole_model.specs.declared.object.DocObject.{DocObject}
+use Rattle.ole_model.specs.declared.fault.OleFault.{OleFault}
+use Rattle.ole_model.specs.declared.fault.OleFault.TheVariants.{NoMemory}
 
 -- numbers of two bytes each
 pub record IsArea (a : Area) : Type 0 where

@@ -1,9 +1,9 @@
 -- Laws of documents and their trees.
 use Rattle.std.specs.Prelude.{◌≡◌}
-use Rattle.storage_tree.specs.Tree.{Tree}
-use Rattle.document_model.specs.Documents.{Doc}
-use Rattle.document_model.specs.DocOf.{DocOf}
-use Rattle.document_model.specs.DocTree.{doc_tree}
+use Rattle.cfb_entries.specs.Tree.{Tree}
+use Rattle.ole_model.specs.Documents.{Doc}
+use Rattle.ole_model.specs.DocOf.{DocOf}
+use Rattle.ole_model.specs.DocTree.{doc_tree}
 use Rattle.ole_streams.specs.Docs.{IsDoc}
 
 -- the tree of a document holds it

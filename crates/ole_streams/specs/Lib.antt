@@ -1,12 +1,3 @@
 pub mod Begun
 pub mod Docs
 pub mod Laws
-pub use Rattle.document_model.specs.Documents
-pub use Rattle.document_model.specs.Layouts
-pub use Rattle.document_model.specs.DocTree
-pub use Rattle.document_model.specs.DocOf
-pub use Rattle.ole_parts.specs.FaultNames
-pub use Rattle.ole_parts.specs.Fields
-pub use Rattle.ole_parts.specs.OleStreams
-pub use Rattle.ole_parts.specs.CompObjs
-pub use Rattle.ole_parts.specs.Presentations

@@ -1,17 +1,17 @@
 //! Documents of embedded objects.
 
 ghost use Rattle.std.specs.Prelude.{[], ◌≡◌, ◌<◌, ◌^◌, ◌↔◌, IfOk, IsTrue, length};
-ghost use Rattle.document_model.specs.Documents.{no_objects};
-ghost use Rattle.document_model.specs.DocOf.{pushed};
-ghost use Rattle.ole_parts.specs.CompObjs.{CLASS_BYTES};
+ghost use Rattle.ole_model.specs.Documents.{no_objects};
+ghost use Rattle.ole_model.specs.DocOf.{pushed};
+ghost use Rattle.ole_model.specs.CompObjs.{CLASS_BYTES};
 ghost use Rattle.ole_streams.specs.Docs.{IsArea, Pushes};
-ghost use Rattle.stored_streams.specs.Streams.{AreInOrder};
+ghost use Rattle.tree_streams.specs.Streams.{AreInOrder};
 
-pub use document_model::object::DocObject;
-use object_parts::area::Area;
-use ole_parts::fault::OleFault;
+use ole_model::fault::OleFault;
+pub use ole_model::object::DocObject;
 use std::alloc::{AllocError, Global};
 use std::marker::Model;
+use tree_streams::area::Area;
 
 /// How many objects a document may have.
 pub const MOST_OBJECTS: usize = 64;
@@ -63,7 +63,7 @@ pub struct Doc {
 }
 
 impl Model for Doc {
-    ghost use Rattle.document_model.specs.Documents.{Doc as Document};
+    ghost use Rattle.ole_model.specs.Documents.{Doc as Document};
     ghost use Rattle.ole_streams.specs.Docs.{IsDoc};
 
     ghost Value = { Document };

@@ -3,40 +3,43 @@
 ghost use Rattle.std.specs.Prelude.{[], ◌≡◌, ◌≢◌, ◌<◌, ◌≤◌, Err, IfErr, IfOk, IsOk, length};
 ghost use Rattle.std.specs.Option.{option_map};
 ghost use Rattle.cfb_names.specs.Names.{key};
-ghost use Rattle.object_parts.specs.Limits.{COMP_OBJ, OLE, OLE_PRES};
-ghost use Rattle.ole_parts.specs.CompObjs.{user_type_read};
-ghost use Rattle.document_model.specs.Documents.{no_objects};
-ghost use Rattle.document_model.specs.DocOf.{as_picture, as_storage, as_stream, behind_comp_obj, behind_layout, behind_picture, doc_read, object_of, object_pushed, object_read, objects_behind, session_of_bytes, session_read, streams_behind};
-ghost use Rattle.document_model.specs.DocTree.{LAYOUT, SESSION, object_name};
-ghost use Rattle.ole_parts.specs.Fields.{map_ok, on_ok};
-ghost use Rattle.document_model.specs.Layouts.{layout_read};
-ghost use Rattle.ole_parts.specs.OleStreams.{ole_read};
-ghost use Rattle.ole_parts.specs.declared.fault.OleFault.TheVariants.{NoMemory};
-ghost use Rattle.ole_streams.specs.Begun.{first_behind_ole, first_stream, first_user_type, layout_of, object_user_type, user_type_in, user_type_of};
+ghost use Rattle.tree_streams.specs.Limits.{COMP_OBJ, OLE, OLE_PRES};
+ghost use Rattle.ole_model.specs.CompObjs.{user_type_read};
+ghost use Rattle.ole_model.specs.Documents.{no_objects};
+ghost use Rattle.ole_model.specs.DocOf.{as_picture, as_storage, as_stream, behind_comp_obj, behind_layout};
+ghost use Rattle.ole_model.specs.DocOf.{behind_picture, doc_read, object_of, object_pushed, object_read};
+ghost use Rattle.ole_model.specs.DocOf.{objects_behind, session_of_bytes, session_read, streams_behind};
+ghost use Rattle.ole_model.specs.DocTree.{LAYOUT, SESSION, object_name};
+ghost use Rattle.ole_model.specs.Fields.{map_ok, on_ok};
+ghost use Rattle.ole_model.specs.Layouts.{layout_read};
+ghost use Rattle.ole_model.specs.OleStreams.{ole_read};
+ghost use Rattle.ole_model.specs.declared.fault.OleFault.TheVariants.{NoMemory};
+ghost use Rattle.ole_streams.specs.Begun.{first_behind_ole, first_stream, first_user_type, layout_of, object_user_type};
+ghost use Rattle.ole_streams.specs.Begun.{user_type_in, user_type_of};
 ghost use Rattle.ole_streams.specs.declared.doc.TheConstants.{MOST_OBJECTS};
-ghost use Rattle.storage_tree.specs.Change.{find, without};
-ghost use Rattle.storage_tree.specs.Kept.{kept};
-ghost use Rattle.storage_tree.specs.View.{children, shown, view};
+ghost use Rattle.tree_storage.specs.Change.{find, without};
+ghost use Rattle.tree_storage.specs.Kept.{kept};
+ghost use Rattle.tree_storage.specs.View.{children, shown, view};
 
 use crate::doc::{Doc, DocObject};
 use crate::layout::read_layout;
 use crate::names;
 use cfb_names::key::Key;
 use cfb_names::name::{Name, key};
-use object_parts::area::Area;
-use object_parts::limits::{comp_obj, ole, ole_pres};
-use ole_parts::comp_obj::CompObj;
-use ole_parts::fault::OleFault;
-use ole_parts::ole_stream::OleStream;
+use ole_model::comp_obj::CompObj;
+use ole_model::fault::OleFault;
+use ole_model::ole_stream::OleStream;
 use std::alloc::Global;
 use std::collections::BTreeMap;
-use storage_tree::storage::{Node, Storage};
-use storage_tree::tree::Tree;
-use stored_streams::fault::StreamsFault;
-use stored_streams::stored::Stored;
-use stored_streams::streams::{NamedStream, Streams};
-use stored_values::bytes::Bytes;
-use stored_values::class_id::ClassId;
+use tree_storage::storage::{Node, Storage};
+use tree_storage::tree::Tree;
+use tree_streams::area::Area;
+use tree_streams::fault::StreamsFault;
+use tree_streams::limits::{comp_obj, ole, ole_pres};
+use tree_streams::stored::Stored;
+use tree_streams::streams::{NamedStream, Streams};
+use tree_values::bytes::Bytes;
+use tree_values::class_id::ClassId;
 
 /// The children of a storage.
 type Entries = BTreeMap<Key, (Name, Node)>;
@@ -90,7 +93,8 @@ fn take_picture(alloc: Global, entries: &mut Entries) -> Result<Bytes, OleFault>
 
 /// Takes away `\1CompObj`, and gives the user type that it says.
 fn take_user_type(alloc: Global, entries: &mut Entries) -> Result<Bytes, OleFault>
-    ensures value { result ≢ Err NoMemory → result ≡ on_ok user_type_read (as_stream (find (key COMP_OBJ) (children entries.old.entries))) }
+    ensures value { result ≢ Err NoMemory → result ≡ on_ok user_type_read
+        (as_stream (find (key COMP_OBJ) (children entries.old.entries))) }
     ensures rest { children entries.new.entries ≡ without (key COMP_OBJ) (children entries.old.entries) }
     ensures wanting { result ≡ Err NoMemory → IsOk (user_type_in (children entries.old.entries)) }
 {
@@ -105,7 +109,8 @@ fn take_user_type(alloc: Global, entries: &mut Entries) -> Result<Bytes, OleFaul
 
 /// Takes away `\1Ole`.
 fn take_ole(entries: &mut Entries) -> Result<OleStream, OleFault>
-    ensures value { map_ok (λ _. tt) result ≡ on_ok ole_read (as_stream (find (key OLE) (children entries.old.entries))) }
+    ensures value { map_ok (λ _. tt) result ≡ on_ok ole_read
+        (as_stream (find (key OLE) (children entries.old.entries))) }
     ensures rest { children entries.new.entries ≡ without (key OLE) (children entries.old.entries) }
     ensures memory { IfErr result (λ fault. fault ≢ NoMemory) }
 {
@@ -166,7 +171,8 @@ fn behind_comp_obj(
     user_type: Bytes,
     entries: Entries,
 ) -> Result<DocObject, OleFault>
-    ensures value { result ≢ Err NoMemory → result ≡ behind_comp_obj area class picture user_type (children entries.entries) }
+    ensures value { result ≢ Err NoMemory → result ≡ behind_comp_obj area class picture user_type
+        (children entries.entries) }
     ensures wanting { result ≡ Err NoMemory → IsOk (first_behind_ole (children entries.entries)) }
 {
     let mut entries = entries;
@@ -220,7 +226,8 @@ fn push_object(
     entries: &mut Entries,
 ) -> Result<(), OleFault>
     requires { number < 100 }
-    ensures value { result ≢ Err NoMemory → map_ok (λ _. doc.new) result ≡ object_pushed doc.old number area (children entries.old.entries) }
+    ensures value { result ≢ Err NoMemory → map_ok (λ _. doc.new) result ≡ object_pushed doc.old number area
+        (children entries.old.entries) }
     ensures rest { children entries.new.entries ≡ without (key (object_name number)) (children entries.old.entries) }
     ensures wanting { result ≡ Err NoMemory → IsOk (object_user_type number (children entries.old.entries)) }
 {
@@ -241,7 +248,8 @@ fn objects_of(
     entries: Entries,
 ) -> Result<Doc, OleFault>
     requires { length areas.now ≤ MOST_OBJECTS }
-    ensures value { result ≢ Err NoMemory → result ≡ objects_behind (no_objects session) 1 areas.now (children entries.entries) }
+    ensures value { result ≢ Err NoMemory → result ≡ objects_behind (no_objects session) 1 areas.now
+        (children entries.entries) }
     ensures wanting { result ≡ Err NoMemory → IsOk (object_user_type 1 (children entries.entries)) }
 {
     let mut entries = entries;
@@ -260,9 +268,11 @@ fn objects_of(
 
 /// Takes away the stream `Layout`, and gives the areas that it says.
 fn take_areas(alloc: Global, entries: &mut Entries) -> Result<Vec<Area>, OleFault>
-    ensures value { result ≢ Err NoMemory → map_ok (λ areas. areas.items) result ≡ on_ok layout_read (as_stream (find (key LAYOUT) (children entries.old.entries))) }
+    ensures value { result ≢ Err NoMemory → map_ok (λ areas. areas.items) result
+        ≡ on_ok layout_read (as_stream (find (key LAYOUT) (children entries.old.entries))) }
     ensures rest { children entries.new.entries ≡ without (key LAYOUT) (children entries.old.entries) }
-    ensures wanting { result ≡ Err NoMemory → IsOk (on_ok layout_read (as_stream (find (key LAYOUT) (children entries.old.entries)))) }
+    ensures wanting { result ≡ Err NoMemory
+        → IsOk (on_ok layout_read (as_stream (find (key LAYOUT) (children entries.old.entries)))) }
     ensures few { IfOk result (λ areas. length areas.items ≤ MOST_OBJECTS) }
 {
     match take_stream(entries, &names::layout()) {
@@ -312,12 +322,13 @@ fn behind_layout(alloc: Global, areas: &[Area], entries: Entries) -> Result<Doc,
 /// dropped. What the tree's streams hold is moved into the document, and not copied.
 ///
 /// The stream `Layout` is read first, then `Session`, then the objects one after another, of each its picture,
-/// `\1CompObj`, `\1Ole` and its own streams. Refused, whichever comes first: `TooManyObjects` where `Layout` counts more
-/// than 64 objects; `Truncated`, `BadVersion`, `Linked` and `BadString` where an object's `\1CompObj` or `\1Ole` is so;
-/// `NotADocument` where `Layout` is missing or bad, where `Session` is a storage or hasn't four bytes, where an object's storage or one of these streams is missing, where a storage stands
-/// in an object or a content is past its limits, and where anything else stands in the root. Each object's strings and
-/// streams take memory as they are read, so `NoMemory` may come before a fault that stands further on; `Layout` is looked
-/// at before it takes any. A refusal drops the tree.
+/// `\1CompObj`, `\1Ole` and its own streams. Refused, whichever comes first: `TooManyObjects` where `Layout` counts
+/// more than 64 objects; `Truncated`, `BadVersion`, `Linked` and `BadString` where an object's `\1CompObj` or `\1Ole`
+/// is so; `NotADocument` where `Layout` is missing or bad, where `Session` is a storage or hasn't four bytes, where an
+/// object's storage or one of these streams is missing, where a storage stands in an object or a content is past its
+/// limits, and where anything else stands in the root. Each object's strings and streams take memory as they are read,
+/// so `NoMemory` may come before a fault that stands further on; `Layout` is looked at before it takes any. A refusal
+/// drops the tree.
 pub fn document_of(alloc: Global, tree: Tree) -> Result<Doc, OleFault>
     ensures value { result ≢ Err NoMemory → result ≡ doc_read (kept tree).now }
     ensures wanting { result ≡ Err NoMemory → IsOk (layout_of (kept tree).now) }

@@ -2,41 +2,44 @@
 
 ghost use Rattle.std.specs.Prelude.{[], ◌≡◌, ◌≤◌, ◌<◌, ℕ, IfOk, OnOk, length, true};
 ghost use Rattle.cfb_names.specs.Names.{IsName};
-ghost use Rattle.document_model.specs.DocOf.{is_object};
-ghost use Rattle.document_model.specs.DocTree.{doc_tree, object_children, object_tree, placed, with_objects, with_ole_streams, with_picture, with_session, with_streams};
-ghost use Rattle.ole_parts.specs.CompObjs.{PAST_USER_TYPE};
+ghost use Rattle.ole_model.specs.DocOf.{is_object};
+ghost use Rattle.ole_model.specs.DocTree.{doc_tree, object_children, object_tree, placed, with_objects};
+ghost use Rattle.ole_model.specs.DocTree.{with_ole_streams, with_picture, with_session, with_streams};
+ghost use Rattle.ole_model.specs.CompObjs.{PAST_USER_TYPE};
 ghost use Rattle.ole_streams.specs.Docs.{AreHeld};
 ghost use Rattle.ole_streams.specs.declared.doc.TheConstants.{MOST_OBJECTS};
-ghost use Rattle.storage_tree.specs.Change.{bytes as stream_seen};
-ghost use Rattle.storage_tree.specs.Kept.{kept};
-ghost use Rattle.storage_tree.specs.Tree.{none};
-ghost use Rattle.storage_tree.specs.View.{children, seen, view};
-ghost use Rattle.storage_tree.specs.Whole.{AreTrees, IsTree, IsWhole};
+ghost use Rattle.tree_storage.specs.Change.{bytes as stream_seen};
+ghost use Rattle.tree_storage.specs.Kept.{kept};
+ghost use Rattle.cfb_entries.specs.Tree.{none};
+ghost use Rattle.tree_storage.specs.View.{children, seen, view};
+ghost use Rattle.cfb_entries.specs.Whole.{AreTrees, IsTree, IsWhole};
 
 use crate::doc::{Doc, DocObject};
 use crate::layout::write_layout;
 use crate::names;
 use cfb_names::key::Key;
 use cfb_names::name::{Name, key};
-use object_parts::limits::{comp_obj, ole, ole_pres};
-use ole_parts::comp_obj::write_stream;
-use ole_parts::ole_stream::OleStream;
+use ole_model::comp_obj::write_stream;
+use ole_model::ole_stream::OleStream;
 use std::alloc::{AllocError, Global};
 use std::collections::BTreeMap;
-use storage_tree::storage::{Node, Storage};
-use storage_tree::tree::Tree;
-use stored_streams::stored::Stored;
-use stored_streams::streams::NamedStream;
-use stored_values::bytes::Bytes;
-use stored_values::class_id::ClassId;
+use tree_storage::storage::{Node, Storage};
+use tree_storage::tree::Tree;
+use tree_streams::limits::{comp_obj, ole, ole_pres};
+use tree_streams::stored::Stored;
+use tree_streams::streams::NamedStream;
+use tree_values::bytes::Bytes;
+use tree_values::class_id::ClassId;
 
 /// The children of a storage.
 type Entries = BTreeMap<Key, (Name, Node)>;
 
 /// Puts a child under its name.
 fn place(entries: &mut Entries, name: Name, node: Node) -> Result<(), AllocError>
-    ensures value { OnOk result (children entries.new.entries ≡ placed name (seen node) (children entries.old.entries)) }
-    ensures whole { OnOk result ((depth : ℕ) → IsWhole depth (seen node) → AreTrees depth (children entries.old.entries) → AreTrees depth (children entries.new.entries)) }
+    ensures value { OnOk result (children entries.new.entries ≡ placed name (seen node)
+        (children entries.old.entries)) }
+    ensures whole { OnOk result ((depth : ℕ) → IsWhole depth (seen node)
+        → AreTrees depth (children entries.old.entries) → AreTrees depth (children entries.new.entries)) }
 {
     // The characters are read for what is promised of them: that the name is valid.
     let _ = name.as_bytes();
@@ -46,8 +49,10 @@ fn place(entries: &mut Entries, name: Name, node: Node) -> Result<(), AllocError
 
 /// Puts a stream under its name.
 fn place_stream(entries: &mut Entries, name: Name, bytes: Bytes) -> Result<(), AllocError>
-    ensures value { OnOk result (children entries.new.entries ≡ placed name (stream_seen bytes) (children entries.old.entries)) }
-    ensures whole { OnOk result ((depth : ℕ) → AreTrees depth (children entries.old.entries) → AreTrees depth (children entries.new.entries)) }
+    ensures value { OnOk result (children entries.new.entries ≡ placed name (stream_seen bytes)
+        (children entries.old.entries)) }
+    ensures whole { OnOk result ((depth : ℕ) → AreTrees depth (children entries.old.entries)
+        → AreTrees depth (children entries.new.entries)) }
 {
     place(entries, name, Node::Stream(bytes))
 }
@@ -68,7 +73,8 @@ fn with_streams(alloc: Global, streams: Vec<NamedStream>) -> Result<Entries, All
 /// Puts the stream of a picture, unless that is empty.
 fn place_picture(entries: &mut Entries, picture: Bytes) -> Result<(), AllocError>
     ensures value { OnOk result (children entries.new.entries ≡ with_picture picture (children entries.old.entries)) }
-    ensures whole { OnOk result ((depth : ℕ) → AreTrees depth (children entries.old.entries) → AreTrees depth (children entries.new.entries)) }
+    ensures whole { OnOk result ((depth : ℕ) → AreTrees depth (children entries.old.entries)
+        → AreTrees depth (children entries.new.entries)) }
 {
     if picture.is_empty() {
         return Ok(());
@@ -85,8 +91,10 @@ fn place_ole_streams(
     picture: Bytes,
 ) -> Result<(), AllocError>
     requires { length user_type.now < PAST_USER_TYPE }
-    ensures value { OnOk result (children entries.new.entries ≡ with_ole_streams class user_type.now picture (children entries.old.entries)) }
-    ensures whole { OnOk result ((depth : ℕ) → AreTrees depth (children entries.old.entries) → AreTrees depth (children entries.new.entries)) }
+    ensures value { OnOk result (children entries.new.entries ≡ with_ole_streams class user_type.now picture
+        (children entries.old.entries)) }
+    ensures whole { OnOk result ((depth : ℕ) → AreTrees depth (children entries.old.entries)
+        → AreTrees depth (children entries.new.entries)) }
 {
     let says_ole = Vec::from_slice(alloc, &OleStream.write())?;
     place_stream(entries, ole(), Bytes::from_vec(alloc, says_ole)?)?;
@@ -136,7 +144,8 @@ fn with_objects(alloc: Global, objects: Vec<DocObject>) -> Result<Entries, Alloc
 /// Puts the stream of a session, unless that is 0.
 fn place_session(alloc: Global, entries: &mut Entries, session: u32) -> Result<(), AllocError>
     ensures value { OnOk result (children entries.new.entries ≡ with_session session (children entries.old.entries)) }
-    ensures whole { OnOk result ((depth : ℕ) → AreTrees depth (children entries.old.entries) → AreTrees depth (children entries.new.entries)) }
+    ensures whole { OnOk result ((depth : ℕ) → AreTrees depth (children entries.old.entries)
+        → AreTrees depth (children entries.new.entries)) }
 {
     if session == 0 {
         return Ok(());
@@ -146,7 +155,8 @@ fn place_session(alloc: Global, entries: &mut Entries, session: u32) -> Result<(
 }
 
 /// The tree of a document, outside transactions: the root's class id, a storage for each object with its streams, the
-/// stream `Session` unless that is 0, and the stream `Layout`. What the document's contents hold is moved into the tree, and not copied.
+/// stream `Session` unless that is 0, and the stream `Layout`. What the document's contents hold is moved into the
+/// tree, and not copied.
 ///
 /// Refused for want of memory alone; then the document is dropped.
 pub fn document_tree(alloc: Global, doc: Doc) -> Result<Tree, AllocError>

@@ -2,7 +2,7 @@
 
 ghost use Rattle.ole_streams.specs.Laws.{DocumentIsReadAgain, HoldsOneDocument};
 
-pub use ole_parts::laws::{lines_are_read_again, ole_is_read_again, user_type_is_read_again};
+pub use ole_model::laws::{lines_are_read_again, ole_is_read_again, user_type_is_read_again};
 
 /// A tree holds at most one document.
 pub fn holds_one_document()

@@ -3,16 +3,16 @@
 ghost use Rattle.std.specs.Prelude.{◌≡◌, ◌≢◌, ◌<◌, ◌≤◌, ◌*◌, ◌^◌, ◌++◌, Err, IfOk, Ok, IsOk, OnOk, length, map};
 ghost use Rattle.std.specs.Int.{to_le_bytes, w16};
 ghost use Rattle.std.specs.List.{flat_map};
-ghost use Rattle.ole_parts.specs.Fields.{map_ok};
-ghost use Rattle.document_model.specs.Layouts.{area_at, area_bytes, areas_behind, areas_read, layout_bytes, layout_read};
-ghost use Rattle.ole_parts.specs.declared.fault.OleFault.TheVariants.{NoMemory};
+ghost use Rattle.ole_model.specs.Fields.{map_ok};
+ghost use Rattle.ole_model.specs.Layouts.{area_at, area_bytes, areas_behind, areas_read, layout_bytes, layout_read};
+ghost use Rattle.ole_model.specs.declared.fault.OleFault.TheVariants.{NoMemory};
 
 use crate::doc::{DocObject, MOST_OBJECTS};
-use object_parts::area::Area;
-use ole_parts::fault::OleFault;
-use ole_parts::fields::push_number;
+use ole_model::fault::OleFault;
+use ole_model::fields::push_number;
 use std::alloc::{AllocError, Global};
-use stored_values::bytes::Bytes;
+use tree_streams::area::Area;
+use tree_values::bytes::Bytes;
 
 /// The version of the stream.
 const VERSION: u32 = 1;

@@ -7,5 +7,3 @@ pub mod document_tree;
 pub mod laws;
 mod layout;
 pub mod names;
-
-pub use ole_parts::{comp_obj, fault, ole_stream, presentation};

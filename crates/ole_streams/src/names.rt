@@ -1,10 +1,10 @@
 //! The names of a document's own streams and storages.
 
 ghost use Rattle.std.specs.Prelude.{◌≡◌, ◌<◌, ◌^◌};
-ghost use Rattle.document_model.specs.DocTree.{LAYOUT, ROOT_CLASS, SESSION, decimal, object_name};
+ghost use Rattle.ole_model.specs.DocTree.{LAYOUT, ROOT_CLASS, SESSION, decimal, object_name};
 
 use cfb_names::name::{Name, named};
-use stored_values::class_id::ClassId;
+use tree_values::class_id::ClassId;
 
 /// The class id of a document's root.
 pub fn root_class() -> ClassId

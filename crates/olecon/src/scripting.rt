@@ -1,7 +1,8 @@
 //! Scripts of a container, whose servers are child processes.
 
-use file_program::ends::refuse;
-use script_links::fault::ScriptFault;
+use program_ends::ends::refuse;
+use script_container::fault::ScriptFault;
+use script_host::host::SystemHost;
 use script_run::script::run_script;
 use std::fs::File;
 use std::net::Net;
@@ -9,8 +10,7 @@ use std::process::{ExitCode, Processes};
 use std::rt::Runtime;
 use std::time::Duration;
 use std::{fs, io};
-use system_host::host::SystemHost;
-use texts::report::{Report, STANDARD};
+use text_words::report::{Report, STANDARD};
 
 /// The status where what is asked of servers isn't answered.
 const STALLED: u8 = 4;
@@ -40,7 +40,8 @@ fn refuse_script<R: Runtime>(rt: &R, path: &str, fault: ScriptFault) -> ExitCode
     }
 }
 
-/// Carries out the commands of a file with servers that this program starts, and waits so many seconds for what each sends.
+/// Carries out the commands of a file with servers that this program starts, and waits so many seconds for what each
+/// sends.
 pub(crate) fn run_file<R: Runtime<File = File> + Net + Processes + AllocGlobal>(
     rt: &R,
     path: &str,

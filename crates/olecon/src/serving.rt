@@ -1,16 +1,16 @@
 //! A server of embedded objects.
 
-use embed_core::tally::Tally;
-use file_program::ends::{refuse, refuse_start};
-use server_links::serving::serve_links;
+use object_core::tally::Tally;
+use program_ends::ends::{refuse, refuse_start};
+use script_host::listening::listen;
+use server_links::all_links::serve_links;
 use std::fs::File;
 use std::io;
 use std::net::{Net, TcpListener, TcpStream};
 use std::process::ExitCode;
 use std::rt::Runtime;
 use std::time::Duration;
-use system_host::listening::listen;
-use texts::report::{Report, STANDARD};
+use text_words::report::{Report, STANDARD};
 
 /// How long a server waits for a link. One whose container was killed sees its link closed, and ends after that.
 const WAIT: u64 = 30;

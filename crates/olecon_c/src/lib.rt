@@ -1,20 +1,21 @@
-//! The library for other languages: the calls of `library_calls` under the names of C (`olecon.h`).
+//! The library for other languages: the calls of `program_calls` under the names of C (`olecon.h`).
 #![tactic(auto)]
 
-ghost use Rattle.library_calls.specs.Answers.{Answers, AnswersAt, IsPut};
-ghost use Rattle.library_calls.specs.Calls.{IsCleanOf, IsGotBy, IsListed, IsListedAs, IsMadeOf, IsRefusedBy, IsRefusedClean, IsRefusedList, IsRefusedMake};
-ghost use Rattle.fault_texts.specs.declared.telling.Form.TheVariants as form;
-ghost use Rattle.library_calls.specs.Checks.{IsChecked, IsRefusedCheck};
-ghost use Rattle.library_calls.specs.Edits.{IsEdited, IsRefusedEdit};
-ghost use Rattle.library_calls.specs.Numbers.{number_name};
-ghost use Rattle.listing_forms.specs.Json.{json_listed};
-ghost use Rattle.listing_forms.specs.Placed.{placed_view};
+ghost use Rattle.program_calls.specs.Answers.{Answers, AnswersAt, IsPut};
+ghost use Rattle.program_calls.specs.Calls.{IsCleanOf, IsGotBy, IsListed, IsListedAs, IsMadeOf, IsRefusedBy};
+ghost use Rattle.program_calls.specs.Calls.{IsRefusedClean, IsRefusedList, IsRefusedMake};
+ghost use Rattle.tell_checks.specs.declared.telling.Form.TheVariants as form;
+ghost use Rattle.program_calls.specs.Checks.{IsChecked, IsRefusedCheck};
+ghost use Rattle.program_calls.specs.Edits.{IsEdited, IsRefusedEdit};
+ghost use Rattle.program_calls.specs.Numbers.{number_name};
+ghost use Rattle.tell_lists.specs.Json.{json_listed};
+ghost use Rattle.tell_lists.specs.Placed.{placed_view};
 ghost use Rattle.std.specs.Prelude.{◌≡◌, length, ℕ};
 
-use fault_texts::telling::Form;
-use library_calls::{calls, checking, editing};
-use listing_forms::listing::Listing;
+use program_calls::{calls, checking, editing};
 use std::alloc::Global;
+use tell_checks::telling::Form;
+use tell_lists::asked_listings::Listing;
 
 /// The listing of a file in lines.
 #[unsafe(no_mangle)]
@@ -32,7 +33,8 @@ pub extern "C" fn olecon_list_json(
     out: &mut [u8],
     needed: &mut usize,
 ) -> u32
-    ensures { Answers (IsListedAs (λ o. json_listed (placed_view o)) file.now) (IsRefusedList file.now) result out.old out.new needed.new }
+    ensures { Answers (IsListedAs (λ o. json_listed (placed_view o)) file.now) (IsRefusedList file.now) result
+        out.old out.new needed.new }
 {
     calls::list(alloc, Listing::Json, file, out, needed)
 }
@@ -59,7 +61,8 @@ pub extern "C" fn olecon_make(
     out: &mut [u8],
     needed: &mut usize,
 ) -> u32
-    ensures { Answers (IsMadeOf description.now) (λ number. (line : ℕ) × IsRefusedMake description.now line number) result out.old out.new needed.new }
+    ensures { Answers (IsMadeOf description.now) (λ number. (line : ℕ) × IsRefusedMake description.now line number)
+        result out.old out.new needed.new }
 {
     calls::make(alloc, description, out, needed)
 }
@@ -73,7 +76,8 @@ pub extern "C" fn olecon_make_line(
     needed: &mut usize,
     line: &mut usize,
 ) -> u32
-    ensures { AnswersAt (IsMadeOf description.now) (IsRefusedMake description.now) result out.old out.new needed.new line.new }
+    ensures { AnswersAt (IsMadeOf description.now) (IsRefusedMake description.now) result out.old out.new needed.new
+        line.new }
 {
     calls::make_line(alloc, description, out, needed, line)
 }
@@ -100,7 +104,8 @@ pub extern "C" fn olecon_edit(
     out: &mut [u8],
     needed: &mut usize,
 ) -> u32
-    ensures { Answers (IsEdited file.now lines.now) (λ number. (line : ℕ) × IsRefusedEdit file.now lines.now line number) result out.old out.new needed.new }
+    ensures { Answers (IsEdited file.now lines.now) (λ number. (line : ℕ)
+        × IsRefusedEdit file.now lines.now line number) result out.old out.new needed.new }
 {
     editing::edit(alloc, file, lines, out, needed)
 }
@@ -115,7 +120,8 @@ pub extern "C" fn olecon_edit_line(
     needed: &mut usize,
     line: &mut usize,
 ) -> u32
-    ensures { AnswersAt (IsEdited file.now lines.now) (IsRefusedEdit file.now lines.now) result out.old out.new needed.new line.new }
+    ensures { AnswersAt (IsEdited file.now lines.now) (IsRefusedEdit file.now lines.now) result out.old out.new
+        needed.new line.new }
 {
     editing::edit_line(alloc, file, lines, out, needed, line)
 }
@@ -129,7 +135,8 @@ pub extern "C" fn olecon_check(
     needed: &mut usize,
     fault: &mut u32,
 ) -> u32
-    ensures { Answers (IsChecked file.now form.Line fault.new) (IsRefusedCheck file.now fault.new) result out.old out.new needed.new }
+    ensures { Answers (IsChecked file.now form.Line fault.new) (IsRefusedCheck file.now fault.new) result out.old
+        out.new needed.new }
 {
     checking::check(alloc, file, Form::Line, out, needed, fault)
 }
@@ -143,7 +150,8 @@ pub extern "C" fn olecon_check_json(
     needed: &mut usize,
     fault: &mut u32,
 ) -> u32
-    ensures { Answers (IsChecked file.now form.Json fault.new) (IsRefusedCheck file.now fault.new) result out.old out.new needed.new }
+    ensures { Answers (IsChecked file.now form.Json fault.new) (IsRefusedCheck file.now fault.new) result out.old
+        out.new needed.new }
 {
     checking::check(alloc, file, Form::Json, out, needed, fault)
 }

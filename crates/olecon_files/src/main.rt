@@ -1,12 +1,12 @@
-//! The program `olecon` with its commands over files alone, which is built sooner: it makes, lists and cleans OLE compound
-//! files.
+//! The program `olecon` with its commands over files alone, which is built sooner: it makes, lists and cleans OLE
+//! compound files.
 #![tactic(auto)]
 
 use clap::{ArgMatches, Error};
-use file_program::command_lines::command_line;
-use file_program::ends::{refuse_command, refuse_start};
-use file_program::tasks::Task;
-use file_program::usage::{answer_usage, have_hidden, refuse_words, told_words};
+use program_ends::ends::{refuse_command, refuse_start};
+use program_ends::usage::{answer_usage, have_hidden, refuse_words, told_words};
+use program_files::command_lines::command_line;
+use program_files::tasks::Task;
 use std::alloc::AllocError;
 use std::fs::File;
 use std::io::IsTerminal;
@@ -26,7 +26,8 @@ fn run<R: Runtime<File = File> + AllocGlobal>(
     }
 }
 
-/// Tells what is wrong with the words of a command line, as they are told, or prints the help or the version that they ask for.
+/// Tells what is wrong with the words of a command line, as they are told, or prints the help or the version that they
+/// ask for.
 fn answer_error<R: Runtime + AllocGlobal>(
     rt: &R,
     words: &[String],

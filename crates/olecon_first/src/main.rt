@@ -1,9 +1,7 @@
-//! The program `olecon` with its commands `make` and `list` alone, which is built soonest: it makes and lists OLE compound files.
+//! The program `olecon` with its commands `make` and `list` alone, which is built soonest: it makes and lists OLE
+//! compound files.
 #![tactic(auto)]
 
-use file_commands::listing::list_as;
-use file_making::making::make_with_tree;
-use listing_forms::listing::Listing;
 use program_ends::ends::refuse;
 use program_ends::making::count_made;
 use program_ends::starts::start_first;
@@ -11,6 +9,9 @@ use program_sources::opening::open_source;
 use std::io;
 use std::process::ExitCode;
 use std::rt::Runtime;
+use tell_lists::asked_listings::Listing;
+use tell_lists::listing::list_as;
+use write_described::making::make_with_tree;
 
 /// Lists a file on standard output.
 fn list<R: Runtime + AllocGlobal>(rt: &R, path: &str, listing: Listing) -> ExitCode {

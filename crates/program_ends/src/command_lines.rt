@@ -218,8 +218,8 @@ fn argument_of<'a>(alloc: Global, row: &Argument<'a>) -> Result<Arg<'a>, AllocEr
     }
 }
 
-// A value of many fields is spelled out at each step of the proof of a function that holds one. So such a function takes few
-// steps, and this one, which has the way out by an error, is of any type.
+// A value of many fields is spelled out at each step of the proof of a function that holds one. So such a function
+// takes few steps, and this one, which has the way out by an error, is of any type.
 /// Adds an item that was made.
 fn add<T: Drop>(items: &mut Vec<T>, made: Result<T, AllocError>) -> Result<(), AllocError> {
     items.push(made?)?;
@@ -327,8 +327,8 @@ pub fn first_line<'a>(alloc: Global) -> Result<Command<'a>, AllocError> {
     program_of(alloc, first_commands(alloc))
 }
 
-/// The command line of the program `olecon` with `make`, `list`, `get` and `clean`, and the commands of these rows behind
-/// them. A program with more commands adds them.
+/// The command line of the program `olecon` with `make`, `list`, `get` and `clean`, and the commands of these rows
+/// behind them. A program with more commands adds them.
 ///
 /// Refused for want of memory alone.
 pub fn command_line<'a>(alloc: Global, rows: &[Row<'a>]) -> Result<Command<'a>, AllocError> {

@@ -2,13 +2,13 @@
 
 use crate::journals::refuse_unfinished;
 use crate::new_file::NewFile;
-use fault_lines::report::{Report, STANDARD};
-use fault_lines::told::Told;
 use std::fs::File;
 use std::io;
 use std::io::ErrorKind;
 use std::process::ExitCode;
 use std::rt::Runtime;
+use text_words::report::{Report, STANDARD};
+use text_words::told::Told;
 
 /// The status where the command line is refused.
 pub(crate) const USAGE: u8 = 2;
@@ -35,8 +35,8 @@ fn refuse_write<R: Runtime>(rt: &R, path: &str, error: &io::Error) -> ExitCode {
     refuse(rt, &Report::File(path, write_fault(error)))
 }
 
-/// Drops a new file that wasn't written whole. Where memory was refused as it was to be opened, tells so and gives the status to end
-/// with: its writer was told of a write that failed, and of nothing else.
+/// Drops a new file that wasn't written whole. Where memory was refused as it was to be opened, tells so and gives the
+/// status to end with: its writer was told of a write that failed, and of nothing else.
 pub fn give_up<R: Runtime<File = File> + AllocGlobal>(
     rt: &R,
     new: NewFile<'_, R>,
@@ -51,8 +51,8 @@ pub fn give_up<R: Runtime<File = File> + AllocGlobal>(
     }
 }
 
-/// Keeps a new file of so many bytes, and tells their number. A save of the file in whose place it is to be may have been cut off
-/// since the command began; then that file stays.
+/// Keeps a new file of so many bytes, and tells their number. A save of the file in whose place it is to be may have
+/// been cut off since the command began; then that file stays.
 pub fn keep<R: Runtime<File = File> + AllocGlobal>(
     rt: &R,
     new: NewFile<'_, R>,

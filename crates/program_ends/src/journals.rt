@@ -1,18 +1,18 @@
-//! Journals beside files: where one is open, a save of the file was cut off, and what the journal holds is still to be put
-//! into it. So the file may be half written, and a file that took its place would be written over.
+//! Journals beside files: where one is open, a save of the file was cut off, and what the journal holds is still to be
+//! put into it. So the file may be half written, and a file that took its place would be written over.
 //!
 //! A file has a journal by each of its names: the path that is asked for, and each to which a link leads from there.
 
 use crate::ends::refuse;
 use crate::links::{MOST_LINKS, next_name};
-use fault_lines::report::Report;
-use fault_lines::told::Told;
 use std::alloc::AllocError;
 use std::fs;
 use std::io::{self, ErrorKind, Read};
 use std::path::PathBuf;
 use std::process::ExitCode;
 use std::rt::{Files, Runtime};
+use text_words::report::Report;
+use text_words::told::Told;
 
 /// How many bytes an open journal has at least, of which the first is its gate.
 const HEADER: usize = 9;
@@ -107,8 +107,8 @@ pub fn refuse_unfinished<R: Runtime + AllocGlobal>(rt: &R, path: &str) -> Result
     }
 }
 
-/// Tells on standard error that a file may be half written, if a save of it was cut off, or may have been. Without the memory to
-/// look, it gives the status to end with.
+/// Tells on standard error that a file may be half written, if a save of it was cut off, or may have been. Without the
+/// memory to look, it gives the status to end with.
 pub fn tell_unfinished<R: Runtime + AllocGlobal>(rt: &R, path: &str) -> Result<(), ExitCode> {
     match journals_of(rt, path) {
         Ok(Journal::Closed) => Ok(()),

@@ -8,8 +8,8 @@ use std::{fs, io};
 /// How many links are followed.
 pub(crate) const MOST_LINKS: u32 = 40;
 
-/// Whether a link isn't read since none stands there: the system refuses to read what is no link, or has nothing of the name.
-/// A link whose text can't be told, as one that isn't UTF-8 or one for which no memory is left, is a link.
+/// Whether a link isn't read since none stands there: the system refuses to read what is no link, or has nothing of the
+/// name. A link whose text can't be told, as one that isn't UTF-8 or one for which no memory is left, is a link.
 fn is_no_link(error: &io::Error) -> bool {
     matches!(error.kind(), ErrorKind::InvalidInput | ErrorKind::NotFound)
 }

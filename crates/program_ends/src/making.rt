@@ -8,8 +8,9 @@ use std::mem::ManuallyDrop;
 use std::process::ExitCode;
 use std::rt::Runtime;
 
-/// Makes the file of a path by what writes it and counts its bytes, unless a save of the one in whose place it is to be was
-/// cut off. Where it isn't written, the path's file stays as it was, and what tells the fault gives the status to end with.
+/// Makes the file of a path by what writes it and counts its bytes, unless a save of the one in whose place it is to be
+/// was cut off. Where it isn't written, the path's file stays as it was, and what tells the fault gives the status to
+/// end with.
 pub fn make<R, E, F, T>(rt: &R, path: &str, write: F, tell: T) -> ExitCode
 where
     R: Runtime<File = File> + AllocGlobal,
@@ -32,8 +33,8 @@ where
     }
 }
 
-/// What is counted of something that was made. What it was made of stays in memory: the process is about to end, and the system takes
-/// all of its memory at once.
+/// What is counted of something that was made. What it was made of stays in memory: the process is about to end, and
+/// the system takes all of its memory at once.
 pub fn count_made<T: Drop, E: Drop>(made: Result<(usize, T), E>) -> Result<usize, E> {
     match made {
         Ok((count, rest)) => {

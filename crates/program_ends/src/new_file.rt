@@ -1,16 +1,17 @@
 //! Files that are made whole, or not at all: replacing a file is done here alone.
 //!
-//! **Kept** of a file that is replaced: its bytes, whole, until all of the new ones stand beside it, and on the device where that
-//! is asked for; its owner and its group where the system lets the process give them; its rights, fewer where its group isn't
-//! kept, and never more; the links that lead to it, which are followed by their texts, unless the link itself is to be replaced.
+//! **Kept** of a file that is replaced: its bytes, whole, until all of the new ones stand beside it, and on the device
+//! where that is asked for; its owner and its group where the system lets the process give them; its rights, fewer
+//! where its group isn't kept, and never more; the links that lead to it, which are followed by their texts, unless the
+//! link itself is to be replaced.
 //!
-//! **Not kept**: access control lists and extended attributes, which aren't looked at (so the rights of the group may be what a
-//! list's mask was); the bits that lend rights to whoever runs a file, and the sticky bit; times; the file's other hard names,
-//! which stay those of the old file.
+//! **Not kept**: access control lists and extended attributes, which aren't looked at (so the rights of the group may
+//! be what a list's mask was); the bits that lend rights to whoever runs a file, and the sticky bit; times; the file's
+//! other hard names, which stay those of the old file.
 //!
 //! The new file's owner and rights are given by the open file, and so is all that is asked of the old one. Only making,
-//! renaming and removing go by a name, and none of them follows a link at its end; what is renamed or removed is looked at first.
-//! Who may rename files in the folder may put others into their places at any time, here too.
+//! renaming and removing go by a name, and none of them follows a link at its end; what is renamed or removed is looked
+//! at first. Who may rename files in the folder may put others into their places at any time, here too.
 
 use crate::links::end_of;
 use crate::rights::take_over;
@@ -71,7 +72,8 @@ pub struct NewFile<'a, R: Files<File = File> + Clock + AllocGlobal> {
 }
 
 impl<'a, R: Files<File = File> + Clock + AllocGlobal> NewFile<'a, R> {
-    /// A file that isn't made yet. A link at the path is followed, and what is no regular file takes the bytes as it is.
+    /// A file that isn't made yet. A link at the path is followed, and what is no regular file takes the bytes as it
+    /// is.
     pub fn new(rt: &'a R, path: &'a str) -> NewFile<'a, R> {
         NewFile {
             rt,
@@ -103,7 +105,8 @@ impl<'a, R: Files<File = File> + Clock + AllocGlobal> NewFile<'a, R> {
         }
     }
 
-    /// The name of the file in whose place what was written is to be put; none where it goes to what is no regular file.
+    /// The name of the file in whose place what was written is to be put; none where it goes to what is no regular
+    /// file.
     pub fn target(&self) -> Option<&str> {
         match &self.place {
             Place::Beside(new) => Some(new.target.as_str()),
@@ -127,8 +130,8 @@ impl<'a, R: Files<File = File> + Clock + AllocGlobal> NewFile<'a, R> {
         Ok(())
     }
 
-    /// Whether memory was refused as the file was to be opened or made. Whoever writes to it is told of a write that failed, and
-    /// of nothing else.
+    /// Whether memory was refused as the file was to be opened or made. Whoever writes to it is told of a write that
+    /// failed, and of nothing else.
     pub fn lacked_memory(&self) -> bool {
         self.lacked_memory
     }
@@ -259,7 +262,8 @@ fn open_to_write<R: Files<File = File>>(rt: &R, path: &str) -> io::Result<File> 
     OpenOptions::new().write(true).open(rt, path)
 }
 
-/// A new file of the owner and the rights of a regular file beside it, which stands at the name, and of which this is known.
+/// A new file of the owner and the rights of a regular file beside it, which stands at the name, and of which this is
+/// known.
 fn open_for<R: Files<File = File> + Clock + AllocGlobal>(
     rt: &R,
     target: PathBuf,
@@ -318,8 +322,8 @@ fn open_beside<R: Files<File = File> + Clock + AllocGlobal>(
     Ok(Beside { file, name, target })
 }
 
-/// A new file in the folder of a path, and its name: one of few, or, where these are taken, as those that were left behind are,
-/// one with the time in it.
+/// A new file in the folder of a path, and its name: one of few, or, where these are taken, as those that were left
+/// behind are, one with the time in it.
 fn create_beside<R: Files<File = File> + Clock + AllocGlobal>(
     rt: &R,
     target: &PathBuf,

@@ -12,9 +12,9 @@ const GROUP: u32 = 0o070;
 
 const OTHERS: u32 = 0o007;
 
-/// The permissions for a new file in the place of one of these: the same rights, and no bit that lends the owner's or the
-/// group's to whoever runs it. Without the old file's group, its members are among the others, and may do what they and the
-/// others might before, and the new group nothing.
+/// The permissions for a new file in the place of one of these: the same rights, and no bit that lends the owner's or
+/// the group's to whoever runs it. Without the old file's group, its members are among the others, and may do what they
+/// and the others might before, and the new group nothing.
 fn mode_for(old: u32, has_group: bool) -> u32 {
     if has_group {
         return old & (OWNER | GROUP | OTHERS);
@@ -23,16 +23,17 @@ fn mode_for(old: u32, has_group: bool) -> u32 {
     old & (OWNER | shared)
 }
 
-/// Gives an open file the owner and the group of another; where it may not have the owner, the group alone, which a member may
-/// give; where it may not have that, nothing.
+/// Gives an open file the owner and the group of another; where it may not have the owner, the group alone, which a
+/// member may give; where it may not have that, nothing.
 fn give(new: &File, old: &Metadata) {
     if fchown(new.as_fd(), Some(old.uid()), Some(old.gid())).is_err() {
         let _ = fchown(new.as_fd(), None, Some(old.gid()));
     }
 }
 
-/// Gives an open file, which its owner alone may use, the owner, the group and the rights of an old one: the owner and the group
-/// as far as the system lets the process, and where the group isn't kept, fewer rights. Nobody but the new owner gets more.
+/// Gives an open file, which its owner alone may use, the owner, the group and the rights of an old one: the owner and
+/// the group as far as the system lets the process, and where the group isn't kept, fewer rights. Nobody but the new
+/// owner gets more.
 ///
 /// Refused where the system refuses to tell or to change what the file has.
 pub(crate) fn take_over(new: &File, old: &Metadata) -> io::Result<()> {

@@ -2,14 +2,14 @@
 
 use crate::ends::refuse;
 use crate::journals::tell_unfinished;
-use fault_lines::report::Report;
 use std::fs;
 use std::fs::OpenFile;
 use std::process::ExitCode;
 use std::rt::Runtime;
+use text_words::report::Report;
 
-/// Opens a file, and tells it where a save of the file was cut off; or tells that it can't be read and gives the status to end
-/// with.
+/// Opens a file, and tells it where a save of the file was cut off; or tells that it can't be read and gives the status
+/// to end with.
 pub fn open<R: Runtime + AllocGlobal>(rt: &R, path: &str) -> Result<R::File, ExitCode> {
     match fs::open(rt, path) {
         Ok(source) => {

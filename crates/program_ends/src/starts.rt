@@ -35,7 +35,8 @@ fn asked_for<'a>(matches: &ArgMatches<'a>) -> Option<Asked<'a>> {
     }
 }
 
-/// Tells what is wrong with the words of a command line, as they are told, or prints the help or the version that they ask for.
+/// Tells what is wrong with the words of a command line, as they are told, or prints the help or the version that they
+/// ask for.
 fn answer_error<R: Runtime + AllocGlobal>(
     rt: &R,
     words: &[String],
@@ -109,8 +110,9 @@ where
     Ok(answer(rt, words.as_slice(), write, tell, list)?)
 }
 
-/// Makes the file of the path that the program's command line asks for, as `make` does, or has it listed, as JSON or in columns
-/// where that is asked for; or tells what is wrong with the line, or prints the help or the version that it asks for.
+/// Makes the file of the path that the program's command line asks for, as `make` does, or has it listed, as JSON or in
+/// columns where that is asked for; or tells what is wrong with the line, or prints the help or the version that it
+/// asks for.
 pub fn start_first<R, E, F, T, L>(rt: &R, write: F, tell: T, list: L) -> ExitCode
 where
     R: Runtime<File = File> + AllocGlobal,

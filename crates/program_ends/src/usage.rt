@@ -1,14 +1,14 @@
-//! Command lines that are refused, and those that ask for the help or the version. A line that is refused is read again with its
-//! words as they are told, so that none of them acts on a terminal.
+//! Command lines that are refused, and those that ask for the help or the version. A line that is refused is read again
+//! with its words as they are told, so that none of them acts on a terminal.
 
 use crate::ends::{REFUSED, USAGE, refuse};
 use clap::Error;
 use clap::error::ErrorKind;
-use fault_lines::report::{Report, STANDARD};
-use fault_lines::told::Told;
 use std::alloc::{AllocError, Global};
 use std::process::ExitCode;
 use std::rt::Runtime;
+use text_words::report::{Report, STANDARD};
+use text_words::told::Told;
 
 fn has_hidden(word: &str) -> bool {
     word.chars().any(char::is_control)
@@ -31,7 +31,8 @@ pub fn told_words(alloc: Global, words: &[String]) -> Result<Vec<String>, AllocE
     Ok(told)
 }
 
-/// Tells what is wrong with a command line, or prints the help or the version that it asks for, and gives the status to end with.
+/// Tells what is wrong with a command line, or prints the help or the version that it asks for, and gives the status to
+/// end with.
 pub fn answer_usage<R: Runtime>(rt: &R, error: &Error) -> ExitCode {
     match error.print(rt) {
         Ok(()) if error.kind() == ErrorKind::OutOfMemory => ExitCode::from(REFUSED),

@@ -1,16 +1,16 @@
 //! Files of a system, opened to be read.
 
 use crate::source::{FileSource, read_source};
-use fault_lines::report::Report;
-use file_places::source::Sought;
 use program_ends::ends::refuse;
 use program_ends::sources::{is_sought, open};
+use read_source::source::Sought;
 use std::alloc::Global;
 use std::fs::OpenFile;
 use std::io::{Read, Seek};
 use std::process::ExitCode;
 use std::rt::Runtime;
-use texts::input::InputFault;
+use text_io::input::InputFault;
+use text_words::report::Report;
 
 /// What gives the bytes of an open file. One that doesn't tell how long it is, as a pipe, is read to its end.
 fn source_of<F: OpenFile + Read + Seek + Drop>(

@@ -2,12 +2,12 @@
 
 ghost use Rattle.program_sources.specs.Known.{known_bytes};
 ghost use Rattle.std.specs.Prelude.{◌≡◌, IfErr, IfOk, IfSome, Some};
-ghost use Rattle.texts.specs.Input.{MayRefuseInput};
+ghost use Rattle.text_io.specs.Input.{MayRefuseInput};
 
-use file_places::source::{Sought, Source};
+use read_source::source::{Sought, Source};
 use std::alloc::Global;
 use std::io::{self, Read, Seek};
-use texts::input::{InputFault, read_all};
+use text_io::input::{InputFault, read_all};
 
 /// A file that a command reads.
 #[derive(Drop)]

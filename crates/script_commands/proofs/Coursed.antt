@@ -44,12 +44,16 @@ module _ {D : Type 0} (es after : List (Event D)) where
   pub asked_but_opening : but_opening (course after) ≡ but_opening (course es) → asked after ≡ asked es
   asked_but_opening same = ap (λ (k : Course D). k.asked) same
 
-  pub begun_but_opening : but_opening (course after) ≡ but_opening (course es) → (course after).begun ≡ (course es).begun
+  pub begun_but_opening : but_opening (course after) ≡ but_opening (course es)
+      → (course after).begun ≡ (course es).begun
   begun_but_opening same = ap (λ (k : Course D). k.begun) same
 
   -- a command that the container is given
-  pub asked_given : (c : Command) → but_starts (course after) ≡ but_starts (course (Stepped (step.Command c) ∷ es)) → asked after ≡ step.Command c ∷ asked es
+  pub asked_given : (c : Command) → but_starts (course after) ≡ but_starts (course (Stepped (step.Command c) ∷ es))
+      → asked after ≡ step.Command c ∷ asked es
   asked_given c given = ap (λ (k : Course D). k.asked) given
 
-  pub given_on : (mid : List (Event D)) (c : Command) → but_starts (course after) ≡ but_starts (course mid) → course mid ≡ course (Stepped (step.Command c) ∷ es) → but_starts (course after) ≡ but_starts (course (Stepped (step.Command c) ∷ es))
+  pub given_on : (mid : List (Event D)) (c : Command) → but_starts (course after) ≡ but_starts (course mid)
+      → course mid ≡ course (Stepped (step.Command c) ∷ es) → but_starts (course after)
+      ≡ but_starts (course (Stepped (step.Command c) ∷ es))
   given_on mid c same given = same ∙ ap but_starts given

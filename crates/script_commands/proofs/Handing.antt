@@ -18,4 +18,5 @@ let_go false held is = absurd (cc)
 
 -- what is released isn't held
 pub released : (c : ScriptCommand) (inc : ℕ) (held : Bool) → c ≡ script.Release inc → behind_hold c inc held ≡ false
-released c inc held is = ap (λ (x : ScriptCommand). behind_hold x inc held) is ∙ let_go (inc == inc) held (eq-eqb inc inc refl)
+released c inc held is = ap (λ (x : ScriptCommand). behind_hold x inc held) is
+    ∙ let_go (inc == inc) held (eq-eqb inc inc refl)

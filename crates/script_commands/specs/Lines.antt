@@ -5,7 +5,7 @@ use Rattle.store_model.specs.declared.disk.Disk.{Ghosts as Disks}
 use Rattle.container_core.specs.Opening.{looked_at}
 use Rattle.container_model.specs.declared.fault.ContainerFault.{ContainerFault}
 use Rattle.container_model.specs.declared.fault.ContainerFault.TheVariants.{NoSuch}
-use Rattle.container_screen.specs.Screen.{shown}
+use Rattle.container_core.specs.Screen.{shown}
 use Rattle.script_model.specs.Answers.{further, told_line}
 use Rattle.script_model.specs.Bounds.{pace}
 use Rattle.script_model.specs.Containers.{record_of}
@@ -34,15 +34,21 @@ abbrev pub IsCut : (ran links : ℕ) → Type 0
 IsCut zero links = Unit {0}
 IsCut (suc n) links = 1 ≤ links
 
--- What is printed of a command by itself: lines, and what is told first. The history before it is given, and its course, and how
--- often each server's link was made anew meanwhile.
-abbrev pub IsFirstOf : {D : Type 0} (disks : Disks D) → ScriptCommand → List (Event D) → Course D → (ℕ → ℕ) → List ℕ → Told → Type 0
-IsFirstOf disks (script.Container c) before k links lines first = (lines ≡ []) × (k.commanded ≡ Some first) × (k.unstarted ≡ [])
-IsFirstOf disks (script.Open name w h) before k links lines first = (lines ≡ []) × IsOpenTold disks (looked_at (record_of before) name w h) name w h k.opening first
+-- What is printed of a command by itself: lines, and what is told first. The history before it is given, and its
+-- course, and how often each server's link was made anew meanwhile.
+abbrev pub IsFirstOf : {D : Type 0} (disks : Disks D) → ScriptCommand → List (Event D) → Course D → (ℕ → ℕ) → List ℕ
+    → Told → Type 0
+IsFirstOf disks (script.Container c) before k links lines first = (lines ≡ []) × (k.commanded ≡ Some first)
+    × (k.unstarted ≡ [])
+IsFirstOf disks (script.Open name w h) before k links lines first = (lines ≡ [])
+    × IsOpenTold disks (looked_at (record_of before) name w h) name w h k.opening first
 IsFirstOf disks (script.Screen f) before k links lines first = IsShown (shown (record_of before) f) lines first
-IsFirstOf disks (script.Cut inc) before k links lines first = (lines ≡ []) × (first ≡ told_of_server (running inc before)) × IsCut (running inc before) (links inc)
-IsFirstOf disks (script.Hold inc) before k links lines first = (lines ≡ []) × (first ≡ told_of_server (running inc before))
-IsFirstOf disks (script.Release inc) before k links lines first = (lines ≡ []) × (first ≡ told_of_server (running inc before))
+IsFirstOf disks (script.Cut inc) before k links lines first = (lines ≡ [])
+    × (first ≡ told_of_server (running inc before)) × IsCut (running inc before) (links inc)
+IsFirstOf disks (script.Hold inc) before k links lines first = (lines ≡ [])
+    × (first ≡ told_of_server (running inc before))
+IsFirstOf disks (script.Release inc) before k links lines first = (lines ≡ [])
+    × (first ≡ told_of_server (running inc before))
 
 -- A command began, and this is so of the history before it.
 abbrev pub IfBegun : {D : Type 0} → Option (ℕ × List (Event D)) → (List (Event D) → Type 0) → Type 0
@@ -52,9 +58,10 @@ IfBegun (Some b) P = P b.1
 abbrev pub IsFirst : {D : Type 0} (disks : Disks D) → ScriptCommand → Course D → (ℕ → ℕ) → List ℕ → Told → Type 0
 IsFirst disks c k links lines first = IfBegun k.begun (λ before. IsFirstOf disks c before k links lines first)
 
--- What is printed of a command that ended, over the history at its end: its lines, and a line with what is told first of it; or, where
--- this is that it was done, with what was noticed first since it began.
-pub record IsLine {D : Type 0} (disks : Disks D) (c : ScriptCommand) (es : List (Event D)) (text : List ℕ) : Type 0 where
+-- What is printed of a command that ended, over the history at its end: its lines, and a line with what is told first
+-- of it; or, where this is that it was done, with what was noticed first since it began.
+pub record IsLine {D : Type 0} (disks : Disks D) (c : ScriptCommand) (es : List (Event D)) (text : List ℕ) : Type
+    0 where
   pub lines : List ℕ
   pub first : Told
   pub noticed : Option Told
@@ -63,7 +70,8 @@ pub record IsLine {D : Type 0} (disks : Disks D) (c : ScriptCommand) (es : List 
   pub spelled : text ≡ lines ++ told_line (further first noticed)
 
 -- A writer got what is printed of a command.
-pub record HasLine {D : Type 0} (disks : Disks D) (c : ScriptCommand) (es : List (Event D)) (old new : Option (List ℕ)) : Type 0 where
+pub record HasLine {D : Type 0} (disks : Disks D) (c : ScriptCommand) (es : List (Event D))
+    (old new : Option (List ℕ)) : Type 0 where
   pub line : List ℕ
   pub written : Appends old new line
   pub printed : IsLine disks c es line
@@ -77,7 +85,8 @@ pub record IsBeginning {D : Type 0} (es : List (Event D)) : Type 0 where
   pub last : es ≡ Stepped (step.Begins place) ∷ before
 
 -- Behind what was written before, the lines of a command, of which this is told first.
-pub record IsBegunWith {D : Type 0} (disks : Disks D) (c : ScriptCommand) (es : List (Event D)) (old new : List ℕ) (first : Told) : Type 0 where
+pub record IsBegunWith {D : Type 0} (disks : Disks D) (c : ScriptCommand) (es : List (Event D)) (old new : List ℕ)
+    (first : Told) : Type 0 where
   pub lines : List ℕ
   pub added : new ≡ old ++ lines
   pub told : IsFirst disks c (course es) (λ s. (pace s es).links) lines first

@@ -1,6 +1,6 @@
 //! What a command of a script does, and what is printed of it.
 
-ghost use Rattle.container_screen.specs.Screen.{shown};
+ghost use Rattle.container_core.specs.Screen.{shown};
 ghost use Rattle.script_model.specs.Bounds.{pace, resting};
 ghost use Rattle.script_model.specs.Courses.{course};
 ghost use Rattle.script_model.specs.Errors.{behind_hold};
@@ -10,7 +10,7 @@ ghost use Rattle.script_model.specs.Saved.{is_any_unsaved};
 ghost use Rattle.script_links.specs.Links.{AreHeld, AreLinked, AreServed, HoldFor};
 ghost use Rattle.script_links.specs.Ready.{AreReady};
 ghost use Rattle.script_links.specs.Shown.{AreQuiet, Shows};
-ghost use Rattle.script_links.specs.Told.{IsTold};
+ghost use Rattle.script_container.specs.Told.{IsTold};
 ghost use Rattle.script_commands.specs.Lines.{HasLine, IsBeginning, IsBegunWith, IsShown};
 ghost use Rattle.script_container.specs.Handed.{handed};
 ghost use Rattle.script_container.specs.declared.fault.ScriptFault.TheVariants.{NoMemory, Unwritable};
@@ -21,7 +21,7 @@ use crate::holding::{hold_link, release_link};
 use crate::ordering::order;
 use crate::unsaved::is_any_unsaved;
 use container_core::container::ContainerCore;
-use script_links::fault::ScriptFault;
+use script_container::fault::ScriptFault;
 use script_links::links::Link;
 use script_links::turns::turns;
 use script_model::answer::Told;
@@ -33,7 +33,7 @@ use script_texts::answers::{further, push_told};
 use std::alloc::Global;
 use std::io::Write;
 use store_model::disk::Disk;
-use texts::output::write_all;
+use text_io::output::write_all;
 
 /// Shows a frame.
 fn show(
@@ -43,7 +43,8 @@ fn show(
     text: &mut Vec<u8>,
 ) -> Result<Told, ScriptFault>
     ensures lacking { IfErr result (λ fault. fault ≡ NoMemory) }
-    ensures first { IfOk result (λ t. (lines : List ℕ) × (text.new.items ≡ text.old.items ++ lines) × IsShown (shown core.now frame) lines t) }
+    ensures first { IfOk result (λ t. (lines : List ℕ) × (text.new.items ≡ text.old.items ++ lines)
+        × IsShown (shown core.now frame) lines t) }
 {
     match core.screen(alloc, frame) {
         Ok(lines) => {
@@ -77,10 +78,12 @@ fn begin<H: Host>(
     ensures ordered { OnOk result (orders (H.told host.new) ≡ behind_command command (orders (H.told host.old))) }
     ensures begun { IsBegun command (orders (H.told host.old)) (orders (H.told host.new)) }
     ensures standing { (course (H.told host.new)).begun ≡ (course (H.told host.old)).begun }
-    ensures first { IfOk result (λ t. IsBegunWith ⟦<H::Disk as Disk>⟧ command (H.told host.new) text.old.items text.new.items t) }
+    ensures first { IfOk result (λ t. IsBegunWith ⟦<H::Disk as Disk>⟧ command (H.told host.new) text.old.items
+        text.new.items t) }
     ensures seen { OnOk result (Tells (notices (H.told host.new)) noticed.new) }
     ensures shown { IfErr result (λ fault. Shows ⟦<H::Disk as Disk>⟧ (H.told host.new) fault) }
-    ensures holding { (f : ℕ → Bool) → AreHeld f links.old.items → HoldFor (λ s. behind_hold command s (f s)) links.new.items }
+    ensures holding { (f : ℕ → Bool) → AreHeld f links.old.items
+        → HoldFor (λ s. behind_hold command s (f s)) links.new.items }
     ensures handing { (f : ℕ → Bool) → handed (λ s. behind_hold command s (f s)) (H.told host.new) ≡ 0 }
 {
     match command {
@@ -118,11 +121,14 @@ pub fn carry_out<H: Host, W: Write>(
     ensures ordered { OnOk result (orders (H.told host.new) ≡ behind_command command (orders (H.told host.old))) }
     ensures begun { IsBegun command (orders (H.told host.old)) (orders (H.told host.new)) }
     ensures standing { (course (H.told host.new)).begun ≡ (course (H.told host.old)).begun }
-    ensures printed { OnOk result (HasLine ⟦<H::Disk as Disk>⟧ command (H.told host.new) (W.contents writer.old) (W.contents writer.new)) }
+    ensures printed { OnOk result (HasLine ⟦<H::Disk as Disk>⟧ command (H.told host.new) (W.contents writer.old)
+        (W.contents writer.new)) }
     ensures unwritten { IfErr result (λ fault. fault ≢ Unwritable → W.contents writer.new ≡ W.contents writer.old) }
     ensures shown { IfErr result (λ fault. Shows ⟦<H::Disk as Disk>⟧ (H.told host.new) fault) }
-    ensures holding { (f : ℕ → Bool) → AreHeld f links.old.items → HoldFor (λ s. behind_hold command s (f s)) links.new.items }
-    ensures handing { (f : ℕ → Bool) → AreHeld f links.old.items → handed (λ s. behind_hold command s (f s)) (H.told host.new) ≡ 0 }
+    ensures holding { (f : ℕ → Bool) → AreHeld f links.old.items
+        → HoldFor (λ s. behind_hold command s (f s)) links.new.items }
+    ensures handing { (f : ℕ → Bool) → AreHeld f links.old.items
+        → handed (λ s. behind_hold command s (f s)) (H.told host.new) ≡ 0 }
 {
     let mut noticed = None;
     let mut text = Vec::new(alloc);

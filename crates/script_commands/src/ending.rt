@@ -5,14 +5,14 @@ ghost use Rattle.script_model.specs.Courses.{course};
 ghost use Rattle.script_model.specs.Notices.{Tells, notices};
 ghost use Rattle.script_links.specs.Links.{AreLinked, AreServed, HoldFor};
 ghost use Rattle.script_links.specs.Shown.{Shows};
-ghost use Rattle.script_links.specs.Told.{IsTold};
+ghost use Rattle.script_container.specs.Told.{IsTold};
 ghost use Rattle.script_container.specs.Handed.{handed};
 ghost use Rattle.std.specs.Prelude.{◌≡◌, Bool, IfErr, OnOk, ℕ};
 
 use crate::placing::place_of;
 use container_core::container::ContainerCore;
 use container_model::answer::{Action, Answer};
-use script_links::fault::ScriptFault;
+use script_container::fault::ScriptFault;
 use script_links::links::Link;
 use script_links::turns::end_at;
 use script_model::answer::Told;

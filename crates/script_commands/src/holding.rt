@@ -10,16 +10,17 @@ ghost use Rattle.script_model.specs.declared.command.ScriptCommand.TheVariants a
 ghost use Rattle.script_links.specs.Links.{AreLinked, AreServed, EachServed, HoldFor, IsLinkAt, beside, links_of};
 ghost use Rattle.script_links.specs.Ready.{AreReady};
 ghost use Rattle.script_links.specs.Shown.{Shows};
-ghost use Rattle.script_links.specs.Told.{IsTold};
+ghost use Rattle.script_container.specs.Told.{IsTold};
 ghost use Rattle.script_commands.specs.Lines.{told_of_server};
 ghost use Rattle.script_container.specs.Handed.{handed};
 ghost use Rattle.script_links.specs.declared.links.Link.{Link};
-ghost use Rattle.std.specs.Prelude.{◌≡◌, ◌≤◌, ◌<◌, Bool, [], false, true, IfErr, IfOk, OnOk, length, ℕ, slice_index_or, slice_set};
+ghost use Rattle.std.specs.Prelude.{◌≡◌, ◌≤◌, ◌<◌, Bool, [], false, true, IfErr, IfOk, OnOk, length, ℕ, slice_index_or};
+ghost use Rattle.std.specs.Prelude.{slice_set};
 
 use crate::placing::place_of;
 use container_core::container::ContainerCore;
 use container_model::fault::ContainerFault;
-use script_links::fault::ScriptFault;
+use script_container::fault::ScriptFault;
 use script_links::links::{Link, hand_over};
 use script_links::turns::end_at;
 use script_links::waiting::Waiting;
@@ -44,7 +45,8 @@ fn hand_all<H: Host>(
     ensures still { (s : ℕ) → running s (H.told host.new) ≡ running s (H.told host.old) }
     ensures apart { (s : ℕ) → beside inc s (H.told host.new) ≡ beside inc s (H.told host.old) }
     ensures handing { (f : ℕ → Bool) → f inc ≡ false → handed f (H.told host.new) ≡ handed f (H.told host.old) }
-    ensures given { IfOk result (λ all. all ≡ true → passed inc (H.told host.new) ≡ giving waiting (passed inc (H.told host.old))) }
+    ensures given { IfOk result (λ all. all ≡ true → passed inc (H.told host.new)
+        ≡ giving waiting (passed inc (H.told host.old))) }
     ensures paced { (s : ℕ) → pace s (H.told host.new) ≡ pace s (H.told host.old) }
     ensures ordered { course (H.told host.new) ≡ course (H.told host.old) }
     ensures seen { OnOk result (Tells (notices (H.told host.new)) noticed.new) }
@@ -62,7 +64,8 @@ fn hand_all<H: Host>(
 fn let_go(alloc: Global, links: &mut Vec<Link>, place: usize) -> Waiting
     requires { place < length links.old.items }
     ensures same { (s : ℕ) → links_of s links.new.items ≡ links_of s links.old.items }
-    ensures changed { (d : Link) → links.new.items ≡ slice_set links.old.items place (record (slice_index_or links.old.items place d) { held = false; waiting = [] }) }
+    ensures changed { (d : Link) → links.new.items ≡ slice_set links.old.items place
+        (record (slice_index_or links.old.items place d) { held = false; waiting = [] }) }
     ensures waited { (d : Link) → result ≡ (slice_index_or links.old.items place d).waiting }
     ensures many { length links.new.items ≡ length links.old.items }
 {
@@ -89,11 +92,13 @@ fn release<H: Host>(
     ensures linked { AreLinked (H.told host.new) links.new.items }
     ensures served { OnOk result (AreServed (H.told host.new) links.new.items) }
     ensures paced { (s : ℕ) → pace s (H.told host.new) ≡ pace s (H.told host.old) }
-    ensures handing { (f : ℕ → Bool) (inc : ℕ) → IsLinkAt links.old.items place inc → f inc ≡ false → handed f (H.told host.new) ≡ handed f (H.told host.old) }
+    ensures handing { (f : ℕ → Bool) (inc : ℕ) → IsLinkAt links.old.items place inc → f inc ≡ false
+        → handed f (H.told host.new) ≡ handed f (H.told host.old) }
     ensures ordered { course (H.told host.new) ≡ course (H.told host.old) }
     ensures seen { OnOk result (Tells (notices (H.told host.new)) noticed.new) }
     ensures shown { IfErr result (λ fault. Shows ⟦<H::Disk as Disk>⟧ (H.told host.new) fault) }
-    ensures holding { (f : ℕ → Bool) (inc : ℕ) → IsLinkAt links.old.items place inc → HoldFor f links.old.items → HoldFor (λ s. behind_hold (script.Release inc) s (f s)) links.new.items }
+    ensures holding { (f : ℕ → Bool) (inc : ℕ) → IsLinkAt links.old.items place inc → HoldFor f links.old.items
+        → HoldFor (λ s. behind_hold (script.Release inc) s (f s)) links.new.items }
 {
     let inc = links[place].inc;
     let waiting = let_go(alloc, links, place);
@@ -108,7 +113,9 @@ fn hold(links: &mut Vec<Link>, place: usize)
     requires { place < length links.old.items }
     ensures same { (s : ℕ) → links_of s links.new.items ≡ links_of s links.old.items }
     ensures served { (f : ℕ → Passed) → EachServed f links.old.items → EachServed f links.new.items }
-    ensures holding { (f : ℕ → Bool) (inc : ℕ) → IsLinkAt links.old.items place inc → links_of inc links.old.items ≤ 1 → HoldFor f links.old.items → HoldFor (λ s. behind_hold (script.Hold inc) s (f s)) links.new.items }
+    ensures holding { (f : ℕ → Bool) (inc : ℕ) → IsLinkAt links.old.items place inc
+        → links_of inc links.old.items ≤ 1 → HoldFor f links.old.items
+        → HoldFor (λ s. behind_hold (script.Hold inc) s (f s)) links.new.items }
 {
     links[place].held = true;
 }
@@ -135,7 +142,8 @@ pub(crate) fn release_link<H: Host>(
     ensures first { IfOk result (λ t. t ≡ told_of_server (running inc (H.told host.old))) }
     ensures seen { OnOk result (Tells (notices (H.told host.new)) noticed.new) }
     ensures shown { IfErr result (λ fault. Shows ⟦<H::Disk as Disk>⟧ (H.told host.new) fault) }
-    ensures holding { (f : ℕ → Bool) → HoldFor f links.old.items → HoldFor (λ s. behind_hold (script.Release inc) s (f s)) links.new.items }
+    ensures holding { (f : ℕ → Bool) → HoldFor f links.old.items
+        → HoldFor (λ s. behind_hold (script.Release inc) s (f s)) links.new.items }
     ensures handing { (f : ℕ → Bool) → f inc ≡ false → handed f (H.told host.new) ≡ handed f (H.told host.old) }
 {
     let Some(place) = place_of(links, inc) else {
@@ -150,7 +158,8 @@ pub(crate) fn hold_link(links: &mut Vec<Link>, inc: u32) -> Told
     ensures first { (n : ℕ) → n ≡ links_of inc links.old.items → result ≡ told_of_server n }
     ensures same { (s : ℕ) → links_of s links.new.items ≡ links_of s links.old.items }
     ensures served { (f : ℕ → Passed) → EachServed f links.old.items → EachServed f links.new.items }
-    ensures holding { (f : ℕ → Bool) → links_of inc links.old.items ≤ 1 → HoldFor f links.old.items → HoldFor (λ s. behind_hold (script.Hold inc) s (f s)) links.new.items }
+    ensures holding { (f : ℕ → Bool) → links_of inc links.old.items ≤ 1 → HoldFor f links.old.items
+        → HoldFor (λ s. behind_hold (script.Hold inc) s (f s)) links.new.items }
 {
     let Some(place) = place_of(links, inc) else {
         return Told::Fault(ContainerFault::NoSuch);

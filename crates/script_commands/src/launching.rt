@@ -5,7 +5,7 @@ ghost use Rattle.script_model.specs.Courses.{but_starts, course, starts_in, with
 ghost use Rattle.script_model.specs.Notices.{notices};
 ghost use Rattle.script_links.specs.Links.{AreHeld, AreLinked, AreServed};
 ghost use Rattle.script_links.specs.Shown.{Shows};
-ghost use Rattle.script_links.specs.Told.{IsTold};
+ghost use Rattle.script_container.specs.Told.{IsTold};
 ghost use Rattle.script_commands.specs.Starts.{AreIn};
 ghost use Rattle.script_container.specs.Handed.{handed};
 ghost use Rattle.std.specs.Prelude.{◌≡◌, ◌≢◌, ◌<◌, ◌++◌, ◌∷◌, Bool, [], IfErr, List, OnOk, ℕ, vec_capacity, vec_len};
@@ -13,13 +13,14 @@ ghost use Rattle.std.specs.Prelude.{◌≡◌, ◌≢◌, ◌<◌, ◌++◌, ◌
 use crate::placing::place_of;
 use container_core::container::ContainerCore;
 use container_model::answer::{Action, Answer};
-use script_links::fault::ScriptFault;
+use script_container::fault::ScriptFault;
 use script_links::links::Link;
 use script_model::host::{Host, HostFault};
 use std::alloc::Global;
 use store_model::disk::Disk;
 
-/// Starts a server in the container's session, and makes its link. One that has a link runs already. The container stays as it is.
+/// Starts a server in the container's session, and makes its link. One that has a link runs already. The container
+/// stays as it is.
 fn start<H: Host>(
     alloc: Global,
     host: &mut H,
@@ -38,7 +39,8 @@ fn start<H: Host>(
     ensures handing { (f : ℕ → Bool) → handed f (H.told host.new) ≡ handed f (H.told host.old) }
     ensures ordered { but_starts (course (H.told host.new)) ≡ but_starts (course (H.told host.old)) }
     ensures noticed { notices (H.told host.new) ≡ notices (H.told host.old) }
-    ensures tried { OnOk result ((course (H.told host.new)).unstarted ≡ without inc (course (H.told host.old)).unstarted) }
+    ensures tried { OnOk result ((course (H.told host.new)).unstarted
+        ≡ without inc (course (H.told host.old)).unstarted) }
     ensures shown { IfErr result (λ fault. Shows ⟦<H::Disk as Disk>⟧ (H.told host.new) fault) }
     ensures holding { (f : ℕ → Bool) → AreHeld f links.old.items → AreHeld f links.new.items }
 {
@@ -85,7 +87,8 @@ fn start_on<H: Host>(
     ensures handing { (f : ℕ → Bool) → handed f (H.told host.new) ≡ handed f (H.told host.old) }
     ensures ordered { but_starts (course (H.told host.new)) ≡ but_starts (course (H.told host.old)) }
     ensures noticed { notices (H.told host.new) ≡ notices (H.told host.old) }
-    ensures tried { (incs : List ℕ) → AreIn (course (H.told host.old)).unstarted (with_start action.now incs) → OnOk result (AreIn (course (H.told host.new)).unstarted incs) }
+    ensures tried { (incs : List ℕ) → AreIn (course (H.told host.old)).unstarted (with_start action.now incs)
+        → OnOk result (AreIn (course (H.told host.new)).unstarted incs) }
     ensures shown { IfErr result (λ fault. Shows ⟦<H::Disk as Disk>⟧ (H.told host.new) fault) }
     ensures holding { (f : ℕ → Bool) → AreHeld f links.old.items → AreHeld f links.new.items }
 {

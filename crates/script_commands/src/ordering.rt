@@ -14,7 +14,7 @@ ghost use Rattle.script_model.specs.declared.command.ScriptCommand.TheVariants a
 ghost use Rattle.script_model.specs.declared.step.Step.{Step};
 ghost use Rattle.script_links.specs.Links.{AreHeld, AreLinked, AreServed, HoldFor};
 ghost use Rattle.script_links.specs.Shown.{Shows};
-ghost use Rattle.script_links.specs.Told.{IsTold};
+ghost use Rattle.script_container.specs.Told.{IsTold};
 ghost use Rattle.script_commands.specs.Starts.{AreIn};
 ghost use Rattle.script_container.specs.Handed.{handed};
 ghost use Rattle.std.specs.Prelude.{◌≡◌, ◌∷◌, Bool, [], false, true, IfErr, IfOk, List, OnOk, Some, ℕ};
@@ -24,10 +24,10 @@ use crate::launching::start_asked;
 use container_core::container::ContainerCore;
 use container_model::answer::Answer;
 use container_model::command::Command;
-use script_links::container::command;
-use script_links::fault::ScriptFault;
+use script_container::container::command;
+use script_container::fault::ScriptFault;
+use script_container::saves::save_all;
 use script_links::links::Link;
-use script_links::saves::save_all;
 use script_model::answer::Told;
 use script_model::host::Host;
 use script_opens::refusals::refusal;
@@ -35,8 +35,8 @@ use script_texts::answers::made_by;
 use std::alloc::Global;
 use store_model::disk::Disk;
 
-/// Does what the container asks for: starts servers, ends servers, and commits files. What is to be sent is pending, and is sent
-/// with the next turn.
+/// Does what the container asks for: starts servers, ends servers, and commits files. What is to be sent is pending,
+/// and is sent with the next turn.
 fn act<H: Host>(
     alloc: Global,
     host: &mut H,
@@ -67,8 +67,8 @@ fn act<H: Host>(
     save_all(alloc, host, core, answer, noticed)
 }
 
-/// Gives the container a user's command, and does what it asks for. A start comes where it has a session, or was to get one by the
-/// command before.
+/// Gives the container a user's command, and does what it asks for. A start comes where it has a session, or was to get
+/// one by the command before.
 fn give<H: Host>(
     alloc: Global,
     host: &mut H,
@@ -88,7 +88,8 @@ fn give<H: Host>(
     ensures served { AreServed (H.told host.new) links.new.items }
     ensures paced { (s : ℕ) → pace s (H.told host.new) ≡ pace s (H.told host.old) }
     ensures handing { (f : ℕ → Bool) → handed f (H.told host.new) ≡ handed f (H.told host.old) }
-    ensures ordered { but_starts (course (H.told host.new)) ≡ but_starts (course (Stepped (Step.Command ordered) ∷ H.told host.old)) }
+    ensures ordered { but_starts (course (H.told host.new))
+        ≡ but_starts (course (Stepped (Step.Command ordered) ∷ H.told host.old)) }
     ensures tried { OnOk result ((course (H.told host.new)).unstarted ≡ []) }
     ensures answered { IfOk result (λ t. t ≡ told_by (on_command core.old ordered)) }
     ensures seen { OnOk result (Tells (notices (H.told host.new)) noticed.new) }
@@ -117,8 +118,8 @@ fn is_first_start(core: &ContainerCore, ordered: &Command) -> bool
     }
 }
 
-/// Has the session of a container raised that has none: its first frame's file is to be saved. No server is started by that, and
-/// none ended.
+/// Has the session of a container raised that has none: its first frame's file is to be saved. No server is started by
+/// that, and none ended.
 fn raise<H: Host>(
     alloc: Global,
     host: &mut H,
@@ -134,7 +135,8 @@ fn raise<H: Host>(
     ensures quiet { (s : ℕ) → passed s (H.told host.new) ≡ passed s (H.told host.old) }
     ensures paced { (s : ℕ) → pace s (H.told host.new) ≡ pace s (H.told host.old) }
     ensures handing { (f : ℕ → Bool) → handed f (H.told host.new) ≡ handed f (H.told host.old) }
-    ensures ordered { but_starts (course (H.told host.new)) ≡ but_starts (course (Stepped (Step.Command asks.Session) ∷ H.told host.old)) }
+    ensures ordered { but_starts (course (H.told host.new))
+        ≡ but_starts (course (Stepped (Step.Command asks.Session) ∷ H.told host.old)) }
     ensures tried { OnOk result ((course (H.told host.new)).unstarted ≡ []) }
     ensures answered { IfOk result (λ t. t ≡ told_by (on_command core.old asks.Session)) }
     ensures seen { OnOk result (Tells (notices (H.told host.new)) noticed.new) }
@@ -149,8 +151,8 @@ fn raise<H: Host>(
     }
 }
 
-/// Starts a server in a container that has no session: first its session is raised. Gives what is told of the start, or, where
-/// there is no session then either, of what was to raise it.
+/// Starts a server in a container that has no session: first its session is raised. Gives what is told of the start,
+/// or, where there is no session then either, of what was to raise it.
 fn start_first<H: Host>(
     alloc: Global,
     host: &mut H,
@@ -172,7 +174,8 @@ fn start_first<H: Host>(
     ensures ordered { OnOk result (orders (H.told host.new) ≡ behind_given asks.Start (orders (H.told host.old))) }
     ensures begun { IsBegun (script.Container asks.Start) (orders (H.told host.old)) (orders (H.told host.new)) }
     ensures standing { (course (H.told host.new)).begun ≡ (course (H.told host.old)).begun }
-    ensures first { IfOk result (λ t. ((course (H.told host.new)).commanded ≡ Some t) × ((course (H.told host.new)).unstarted ≡ [])) }
+    ensures first { IfOk result (λ t. ((course (H.told host.new)).commanded ≡ Some t)
+        × ((course (H.told host.new)).unstarted ≡ [])) }
     ensures seen { OnOk result (Tells (notices (H.told host.new)) noticed.new) }
     ensures shown { IfErr result (λ fault. Shows ⟦<H::Disk as Disk>⟧ (H.told host.new) fault) }
     ensures holding { (f : ℕ → Bool) → AreHeld f links.old.items → HoldFor f links.new.items }
@@ -208,7 +211,8 @@ pub(crate) fn order<H: Host>(
     ensures ordered { OnOk result (orders (H.told host.new) ≡ behind_given ordered (orders (H.told host.old))) }
     ensures begun { IsBegun (script.Container ordered) (orders (H.told host.old)) (orders (H.told host.new)) }
     ensures standing { (course (H.told host.new)).begun ≡ (course (H.told host.old)).begun }
-    ensures first { IfOk result (λ t. ((course (H.told host.new)).commanded ≡ Some t) × ((course (H.told host.new)).unstarted ≡ [])) }
+    ensures first { IfOk result (λ t. ((course (H.told host.new)).commanded ≡ Some t)
+        × ((course (H.told host.new)).unstarted ≡ [])) }
     ensures seen { OnOk result (Tells (notices (H.told host.new)) noticed.new) }
     ensures shown { IfErr result (λ fault. Shows ⟦<H::Disk as Disk>⟧ (H.told host.new) fault) }
     ensures holding { (f : ℕ → Bool) → AreHeld f links.old.items → HoldFor f links.new.items }

@@ -1,7 +1,7 @@
 -- Which commits of frames' files are done.
 use Rattle.std.specs.Prelude.{◌≡◌, ◌⊎◌, ℕ, Bool, false, List, Option, Some, None}
 use Rattle.std.specs.List.{All}
-use Rattle.wire_msgs.specs.Found.{nth}
+use Rattle.message_values.specs.Found.{nth}
 use Rattle.container_model.specs.Record.{Record, is_doubtful}
 use Rattle.container_model.specs.Saves.{is_committing}
 use Rattle.container_model.specs.declared.answer.Action.{Action}

@@ -7,7 +7,7 @@ ghost use Rattle.container_model.specs.Saves.{image};
 ghost use Rattle.container_model.specs.declared.answer.FrameDocument.{FrameDocument};
 ghost use Rattle.container_model.specs.declared.fault.ContainerFault.TheVariants as container;
 ghost use Rattle.container_model.specs.declared.command.Command.{Command};
-ghost use Rattle.document_model.specs.declared.object.DocObject.{DocObject};
+ghost use Rattle.ole_model.specs.declared.object.DocObject.{DocObject};
 ghost use Rattle.script_model.specs.Bounds.{pace};
 ghost use Rattle.script_model.specs.Containers.{record_of};
 ghost use Rattle.script_model.specs.Events.{Stepped, running};
@@ -25,7 +25,7 @@ ghost use Rattle.script_container.specs.Shown.{Shows};
 ghost use Rattle.script_container.specs.Told.{IsEnded, IsTold, noted_of};
 ghost use Rattle.script_container.specs.declared.fault.ScriptFault.TheVariants.{NoMemory};
 ghost use Rattle.std.specs.Prelude.{◌≡◌, ◌≢◌, ◌≤◌, ◌∷◌, [], Bool, IfErr, IfOk, List, Ok, OnOk, Some, false, length, ℕ};
-ghost use Rattle.wire_msgs.specs.declared.message.Message.{Message};
+ghost use Rattle.message_values.specs.declared.message.Message.{Message};
 
 use crate::fault::ScriptFault;
 use container_core::container::ContainerCore;
@@ -35,15 +35,15 @@ use container_model::command::Command;
 use container_model::fault::ContainerFault;
 use container_model::server_link::ServerLink;
 use container_numbers::sound_laws::sessions_stay;
+use message_values::items::Items;
+use message_values::message::Message;
 use ole_streams::doc::Doc;
 use script_model::answer::Told;
 use script_model::host::Host;
 use script_model::step::Step;
 use std::alloc::Global;
 use store_model::disk::Disk;
-use stored_values::bytes::Bytes;
-use wire_msgs::items::Items;
-use wire_msgs::message::Message;
+use tree_values::bytes::Bytes;
 
 /// The command of a step.
 fn command_of(step: Step) -> Option<Command>
@@ -67,7 +67,8 @@ fn message_of(step: Step) -> Option<Message>
 
 /// The name of a step's file.
 fn name_of(step: Step) -> Option<Bytes>
-    ensures { (name : List ℕ) (w h session : ℕ) (objects : List DocObject) → step ≡ given.Open name w h session objects → result ≡ Some name }
+    ensures { (name : List ℕ) (w h session : ℕ) (objects : List DocObject)
+        → step ≡ given.Open name w h session objects → result ≡ Some name }
 {
     match step {
         Step::Open(name, _, _, _, _) => Some(name),
@@ -148,8 +149,10 @@ pub fn message<H: Host>(
     ensures handing { (f : ℕ → Bool) → f inc ≡ false → handed f (H.told host.new) ≡ handed f (H.told host.old) }
     ensures paced { (s : ℕ) → pace s (H.told host.new) ≡ pace s (H.told host.old) }
     ensures ordered { course (H.told host.new) ≡ course (H.told host.old) }
-    ensures noticed { IfOk result (λ a. notices (H.told host.new) ≡ first_noticed (notices (H.told host.old)) (refusal_noticed a.refused)) }
-    ensures unnoticed { IfErr result (λ fault. fault ≢ container.NoMemory → notices (H.told host.new) ≡ notices (H.told host.old)) }
+    ensures noticed { IfOk result (λ a. notices (H.told host.new) ≡ first_noticed (notices (H.told host.old))
+        (refusal_noticed a.refused)) }
+    ensures unnoticed { IfErr result (λ fault. fault ≢ container.NoMemory
+        → notices (H.told host.new) ≡ notices (H.told host.old)) }
 {
     let step = Step::Message(inc, message);
     host.note(&step);
@@ -184,10 +187,13 @@ pub fn opened<H: Host>(
     ensures handing { (f : ℕ → Bool) → handed f (H.told host.new) ≡ handed f (H.told host.old) }
     ensures paced { (s : ℕ) → pace s (H.told host.new) ≡ pace s (H.told host.old) }
     ensures few { IfOk result (λ a. length a.objects ≤ 64) }
-    ensures ordered { course (H.told host.new) ≡ course (Stepped (Step.Open name width height document.session document.objects) ∷ H.told host.old) }
+    ensures ordered { course (H.told host.new)
+        ≡ course (Stepped (Step.Open name width height document.session document.objects) ∷ H.told host.old) }
     ensures noticed { notices (H.told host.new) ≡ notices (H.told host.old) }
-    ensures answered { IfOk result (λ a. told_opened (opened core.old name width height (Given.Holding document)) ≡ opened_by a) }
-    ensures refused { IfErr result (λ fault. fault ≢ container.NoMemory → told_opened (opened core.old name width height (Given.Holding document)) ≡ Told.Fault fault) }
+    ensures answered { IfOk result (λ a. told_opened (opened core.old name width height (Given.Holding document))
+        ≡ opened_by a) }
+    ensures refused { IfErr result (λ fault. fault ≢ container.NoMemory
+        → told_opened (opened core.old name width height (Given.Holding document)) ≡ Told.Fault fault) }
 {
     files_give_one();
     let session = document.session();
@@ -233,8 +239,8 @@ fn heard(told: &Result<Answer, ContainerFault>) -> Result<(), ScriptFault>
     }
 }
 
-/// Tells the container that the file of a frame was committed: the disk that was given back last holds it. So its commit is done, unless
-/// it was in doubt; every other frame is as it was.
+/// Tells the container that the file of a frame was committed: the disk that was given back last holds it. So its
+/// commit is done, unless it was in doubt; every other frame is as it was.
 pub fn committed<H: Host>(
     alloc: Global,
     host: &mut H,
@@ -252,15 +258,16 @@ pub fn committed<H: Host>(
     ensures noticed { notices (H.told host.new) ≡ notices (H.told host.old) }
     ensures shown { IfErr result (λ fault. Shows ⟦<H::Disk as Disk>⟧ (H.told host.new) fault) }
     ensures others { OnlyDone core.old core.new }
-    ensures done { OnOk result ((saved : FrameDocument) → image core.old frame ≡ Ok saved → IsCertain core.old frame → IsDone core.new frame) }
+    ensures done { OnOk result ((saved : FrameDocument) → image core.old frame ≡ Ok saved → IsCertain core.old frame
+        → IsDone core.new frame) }
 {
     host.note(&Step::Committed(frame));
     let told = core.commit_done(alloc, frame);
     heard(&noted(host, told))
 }
 
-/// Tells the container that the commit of a frame's file failed: the disk that was given back last holds what it held before, or
-/// no file can hold its document. That takes no memory.
+/// Tells the container that the commit of a frame's file failed: the disk that was given back last holds what it held
+/// before, or no file can hold its document. That takes no memory.
 pub fn failed<H: Host>(alloc: Global, host: &mut H, core: &mut ContainerCore, frame: u32)
     requires lost { IsLost ⟦<H::Disk as Disk>⟧ (H.told host.old) frame }
     requires told { IsTold ⟦<H::Disk as Disk>⟧ (H.told host.old) core.old }
@@ -270,7 +277,8 @@ pub fn failed<H: Host>(alloc: Global, host: &mut H, core: &mut ContainerCore, fr
     ensures handing { (f : ℕ → Bool) → handed f (H.told host.new) ≡ handed f (H.told host.old) }
     ensures paced { (s : ℕ) → pace s (H.told host.new) ≡ pace s (H.told host.old) }
     ensures ordered { course (H.told host.new) ≡ course (H.told host.old) }
-    ensures noticed { notices (H.told host.new) ≡ first_noticed (notices (H.told host.old)) (Some (lost_as (image core.old frame))) }
+    ensures noticed { notices (H.told host.new) ≡ first_noticed (notices (H.told host.old))
+        (Some (lost_as (image core.old frame))) }
     ensures others { OnlyDoneBut frame core.old core.new }
     ensures answered { IsAnswered core.new frame }
 {

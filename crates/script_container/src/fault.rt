@@ -2,8 +2,8 @@
 
 use std::alloc::AllocError;
 use store_model::fault::StoreFault;
-use texts::input::InputFault;
-use texts::lines::SyntaxFault;
+use text_io::input::InputFault;
+use text_io::lines::SyntaxFault;
 use thiserror::Error;
 
 /// Why a script isn't carried out to its end.

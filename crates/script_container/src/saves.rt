@@ -1,10 +1,10 @@
-//! Saves: the file of a frame whose commit is asked for goes to a disk of the host, and the container is told what became of it.
-//! The container makes it of the file that it committed last, so that few blocks of the disk are written; what that frees is zero.
-//! That the blocks are few is tested.
+//! Saves: the file of a frame whose commit is asked for goes to a disk of the host, and the container is told what
+//! became of it. The container makes it of the file that it committed last, so that few blocks of the disk are written;
+//! what that frees is zero. That the blocks are few is tested.
 
 ghost use Rattle.container_model.specs.Record.{Record};
 ghost use Rattle.container_model.specs.Saves.{image};
-ghost use Rattle.doc_store.specs.Opened.{disk_of, needs_reopen_of};
+ghost use Rattle.store_core.specs.Opened.{disk_of, needs_reopen_of};
 ghost use Rattle.script_model.specs.Answers.{first_told};
 ghost use Rattle.script_model.specs.Bounds.{pace};
 ghost use Rattle.script_model.specs.Courses.{course};
@@ -12,7 +12,8 @@ ghost use Rattle.script_model.specs.Errors.{IsUnopened, IsUntoldFor};
 ghost use Rattle.script_model.specs.Events.{running};
 ghost use Rattle.script_model.specs.Notices.{Notes, Tells, first_noticed, lost_as, notices};
 ghost use Rattle.script_model.specs.Origins.{passed};
-ghost use Rattle.script_model.specs.Saved.{IsLost, IsLostOn, IsMissing, IsRefusedOn, IsSavedOn, IsSavedThere, IsShutWith, IsShutWithout, file_name};
+ghost use Rattle.script_model.specs.Saved.{IsLost, IsLostOn, IsMissing, IsRefusedOn, IsSavedOn, IsSavedThere};
+ghost use Rattle.script_model.specs.Saved.{IsShutWith, IsShutWithout, file_name};
 ghost use Rattle.script_container.specs.Done.{AreCarriedOut, IsCarriedOut, IsCertain, IsDone, OnlyDone};
 ghost use Rattle.script_container.specs.Handed.{handed};
 ghost use Rattle.script_container.specs.Shown.{Shows};
@@ -25,13 +26,13 @@ use container_core::container::ContainerCore;
 use container_model::answer::{Action, Answer};
 use container_model::fault::ContainerFault;
 use container_model::record::Frame;
-use doc_store::outcome::Outcome;
-use doc_store::resolved::commit_resolved;
-use doc_store::store::Store;
-use file_image::image::Image;
 use script_model::answer::Told;
 use script_model::host::Host;
 use std::alloc::{AllocError, Global};
+use store_core::outcome::Outcome;
+use store_core::resolved::commit_resolved;
+use store_core::store::Store;
+use store_images::image::Image;
 use store_model::disk::Disk;
 use store_model::fault::StoreFault;
 
@@ -52,13 +53,20 @@ fn counted<D: Disk>(disk: &D)
     disk.counts();
 }
 
-/// Makes these bytes the document of a store, and gives its disk back. After an error it is opened again, and tells by its
-/// document what became of them.
+/// Makes these bytes the document of a store, and gives its disk back. After an error it is opened again, and tells by
+/// its document what became of them.
 fn replace<D: Disk + Drop>(store: Store<D>, bytes: &[u8]) -> (Result<Outcome, StoreFault>, D)
     requires { needs_reopen_of store ≡ false }
-    ensures kept { D.follows_model → IfOk result.0 (λ outcome. IfKept outcome (IsReplacedOn ⟦<D as Disk>⟧ (disk_of store) (D.reads (disk_of store)).document bytes.now result.1)) }
-    ensures lost { D.follows_model → IfOk result.0 (λ outcome. IfLost outcome (IsLeftOn ⟦<D as Disk>⟧ (disk_of store) (D.reads (disk_of store)).document bytes.now result.1)) }
-    ensures cause { IfOk result.0 (λ outcome. IfLost outcome (IsRefusedOn ⟦<D as Disk>⟧ (disk_of store) bytes.now result.1)) }
+    ensures kept { D.follows_model
+        → IfOk result.0
+        (λ outcome. IfKept outcome (IsReplacedOn ⟦<D as Disk>⟧ (disk_of store) (D.reads (disk_of store)).document
+        bytes.now result.1)) }
+    ensures lost { D.follows_model
+        → IfOk result.0
+        (λ outcome. IfLost outcome (IsLeftOn ⟦<D as Disk>⟧ (disk_of store) (D.reads (disk_of store)).document
+        bytes.now result.1)) }
+    ensures cause { IfOk result.0
+        (λ outcome. IfLost outcome (IsRefusedOn ⟦<D as Disk>⟧ (disk_of store) bytes.now result.1)) }
     ensures untold { IfErr result.0 (λ fault. IsUntoldFor ⟦<D as Disk>⟧ (disk_of store) result.1 fault) }
 {
     match commit_resolved(store, bytes) {
@@ -74,8 +82,14 @@ fn compare<D: Disk + Drop>(
     fault: StoreFault,
 ) -> (Result<Outcome, StoreFault>, D)
     requires { needs_reopen_of store ≡ false }
-    ensures kept { D.follows_model → IfOk result.0 (λ outcome. IfKept outcome (IsReplacedOn ⟦<D as Disk>⟧ (disk_of store) (D.reads (disk_of store)).document bytes.now result.1)) }
-    ensures lost { D.follows_model → IfOk result.0 (λ outcome. IfLost outcome (IsLeftOn ⟦<D as Disk>⟧ (disk_of store) (D.reads (disk_of store)).document bytes.now result.1)) }
+    ensures kept { D.follows_model
+        → IfOk result.0
+        (λ outcome. IfKept outcome (IsReplacedOn ⟦<D as Disk>⟧ (disk_of store) (D.reads (disk_of store)).document
+        bytes.now result.1)) }
+    ensures lost { D.follows_model
+        → IfOk result.0
+        (λ outcome. IfLost outcome (IsLeftOn ⟦<D as Disk>⟧ (disk_of store) (D.reads (disk_of store)).document
+        bytes.now result.1)) }
     ensures count { OnOk result.0 (D.failed result.1 ≡ D.failed (disk_of store)) }
     ensures untold { IfErr result.0 (λ fault. IsUntoldFor ⟦<D as Disk>⟧ (disk_of store) result.1 fault) }
 {
@@ -98,8 +112,10 @@ fn try_again<D: Disk + Drop>(
     bytes: &[u8],
     fault: StoreFault,
 ) -> (Result<Outcome, StoreFault>, D)
-    ensures kept { D.follows_model → IfOk result.0 (λ outcome. IfKept outcome (IsSavedOn ⟦<D as Disk>⟧ disk bytes.now result.1)) }
-    ensures lost { D.follows_model → IfOk result.0 (λ outcome. IfLost outcome (IsLostOn ⟦<D as Disk>⟧ disk bytes.now result.1)) }
+    ensures kept { D.follows_model
+        → IfOk result.0 (λ outcome. IfKept outcome (IsSavedOn ⟦<D as Disk>⟧ disk bytes.now result.1)) }
+    ensures lost { D.follows_model
+        → IfOk result.0 (λ outcome. IfLost outcome (IsLostOn ⟦<D as Disk>⟧ disk bytes.now result.1)) }
     ensures count { OnOk result.0 (D.failed result.1 ≡ D.failed disk) }
     ensures untold { IfErr result.0 (λ fault. IsUntoldFor ⟦<D as Disk>⟧ disk result.1 fault) }
 {
@@ -109,15 +125,17 @@ fn try_again<D: Disk + Drop>(
     }
 }
 
-/// Makes these bytes the document of a disk. Where it isn't opened as a call failed, the same disk is tried again: a new one of
-/// its name forgets that a sync failed.
+/// Makes these bytes the document of a disk. Where it isn't opened as a call failed, the same disk is tried again: a
+/// new one of its name forgets that a sync failed.
 fn commit_on<D: Disk + Drop>(
     alloc: Global,
     disk: D,
     bytes: &[u8],
 ) -> (Result<Outcome, StoreFault>, D)
-    ensures kept { D.follows_model → IfOk result.0 (λ outcome. IfKept outcome (IsSavedOn ⟦<D as Disk>⟧ disk bytes.now result.1)) }
-    ensures lost { D.follows_model → IfOk result.0 (λ outcome. IfLost outcome (IsLostOn ⟦<D as Disk>⟧ disk bytes.now result.1)) }
+    ensures kept { D.follows_model
+        → IfOk result.0 (λ outcome. IfKept outcome (IsSavedOn ⟦<D as Disk>⟧ disk bytes.now result.1)) }
+    ensures lost { D.follows_model
+        → IfOk result.0 (λ outcome. IfLost outcome (IsLostOn ⟦<D as Disk>⟧ disk bytes.now result.1)) }
     ensures cause { IfOk result.0 (λ outcome. IfLost outcome (IsRefusedOn ⟦<D as Disk>⟧ disk bytes.now result.1)) }
     ensures untold { IfErr result.0 (λ fault. IsUntoldFor ⟦<D as Disk>⟧ disk result.1 fault) }
 {
@@ -139,16 +157,22 @@ fn commit_again<H: Host>(
     bytes: &[u8],
     fault: StoreFault,
 ) -> Result<Outcome, StoreFault>
-    ensures told { (r : Record) → IsTold ⟦<H::Disk as Disk>⟧ (H.told host.old) r → IsTold ⟦<H::Disk as Disk>⟧ (H.told host.new) r }
+    ensures told { (r : Record) → IsTold ⟦<H::Disk as Disk>⟧ (H.told host.old) r
+        → IsTold ⟦<H::Disk as Disk>⟧ (H.told host.new) r }
     ensures still { (s : ℕ) → running s (H.told host.new) ≡ running s (H.told host.old) }
     ensures quiet { (s : ℕ) → passed s (H.told host.new) ≡ passed s (H.told host.old) }
     ensures handing { (f : ℕ → Bool) → handed f (H.told host.new) ≡ handed f (H.told host.old) }
     ensures paced { (s : ℕ) → pace s (H.told host.new) ≡ pace s (H.told host.old) }
-    ensures shut { H.Disk.follows_model → IfOk result (λ outcome. IfKept outcome (IsShutWith ⟦<H::Disk as Disk>⟧ (H.told host.new) name.now bytes.now)) }
-    ensures left { IsMissing name.now (H.told host.old) → IfOk result (λ outcome. IfLost outcome (IsShutWithout ⟦<H::Disk as Disk>⟧ (H.told host.new) name.now bytes.now)) }
+    ensures shut { H.Disk.follows_model
+        → IfOk result
+        (λ outcome. IfKept outcome (IsShutWith ⟦<H::Disk as Disk>⟧ (H.told host.new) name.now bytes.now)) }
+    ensures left { IsMissing name.now (H.told host.old)
+        → IfOk result
+        (λ outcome. IfLost outcome (IsShutWithout ⟦<H::Disk as Disk>⟧ (H.told host.new) name.now bytes.now)) }
     ensures ordered { course (H.told host.new) ≡ course (H.told host.old) }
     ensures noticed { notices (H.told host.new) ≡ notices (H.told host.old) }
-    ensures unopened { IsMissing name.now (H.told host.old) → IfErr result (λ fault. IsUnopened ⟦<H::Disk as Disk>⟧ name.now fault (H.told host.new)) }
+    ensures unopened { IsMissing name.now (H.told host.old)
+        → IfErr result (λ fault. IsUnopened ⟦<H::Disk as Disk>⟧ name.now fault (H.told host.new)) }
 {
     match host.disk(name) {
         Ok(disk) => {
@@ -169,13 +193,17 @@ fn commit<H: Host>(
     name: &[u8],
     bytes: &[u8],
 ) -> Result<Outcome, StoreFault>
-    ensures told { (r : Record) → IsTold ⟦<H::Disk as Disk>⟧ (H.told host.old) r → IsTold ⟦<H::Disk as Disk>⟧ (H.told host.new) r }
+    ensures told { (r : Record) → IsTold ⟦<H::Disk as Disk>⟧ (H.told host.old) r
+        → IsTold ⟦<H::Disk as Disk>⟧ (H.told host.new) r }
     ensures still { (s : ℕ) → running s (H.told host.new) ≡ running s (H.told host.old) }
     ensures quiet { (s : ℕ) → passed s (H.told host.new) ≡ passed s (H.told host.old) }
     ensures handing { (f : ℕ → Bool) → handed f (H.told host.new) ≡ handed f (H.told host.old) }
     ensures paced { (s : ℕ) → pace s (H.told host.new) ≡ pace s (H.told host.old) }
-    ensures shut { H.Disk.follows_model → IfOk result (λ outcome. IfKept outcome (IsShutWith ⟦<H::Disk as Disk>⟧ (H.told host.new) name.now bytes.now)) }
-    ensures left { IfOk result (λ outcome. IfLost outcome (IsShutWithout ⟦<H::Disk as Disk>⟧ (H.told host.new) name.now bytes.now)) }
+    ensures shut { H.Disk.follows_model
+        → IfOk result
+        (λ outcome. IfKept outcome (IsShutWith ⟦<H::Disk as Disk>⟧ (H.told host.new) name.now bytes.now)) }
+    ensures left { IfOk result
+        (λ outcome. IfLost outcome (IsShutWithout ⟦<H::Disk as Disk>⟧ (H.told host.new) name.now bytes.now)) }
     ensures ordered { course (H.told host.new) ≡ course (H.told host.old) }
     ensures noticed { notices (H.told host.new) ≡ notices (H.told host.old) }
     ensures unopened { IfErr result (λ fault. IsUnopened ⟦<H::Disk as Disk>⟧ name.now fault (H.told host.new)) }
@@ -216,7 +244,8 @@ fn lose<H: Host>(
     ensures handing { (f : ℕ → Bool) → handed f (H.told host.new) ≡ handed f (H.told host.old) }
     ensures paced { (s : ℕ) → pace s (H.told host.new) ≡ pace s (H.told host.old) }
     ensures ordered { course (H.told host.new) ≡ course (H.told host.old) }
-    ensures noticed { notices (H.told host.new) ≡ first_noticed (notices (H.told host.old)) (Some (lost_as (image core.old frame))) }
+    ensures noticed { notices (H.told host.new) ≡ first_noticed (notices (H.told host.old))
+        (Some (lost_as (image core.old frame))) }
     ensures shown { IfErr result (λ fault. Shows ⟦<H::Disk as Disk>⟧ (H.told host.new) fault) }
     ensures others { OnOk result (OnlyDone core.old core.new) }
     ensures done { OnOk result (IsDone core.new frame) }
@@ -225,8 +254,8 @@ fn lose<H: Host>(
     dropped(alloc, host, core, frame)
 }
 
-/// Saves the file of a frame, and tells the container what became of it. Where it is saved, the container keeps it, to make the next
-/// one of it.
+/// Saves the file of a frame, and tells the container what became of it. Where it is saved, the container keeps it, to
+/// make the next one of it.
 fn save_file<H: Host>(
     alloc: Global,
     host: &mut H,
@@ -328,8 +357,8 @@ fn save_on<H: Host>(
     }
 }
 
-/// Carries out the commits that an answer of the container asks for. None is left: of each it is told whether it was kept or lost,
-/// and every other frame is as it was.
+/// Carries out the commits that an answer of the container asks for. None is left: of each it is told whether it was
+/// kept or lost, and every other frame is as it was.
 pub fn save_all<H: Host>(
     alloc: Global,
     host: &mut H,

@@ -3,7 +3,7 @@ use Rattle.std.specs.Prelude.{◌≡◌, ◌+◌, ◌==◌, ◌++◌, ◌||◌, 
 use Rattle.std.specs.List.{AllByRecursion}
 use Rattle.message_bytes.specs.Fronts.{Stands}
 use Rattle.message_model.specs.declared.frame.Frame.{Frame}
-use Rattle.wire_msgs.specs.declared.message.Message.{Message}
+use Rattle.message_values.specs.declared.message.Message.{Message}
 use Rattle.script_model.specs.Events.{Event, running}
 use Rattle.script_model.specs.Origins.{AreFirst, Passed, messages_of, passed}
 pub use Rattle.script_container.specs.Beside.{beside}
@@ -18,9 +18,9 @@ links_of s (l ∷ ls) = links_of s ls + (if l.inc == s then 1 else 0)
 abbrev pub AreLinked : {D : Type 0} → List (Event D) → List Link → Type 0
 AreLinked es ls = (s : ℕ) → running s es ≡ links_of s ls
 
--- A link has what passed between its server and the container: its decoder was fed what came on the last link, and the messages
--- that were taken of it, behind those of earlier links, are those that the container was given, those that wait, and these in hand.
--- Where a link isn't held, none waits.
+-- A link has what passed between its server and the container: its decoder was fed what came on the last link, and the
+-- messages that were taken of it, behind those of earlier links, are those that the container was given, those that
+-- wait, and these in hand. Where a link isn't held, none waits.
 pub record IsServed (p : Passed) (l : Link) (hand : List Message) : Type 0 where
   pub fed : List ℕ
   pub earlier : List (List ℕ)

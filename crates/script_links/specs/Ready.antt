@@ -5,8 +5,8 @@ use Rattle.script_model.specs.Events.{Event}
 use Rattle.script_links.specs.Links.{links_of}
 use Rattle.script_links.specs.declared.links.Link.{Link}
 
--- The next turn of a server is at most its turn of this number in its command, counted from 1, and its link may be made anew once
--- in it.
+-- The next turn of a server is at most its turn of this number in its command, counted from 1, and its link may be made
+-- anew once in it.
 pub record IsReady (number : ℕ) (p : Pace) : Type 0 where
   pub first : 1 ≤ (sending p).turns
   pub turns : (sending p).turns ≤ number

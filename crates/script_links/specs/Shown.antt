@@ -1,5 +1,6 @@
 -- Which calls are pending on links.
-use Rattle.std.specs.Prelude.{◌≡◌, ◌≤◌, ◌==◌, ◌&&◌, ◌||◌, ℕ, Bool, true, false, not, List, [], ◌∷◌, Option, Some, None, is_some, if◌then◌else◌}
+use Rattle.std.specs.Prelude.{◌≡◌, ◌≤◌, ◌==◌, ◌&&◌, ◌||◌, ℕ, Bool, true, false, not, List, [], ◌∷◌, Option, Some, None}
+use Rattle.std.specs.Prelude.{is_some, if◌then◌else◌}
 use Rattle.container_model.specs.declared.record.Link.{Link as Activation}
 use Rattle.container_model.specs.declared.record.Object.{Object}
 use Rattle.script_links.specs.Links.{links_of}

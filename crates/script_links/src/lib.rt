@@ -4,5 +4,3 @@
 pub mod links;
 pub mod turns;
 pub mod waiting;
-
-pub use script_container::{container, fault, saves};

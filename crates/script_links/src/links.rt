@@ -18,7 +18,8 @@ ghost use Rattle.script_container.specs.Told.{IsTold};
 ghost use Rattle.script_container.specs.declared.fault.ScriptFault.TheVariants.{NoMemory};
 ghost use Rattle.script_links.specs.Links.{IsServed};
 ghost use Rattle.script_links.specs.Ready.{GoesOn, HadTurn, HasLeft, IsReady, MayLink, pace_beside};
-ghost use Rattle.std.specs.Prelude.{◌≡◌, ◌≢◌, ◌++◌, ◌∷◌, [], Bool, Err, IfErr, IfOk, MatchResult, OnOk, Option, false, is_ok, ℕ};
+ghost use Rattle.std.specs.Prelude.{◌≡◌, ◌≢◌, ◌++◌, ◌∷◌, [], Bool, Err, IfErr, IfOk, MatchResult, OnOk, Option, false};
+ghost use Rattle.std.specs.Prelude.{is_ok, ℕ};
 
 use crate::waiting::Waiting;
 use container_core::container::ContainerCore;
@@ -27,8 +28,10 @@ use container_model::fault::ContainerFault;
 use container_model::record::Link as Activation;
 use message_bytes::decoder::Decoder;
 use message_bytes::encode::encode_into;
-use message_bytes::fault::WireFault;
-use message_bytes::frame::Frame;
+use message_model::fault::WireFault;
+use message_model::frame::Frame;
+use message_values::message::Message;
+use message_values::refusal::Refusal;
 use script_container::container::message;
 use script_container::fault::ScriptFault;
 use script_container::saves::{first_of, save_all};
@@ -36,8 +39,6 @@ use script_model::answer::Told;
 use script_model::host::{Host, HostFault};
 use std::alloc::{AllocError, Global};
 use store_model::disk::Disk;
-use wire_msgs::message::Message;
-use wire_msgs::refusal::Refusal;
 
 /// The most reads of a link in a turn.
 const MOST_READS: u32 = 1_000_000;
@@ -193,8 +194,8 @@ fn refused(fault: ContainerFault) -> Result<bool, ScriptFault>
     }
 }
 
-/// Hands a message of a link over to the container. Gives whether it is one that a server may send; one of something that is
-/// over is passed over.
+/// Hands a message of a link over to the container. Gives whether it is one that a server may send; one of something
+/// that is over is passed over.
 pub fn hand_over<H: Host>(
     alloc: Global,
     host: &mut H,
@@ -248,7 +249,8 @@ fn meet<H: Host>(
     ensures seen { OnOk result (Tells (notices (H.told host.new)) noticed.new) }
     ensures shown { IfErr result (λ fault. Shows ⟦<H::Disk as Disk>⟧ (H.told host.new) fault) }
     ensures holding { link.new.held ≡ link.old.held }
-    ensures handing { (f : ℕ → Bool) → f link.old.inc ≡ link.old.held → handed f (H.told host.new) ≡ handed f (H.told host.old) }
+    ensures handing { (f : ℕ → Bool) → f link.old.inc ≡ link.old.held → handed f (H.told host.new)
+        ≡ handed f (H.told host.old) }
 {
     if link.held {
         link.waiting.push(taken)?;
@@ -257,8 +259,8 @@ fn meet<H: Host>(
     hand_over(alloc, host, core, link.inc, taken, noticed)
 }
 
-/// Carries out the frames that came on a link, up to a Turn. A link of which more waits than may has failed. A piece ends fewer
-/// frames than it has bytes, since a frame has ten at least, so all that are whole are taken.
+/// Carries out the frames that came on a link, up to a Turn. A link of which more waits than may has failed. A piece
+/// ends fewer frames than it has bytes, since a frame has ten at least, so all that are whole are taken.
 fn take_frames<H: Host>(
     alloc: Global,
     host: &mut H,
@@ -279,7 +281,8 @@ fn take_frames<H: Host>(
     ensures seen { OnOk result (Tells (notices (H.told host.new)) noticed.new) }
     ensures shown { IfErr result (λ fault. Shows ⟦<H::Disk as Disk>⟧ (H.told host.new) fault) }
     ensures holding { link.new.held ≡ link.old.held }
-    ensures handing { (f : ℕ → Bool) → f link.old.inc ≡ link.old.held → handed f (H.told host.new) ≡ handed f (H.told host.old) }
+    ensures handing { (f : ℕ → Bool) → f link.old.inc ≡ link.old.held → handed f (H.told host.new)
+        ≡ handed f (H.told host.old) }
 {
     for _ in 0..=PIECE {
         match link.decoder.next() {
@@ -303,12 +306,14 @@ fn take_frames<H: Host>(
 fn read_some<H: Host>(host: &mut H, link: &mut Link, buffer: &mut [u8]) -> Result<bool, ScriptFault>
     requires served { IsServed (passed link.old.inc (H.told host.old)) link.old [] }
     requires within { IsWithin (reading (pace link.old.inc (H.told host.old))) }
-    ensures told { (r : Record) → IsTold ⟦<H::Disk as Disk>⟧ (H.told host.old) r → IsTold ⟦<H::Disk as Disk>⟧ (H.told host.new) r }
+    ensures told { (r : Record) → IsTold ⟦<H::Disk as Disk>⟧ (H.told host.old) r
+        → IsTold ⟦<H::Disk as Disk>⟧ (H.told host.new) r }
     ensures still { (s : ℕ) → running s (H.told host.new) ≡ running s (H.told host.old) }
     ensures same { link.new.inc ≡ link.old.inc }
     ensures apart { (s : ℕ) → beside link.old.inc s (H.told host.new) ≡ beside link.old.inc s (H.told host.old) }
     ensures served { OnOk result (IsServed (passed link.new.inc (H.told host.new)) link.new []) }
-    ensures aside { (s : ℕ) → pace_beside link.old.inc s (H.told host.new) ≡ pace_beside link.old.inc s (H.told host.old) }
+    ensures aside { (s : ℕ) → pace_beside link.old.inc s (H.told host.new)
+        ≡ pace_beside link.old.inc s (H.told host.old) }
     ensures read { pace link.new.inc (H.told host.new) ≡ reading (pace link.old.inc (H.told host.old)) }
     ensures ordered { course (H.told host.new) ≡ course (H.told host.old) }
     ensures noticed { notices (H.told host.new) ≡ notices (H.told host.old) }
@@ -353,13 +358,16 @@ fn hear<H: Host>(
     ensures same { link.new.inc ≡ link.old.inc }
     ensures apart { (s : ℕ) → beside link.old.inc s (H.told host.new) ≡ beside link.old.inc s (H.told host.old) }
     ensures served { OnOk result (IsServed (passed link.new.inc (H.told host.new)) link.new []) }
-    ensures aside { (s : ℕ) → pace_beside link.old.inc s (H.told host.new) ≡ pace_beside link.old.inc s (H.told host.old) }
-    ensures on { OnOk result (GoesOn (pace link.old.inc (H.told host.old)) (pace link.new.inc (H.told host.new)) reads.new) }
+    ensures aside { (s : ℕ) → pace_beside link.old.inc s (H.told host.new)
+        ≡ pace_beside link.old.inc s (H.told host.old) }
+    ensures on { OnOk result (GoesOn (pace link.old.inc (H.told host.old)) (pace link.new.inc (H.told host.new))
+        reads.new) }
     ensures ordered { course (H.told host.new) ≡ course (H.told host.old) }
     ensures seen { OnOk result (Tells (notices (H.told host.new)) noticed.new) }
     ensures shown { IfErr result (λ fault. Shows ⟦<H::Disk as Disk>⟧ (H.told host.new) fault) }
     ensures holding { link.new.held ≡ link.old.held }
-    ensures handing { (f : ℕ → Bool) → f link.old.inc ≡ link.old.held → handed f (H.told host.new) ≡ handed f (H.told host.old) }
+    ensures handing { (f : ℕ → Bool) → f link.old.inc ≡ link.old.held → handed f (H.told host.new)
+        ≡ handed f (H.told host.old) }
 {
     while *reads > 0 {
         let heard = take_frames(alloc, host, core, link, noticed)?;
@@ -394,13 +402,16 @@ fn exchange<H: Host>(
     ensures same { link.new.inc ≡ link.old.inc }
     ensures apart { (s : ℕ) → beside link.old.inc s (H.told host.new) ≡ beside link.old.inc s (H.told host.old) }
     ensures served { OnOk result (IsServed (passed link.new.inc (H.told host.new)) link.new []) }
-    ensures aside { (s : ℕ) → pace_beside link.old.inc s (H.told host.new) ≡ pace_beside link.old.inc s (H.told host.old) }
-    ensures on { OnOk result (GoesOn (sending (pace link.old.inc (H.told host.old))) (pace link.new.inc (H.told host.new)) reads.new) }
+    ensures aside { (s : ℕ) → pace_beside link.old.inc s (H.told host.new)
+        ≡ pace_beside link.old.inc s (H.told host.old) }
+    ensures on { OnOk result (GoesOn (sending (pace link.old.inc (H.told host.old)))
+        (pace link.new.inc (H.told host.new)) reads.new) }
     ensures ordered { course (H.told host.new) ≡ course (H.told host.old) }
     ensures seen { OnOk result (Tells (notices (H.told host.new)) noticed.new) }
     ensures shown { IfErr result (λ fault. Shows ⟦<H::Disk as Disk>⟧ (H.told host.new) fault) }
     ensures holding { link.new.held ≡ link.old.held }
-    ensures handing { (f : ℕ → Bool) → f link.old.inc ≡ link.old.held → handed f (H.told host.new) ≡ handed f (H.told host.old) }
+    ensures handing { (f : ℕ → Bool) → f link.old.inc ≡ link.old.held → handed f (H.told host.new)
+        ≡ handed f (H.told host.old) }
 {
     if !send_turn(alloc, host, core, link.inc)? {
         return Ok(Heard::Failed);
@@ -414,13 +425,17 @@ fn exchange<H: Host>(
 pub fn reconnect<H: Host>(alloc: Global, host: &mut H, link: &mut Link) -> Result<bool, ScriptFault>
     requires served { IsServed (passed link.old.inc (H.told host.old)) link.old [] }
     requires may { MayLink (pace link.old.inc (H.told host.old)) }
-    ensures told { (r : Record) → IsTold ⟦<H::Disk as Disk>⟧ (H.told host.old) r → IsTold ⟦<H::Disk as Disk>⟧ (H.told host.new) r }
+    ensures told { (r : Record) → IsTold ⟦<H::Disk as Disk>⟧ (H.told host.old) r
+        → IsTold ⟦<H::Disk as Disk>⟧ (H.told host.new) r }
     ensures still { (s : ℕ) → running s (H.told host.new) ≡ running s (H.told host.old) }
     ensures same { link.new.inc ≡ link.old.inc }
     ensures apart { (s : ℕ) → beside link.old.inc s (H.told host.new) ≡ beside link.old.inc s (H.told host.old) }
     ensures served { IsServed (passed link.new.inc (H.told host.new)) link.new [] }
-    ensures aside { (s : ℕ) → pace_beside link.old.inc s (H.told host.new) ≡ pace_beside link.old.inc s (H.told host.old) }
-    ensures linked { MatchResult result (λ made. pace link.new.inc (H.told host.new) ≡ linking made (pace link.old.inc (H.told host.old))) (λ _. pace link.new.inc (H.told host.new) ≡ linking false (pace link.old.inc (H.told host.old))) }
+    ensures aside { (s : ℕ) → pace_beside link.old.inc s (H.told host.new)
+        ≡ pace_beside link.old.inc s (H.told host.old) }
+    ensures linked { MatchResult result (λ made. pace link.new.inc (H.told host.new)
+        ≡ linking made (pace link.old.inc (H.told host.old)))
+        (λ _. pace link.new.inc (H.told host.new) ≡ linking false (pace link.old.inc (H.told host.old))) }
     ensures ordered { course (H.told host.new) ≡ course (H.told host.old) }
     ensures noticed { notices (H.told host.new) ≡ notices (H.told host.old) }
     ensures lacking { IfErr result (λ fault. fault ≡ NoMemory) }
@@ -449,13 +464,15 @@ pub fn serve<H: Host>(
     ensures same { link.new.inc ≡ link.old.inc }
     ensures apart { (s : ℕ) → beside link.old.inc s (H.told host.new) ≡ beside link.old.inc s (H.told host.old) }
     ensures served { OnOk result (IsServed (passed link.new.inc (H.told host.new)) link.new []) }
-    ensures aside { (s : ℕ) → pace_beside link.old.inc s (H.told host.new) ≡ pace_beside link.old.inc s (H.told host.old) }
+    ensures aside { (s : ℕ) → pace_beside link.old.inc s (H.told host.new)
+        ≡ pace_beside link.old.inc s (H.told host.old) }
     ensures turned { OnOk result (HadTurn (pace link.old.inc (H.told host.old)) (pace link.new.inc (H.told host.new))) }
     ensures ordered { course (H.told host.new) ≡ course (H.told host.old) }
     ensures seen { OnOk result (Tells (notices (H.told host.new)) noticed.new) }
     ensures shown { IfErr result (λ fault. Shows ⟦<H::Disk as Disk>⟧ (H.told host.new) fault) }
     ensures holding { link.new.held ≡ link.old.held }
-    ensures handing { (f : ℕ → Bool) → f link.old.inc ≡ link.old.held → handed f (H.told host.new) ≡ handed f (H.told host.old) }
+    ensures handing { (f : ℕ → Bool) → f link.old.inc ≡ link.old.held → handed f (H.told host.new)
+        ≡ handed f (H.told host.old) }
 {
     let mut reads = MOST_READS;
     match exchange(alloc, host, core, link, noticed, buffer, &mut reads)? {

@@ -169,14 +169,17 @@ fn serve_at<H: Host>(
     ensures linked { AreLinked (H.told host.new) links.new.items }
     ensures served { OnOk result (AreServed (H.told host.new) links.new.items) }
     ensures many { length links.new.items ≡ length links.old.items }
-    ensures ready { (n : ℕ) → IsUnderway n (H.told host.old) links.old.items place → OnOk result (IsUnderway n (H.told host.new) links.new.items (place + 1)) }
+    ensures ready { (n : ℕ) → IsUnderway n (H.told host.old) links.old.items place
+        → OnOk result (IsUnderway n (H.told host.new) links.new.items (place + 1)) }
     ensures ordered { course (H.told host.new) ≡ course (H.told host.old) }
     ensures seen { OnOk result (Tells (notices (H.told host.new)) noticed.new) }
     ensures anew { OnOk result ((s : ℕ) → (pace s (H.told host.old)).links ≤ (pace s (H.told host.new)).links) }
     ensures shown { IfErr result (λ fault. Shows ⟦<H::Disk as Disk>⟧ (H.told host.new) fault) }
     ensures holding { (f : ℕ → Bool) → HoldFor f links.old.items → HoldFor f links.new.items }
-    ensures handing { (f : ℕ → Bool) → HoldFor f links.old.items → handed f (H.told host.new) ≡ handed f (H.told host.old) }
-    ensures due { (n : ℕ) → HaveHad n (H.told host.old) links.old.items place → OnOk result (HaveHad n (H.told host.new) links.new.items (place + 1)) }
+    ensures handing { (f : ℕ → Bool) → HoldFor f links.old.items → handed f (H.told host.new)
+        ≡ handed f (H.told host.old) }
+    ensures due { (n : ℕ) → HaveHad n (H.told host.old) links.old.items place
+        → OnOk result (HaveHad n (H.told host.new) links.new.items (place + 1)) }
 {
     serve(alloc, host, core, &mut links[place], noticed, buffer)
 }
@@ -198,14 +201,17 @@ fn turn<H: Host>(
     ensures told { IsTold ⟦<H::Disk as Disk>⟧ (H.told host.new) core.new }
     ensures linked { AreLinked (H.told host.new) links.new.items }
     ensures served { OnOk result (AreServed (H.told host.new) links.new.items) }
-    ensures ready { (n : ℕ) → AreReady n (H.told host.old) links.old.items → OnOk result (AreReady (n + 1) (H.told host.new) links.new.items) }
+    ensures ready { (n : ℕ) → AreReady n (H.told host.old) links.old.items
+        → OnOk result (AreReady (n + 1) (H.told host.new) links.new.items) }
     ensures ordered { course (H.told host.new) ≡ course (H.told host.old) }
     ensures seen { OnOk result (Tells (notices (H.told host.new)) noticed.new) }
     ensures anew { OnOk result ((s : ℕ) → (pace s (H.told host.old)).links ≤ (pace s (H.told host.new)).links) }
     ensures shown { IfErr result (λ fault. Shows ⟦<H::Disk as Disk>⟧ (H.told host.new) fault) }
     ensures holding { (f : ℕ → Bool) → HoldFor f links.old.items → HoldFor f links.new.items }
-    ensures handing { (f : ℕ → Bool) → HoldFor f links.old.items → handed f (H.told host.new) ≡ handed f (H.told host.old) }
-    ensures due { (n : ℕ) → AreDue n (H.told host.old) links.old.items → OnOk result (AreDue (n + 1) (H.told host.new) links.new.items) }
+    ensures handing { (f : ℕ → Bool) → HoldFor f links.old.items → handed f (H.told host.new)
+        ≡ handed f (H.told host.old) }
+    ensures due { (n : ℕ) → AreDue n (H.told host.old) links.old.items
+        → OnOk result (AreDue (n + 1) (H.told host.new) links.new.items) }
 {
     let mut place = 0;
     while place < links.len() {
@@ -243,7 +249,8 @@ pub fn turns<H: Host>(
     ensures anew { OnOk result ((s : ℕ) → (pace s (H.told host.old)).links ≤ (pace s (H.told host.new)).links) }
     ensures shown { IfErr result (λ fault. Shows ⟦<H::Disk as Disk>⟧ (H.told host.new) fault) }
     ensures holding { (f : ℕ → Bool) → HoldFor f links.old.items → HoldFor f links.new.items }
-    ensures handing { (f : ℕ → Bool) → HoldFor f links.old.items → handed f (H.told host.new) ≡ handed f (H.told host.old) }
+    ensures handing { (f : ℕ → Bool) → HoldFor f links.old.items → handed f (H.told host.new)
+        ≡ handed f (H.told host.old) }
 {
     for done in 0..MOST_TURNS {
         if !is_pending(core, links) {

@@ -2,12 +2,12 @@
 
 ghost use Rattle.std.specs.Prelude.{[], ◌∷◌, ◌++◌, ◌≡◌, OnErr, OnOk};
 
+use message_values::answer::Answer;
+use message_values::items::Items;
+use message_values::message::{Message, Said};
 use std::alloc::{AllocError, Global};
 use std::marker::Model;
-use stored_streams::stored::Stored;
-use wire_msgs::answer::Answer;
-use wire_msgs::items::Items;
-use wire_msgs::message::{Message, Said};
+use tree_streams::stored::Stored;
 
 /// The most bytes that wait of a link: 256 MiB.
 const MOST: u64 = 268_435_456;
@@ -24,7 +24,7 @@ pub struct Waiting {
 
 impl Model for Waiting {
     ghost use Rattle.std.specs.Prelude.{List};
-    ghost use Rattle.wire_msgs.specs.declared.message.Message.{Message};
+    ghost use Rattle.message_values.specs.declared.message.Message.{Message};
 
     ghost Value = { List Message };
 

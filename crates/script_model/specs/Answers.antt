@@ -1,12 +1,13 @@
 -- What is printed of a command.
-use Rattle.std.specs.Prelude.{◌+◌, ◌++◌, ℕ, zero, suc, List, [], ◌∷◌, length, Option, Some, None, Result, Ok, Err, codes}
+use Rattle.std.specs.Prelude.{◌+◌, ◌++◌, ℕ, zero, suc, List, [], ◌∷◌, length, Option, Some, None, Result, Ok, Err}
+use Rattle.std.specs.Prelude.{codes}
 use Rattle.std.specs.Fmt.{decimal}
 use Rattle.container_model.specs.FaultNames.{fault_name}
 use Rattle.container_model.specs.Record.{Took}
 use Rattle.container_model.specs.declared.answer.Answer.{Answer}
 use Rattle.container_model.specs.declared.fault.ContainerFault.{ContainerFault}
 use Rattle.store_model.specs.Fault.{name_of}
-use Rattle.wire_msgs.specs.Refusals.{code_of}
+use Rattle.message_values.specs.Refusals.{code_of}
 use Rattle.script_model.specs.declared.answer.Told.{Told}
 use Rattle.script_model.specs.declared.answer.Told.TheVariants as told
 
@@ -76,7 +77,8 @@ abbrev pub first_told : Option Told → Option Told → Option Told
 first_told (Some notice) next = Some notice
 first_told None next = next
 
--- A command that made nothing tells what was noticed first meanwhile: that an object refused a call, or that a save was lost.
+-- A command that made nothing tells what was noticed first meanwhile: that an object refused a call, or that a save was
+-- lost.
 abbrev pub noticed_by : Option Told → Told
 noticed_by (Some notice) = notice
 noticed_by None = told.Done

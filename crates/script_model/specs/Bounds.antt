@@ -1,4 +1,5 @@
--- How much a host is asked for a command: the turns that each server is sent, how often its link is made anew, and how often it is read.
+-- How much a host is asked for a command: the turns that each server is sent, how often its link is made anew, and how
+-- often it is read.
 use Rattle.std.specs.Prelude.{◌+◌, ◌≤◌, ◌==◌, ℕ, Bool, false, List, [], ◌∷◌, if◌then◌else◌}
 use Rattle.script_model.specs.declared.step.Step.{Step}
 use Rattle.script_model.specs.declared.step.Step.TheVariants as step
@@ -12,9 +13,10 @@ MOST_TURNS = 1000
 abbrev pub MOST_READS : ℕ
 MOST_READS = 1000000
 
--- How far a server is in a command: how many of its turns began; how often its link was made anew, whether or not that was done,
--- and how often it was read, both since the last of these turns began. Where the link was made anew and nothing was sent or came
--- since, what is sent next is the same turn again. And how often its link was made anew in all of the command.
+-- How far a server is in a command: how many of its turns began; how often its link was made anew, whether or not that
+-- was done, and how often it was read, both since the last of these turns began. Where the link was made anew and
+-- nothing was sent or came since, what is sent next is the same turn again. And how often its link was made anew in all
+-- of the command.
 pub record Pace : Type 0 where
   pub turns : ℕ
   pub anew : ℕ
@@ -62,7 +64,8 @@ pace s (Opened name disk ∷ es) = pace s es
 pace s (Found name disk ∷ es) = pace s es
 pace s (Shut name disk ∷ es) = pace s es
 
--- How often a link is made anew in a turn: once, and in the first turn of a command once more, where the command cuts the link.
+-- How often a link is made anew in a turn: once, and in the first turn of a command once more, where the command cuts
+-- the link.
 abbrev pub most_anew : ℕ → ℕ
 most_anew turn = if turn == 1 then 2 else 1
 
@@ -71,8 +74,8 @@ pub record IsWithin (p : Pace) : Type 0 where
   pub anew : p.anew ≤ most_anew p.turns
   pub reads : p.reads ≤ MOST_READS
 
--- For each command, a server is sent at most so many turns, one of them again only where its link was made anew meanwhile; in a
--- turn its link is made anew no more often, and read no more often.
+-- For each command, a server is sent at most so many turns, one of them again only where its link was made anew
+-- meanwhile; in a turn its link is made anew no more often, and read no more often.
 abbrev pub AreBounded : {D : Type 0} → List (Event D) → Type 0
 AreBounded [] = Unit {0}
 AreBounded (Sent inc bytes ok ∷ es) = IsWithin (sending (pace inc es)) × AreBounded es

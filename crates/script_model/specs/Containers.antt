@@ -35,7 +35,8 @@ given g (step.Reap inc) = gives g (on_reap g.now inc)
 given g (step.Committed f) = gives g (commit_done g.now f)
 given g (step.Failed f) = gives g (commit_failed g.now f)
 given g (step.Resolved f is_kept) = gives g (resolve g.now f is_kept)
-given g (step.Open name w h session objects) = gives g (opened g.now name w h (Read.Holding (record { session = session; objects = objects })))
+given g (step.Open name w h session objects) =
+    gives g (opened g.now name w h (Read.Holding (record { session = session; objects = objects })))
 given g step.NoMemory = record { before = g.before; now = g.before }
 
 abbrev pub given_by : {D : Type 0} → List (Event D) → Given
@@ -50,8 +51,9 @@ given_by (Opened name disk ∷ es) = given_by es
 given_by (Found name disk ∷ es) = given_by es
 given_by (Shut name disk ∷ es) = given_by es
 
--- the container's record: its step applied to the commands, to the messages, each with the link that it came on, to the ends of
--- servers, to what became of commits and to the documents of files that are opened, in their order, from a container without frames, objects and servers
+-- the container's record: its step applied to the commands, to the messages, each with the link that it came on, to the
+-- ends of servers, to what became of commits and to the documents of files that are opened, in their order, from a
+-- container without frames, objects and servers
 abbrev pub record_of : {D : Type 0} → List (Event D) → Record
 record_of es = (given_by es).now
 

@@ -1,5 +1,7 @@
--- The course of a command: where it began, what the container was given of it, which file it opened, which servers it is to start.
-use Rattle.std.specs.Prelude.{◌==◌, ◌&&◌, ◌++◌, ℕ, Bool, true, false, List, [], ◌∷◌, Option, Some, None, Result, Ok, Err, if◌then◌else◌}
+-- The course of a command: where it began, what the container was given of it, which file it opened, which servers it
+-- is to start.
+use Rattle.std.specs.Prelude.{◌==◌, ◌&&◌, ◌++◌, ℕ, Bool, true, false, List, [], ◌∷◌, Option, Some, None, Result, Ok}
+use Rattle.std.specs.Prelude.{Err, if◌then◌else◌}
 use Rattle.container_model.specs.Commands.{on_command}
 use Rattle.container_model.specs.Opens.{Given as Holds, opened}
 use Rattle.container_model.specs.Record.{Record, Took}
@@ -13,13 +15,14 @@ use Rattle.script_model.specs.declared.step.Step.{Step}
 use Rattle.script_model.specs.declared.step.Step.TheVariants as step
 use Rattle.script_model.specs.Answers.{told_by, told_opened}
 use Rattle.script_model.specs.Containers.{record_of}
-use Rattle.script_model.specs.Events.{Event, Started, Connected, Sent, Heard, Ended, Opened, Found, Shut, Stepped, running}
+use Rattle.script_model.specs.Events.{Event, Started, Connected, Sent, Heard, Ended, Opened, Found, Shut, Stepped}
+use Rattle.script_model.specs.Events.{running}
 
 -- ---- files
 
--- What a command did to open a file: nothing; it looked for the disk of this name, and got it or none; it gave back the disk that it
--- had found under this name, which then was this one; it gave what the file holds to the container, under this name, as a frame so
--- many columns wide and so many lines high, of which this is told.
+-- What a command did to open a file: nothing; it looked for the disk of this name, and got it or none; it gave back the
+-- disk that it had found under this name, which then was this one; it gave what the file holds to the container, under
+-- this name, as a frame so many columns wide and so many lines high, of which this is told.
 pub data Opening (D : Type 0) : Type 0 where
   Unasked : Opening D
   Looked : List ℕ → Option D → Opening D
@@ -54,10 +57,10 @@ without inc (s ∷ incs) = if inc == s then without inc incs else s ∷ without 
 
 -- ---- commands
 
--- Where the command began that began last: its place, and the history before it. The beginnings of commands and each command that
--- the container was given, the newest first. And since that beginning: what is told of the last command that the container was
--- given, what was done to open a file, and the servers that its answers asked to start, that didn't run, and that weren't tried to
--- be started since.
+-- Where the command began that began last: its place, and the history before it. The beginnings of commands and each
+-- command that the container was given, the newest first. And since that beginning: what is told of the last command
+-- that the container was given, what was done to open a file, and the servers that its answers asked to start, that
+-- didn't run, and that weren't tried to be started since.
 pub record Course (D : Type 0) : Type 0 where
   pub asked : List Step
   pub begun : Option (ℕ × List (Event D))
@@ -68,7 +71,8 @@ pub record Course (D : Type 0) : Type 0 where
 abbrev pub no_course : {D : Type 0} → Course D
 no_course = record { asked = []; begun = None; commanded = None; opening = Unasked; unstarted = [] }
 
--- whether a command is a start that meets no session: then that is told of which the Session was told that was to raise one
+-- whether a command is a start that meets no session: then that is told of which the Session was told that was to raise
+-- one
 abbrev pub is_start : Command → Bool
 is_start command.Start = true
 is_start c = false
@@ -81,7 +85,13 @@ told_of r c before = if is_unraised r c then before else Some (told_by (on_comma
 
 abbrev pub behind_course : {D : Type 0} → Step → List (Event D) → Course D → Course D
 behind_course (step.Begins n) es k =
-    record { asked = step.Begins n ∷ k.asked; begun = Some (n, es); commanded = None; opening = Unasked; unstarted = [] }
+    record {
+      asked = step.Begins n ∷ k.asked;
+      begun = Some (n, es);
+      commanded = None;
+      opening = Unasked;
+      unstarted = [];
+    }
 behind_course (step.Command c) es k = record k {
   asked = step.Command c ∷ k.asked;
   commanded = told_of (record_of es) c k.commanded;
@@ -93,7 +103,12 @@ behind_course (step.Committed f) es k = k
 behind_course (step.Failed f) es k = k
 behind_course (step.Resolved f is_kept) es k = k
 behind_course (step.Open name w h session objects) es k =
-    record k { opening = Made name w h (told_opened (opened (record_of es) name w h (Holds.Holding (record { session = session; objects = objects })))) }
+    record k {
+      opening =
+          Made name w h
+          (told_opened (opened (record_of es) name w h
+          (Holds.Holding (record { session = session; objects = objects }))));
+    }
 behind_course step.NoMemory es k = k
 
 -- The disk that was found by the call before is given back. Other disks are given back by saves.

@@ -1,11 +1,12 @@
 -- What a history shows of the error that ended its script.
-use Rattle.std.specs.Prelude.{◌≡◌, ◌≤◌, ◌⊎◌, ◌==◌, ◌&&◌, ◌||◌, ℕ, Bool, true, false, List, [], ◌∷◌, if◌then◌else◌, Option, Some, None, Ok, is_some}
+use Rattle.std.specs.Prelude.{◌≡◌, ◌≤◌, ◌⊎◌, ◌==◌, ◌&&◌, ◌||◌, ℕ, Bool, true, false, List, [], ◌∷◌, if◌then◌else◌}
+use Rattle.std.specs.Prelude.{Option, Some, None, Ok, is_some}
 use Rattle.store_model.specs.Image.{Image}
 use Rattle.store_model.specs.Journal.{restored}
 use Rattle.store_model.specs.declared.disk.Disk.{Ghosts as Disks}
 use Rattle.store_model.specs.declared.fault.StoreFault.{StoreFault}
 use Rattle.store_model.specs.declared.fault.StoreFault.TheVariants.{Device, NeedsReopen, TooBig, Damaged, NoMemory}
-use Rattle.wire_msgs.specs.Found.{nth}
+use Rattle.message_values.specs.Found.{nth}
 use Rattle.container_model.specs.declared.answer.FrameDocument.{FrameDocument}
 use Rattle.container_model.specs.declared.record.Frame.{Frame}
 use Rattle.container_model.specs.declared.record.Link.{Link}
@@ -15,11 +16,13 @@ use Rattle.script_model.specs.declared.command.ScriptCommand.{ScriptCommand}
 use Rattle.script_model.specs.declared.command.ScriptCommand.TheVariants as script
 use Rattle.script_model.specs.Bounds.{MOST_TURNS, pace}
 use Rattle.script_model.specs.Containers.{record_of}
-use Rattle.script_model.specs.Events.{Event, Started, Connected, Sent, Heard, Ended, Opened, Found, Shut, Stepped, running}
+use Rattle.script_model.specs.Events.{Event, Started, Connected, Sent, Heard, Ended, Opened, Found, Shut, Stepped}
+use Rattle.script_model.specs.Events.{running}
 use Rattle.script_model.specs.Orders.{behind_commands, orders}
 use Rattle.script_model.specs.Saved.{HasFailed, file_name, is_any_unsaved}
 
--- A history without the ends of servers that are its last calls: however a script ends, the servers that still run are ended then.
+-- A history without the ends of servers that are its last calls: however a script ends, the servers that still run are
+-- ended then.
 abbrev pub before_ends : {D : Type 0} → List (Event D) → List (Event D)
 before_ends [] = []
 before_ends (Ended inc ∷ es) = before_ends es
@@ -47,8 +50,8 @@ abbrev pub is_asked : ℕ → List Object → Bool
 is_asked s [] = false
 is_asked s (o ∷ os) = asks s o.link || is_asked s os
 
--- A server that runs was sent all turns that a command may send it, since the command began that began last, and a call of it
--- isn't answered.
+-- A server that runs was sent all turns that a command may send it, since the command began that began last, and a call
+-- of it isn't answered.
 pub record IsUnanswered {D : Type 0} (es : List (Event D)) : Type 0 where
   pub server : ℕ
   pub runs : 1 ≤ running server es
@@ -90,8 +93,8 @@ pub record IsLeftHeld {D : Type 0} (es : List (Event D)) (commands : List Script
 abbrev pub MayBeDamaged : {D : Type 0} (disks : Disks D) → D → Type 0
 MayBeDamaged disks disk = (c : Image) × disks.may_leave disk c × (restored c ≡ None)
 
--- Why the document of a disk that was given can't be told, with each fault: a call of the disk failed since then, or the disk is
--- damaged, which is said where it follows the model.
+-- Why the document of a disk that was given can't be told, with each fault: a call of the disk failed since then, or
+-- the disk is damaged, which is said where it follows the model.
 abbrev pub IsUntoldFor : {D : Type 0} (disks : Disks D) → (given disk : D) → StoreFault → Type 0
 IsUntoldFor disks given disk Device = HasFailed disks given disk
 IsUntoldFor disks given disk NeedsReopen = ⊥
@@ -99,23 +102,27 @@ IsUntoldFor disks given disk TooBig = ⊥
 IsUntoldFor disks given disk Damaged = disks.follows_model → MayBeDamaged disks given
 IsUntoldFor disks given disk NoMemory = ⊥
 
--- The last call gave a disk back under this name, the call before it had given this disk under the same name, and its document can't
--- be told, for this fault.
-pub record IsShutUntold {D : Type 0} (disks : Disks D) (es : List (Event D)) (name : List ℕ) (why : StoreFault) : Type 0 where
+-- The last call gave a disk back under this name, the call before it had given this disk under the same name, and its
+-- document can't be told, for this fault.
+pub record IsShutUntold {D : Type 0} (disks : Disks D) (es : List (Event D)) (name : List ℕ) (why : StoreFault) :
+    Type 0 where
   pub given : D
   pub disk : D
   pub before : List (Event D)
   pub last : es ≡ Shut name disk ∷ Opened name (Some given) ∷ before
   pub cause : IsUntoldFor disks given disk why
 
--- The disk of this name wasn't given, though it was asked for twice, in the last two calls; or it was given and given back in the
--- last two, and its document can't be told. The container isn't told of it.
+-- The disk of this name wasn't given, though it was asked for twice, in the last two calls; or it was given and given
+-- back in the last two, and its document can't be told. The container isn't told of it.
 abbrev pub IsUnopened : {D : Type 0} (disks : Disks D) → List ℕ → StoreFault → List (Event D) → Type 0
-IsUnopened {D = D} disks name why es = ((before : List (Event D)) × (es ≡ Opened name None ∷ Opened name None ∷ before)) ⊎ IsShutUntold disks es name why
+IsUnopened {D = D} disks name why es =
+    ((before : List (Event D)) × (es ≡ Opened name None ∷ Opened name None ∷ before))
+    ⊎ IsShutUntold disks es name why
 
--- The commit of a frame's file is asked for, the disk of the file's name wasn't opened, and the container isn't told what became of
--- the commit.
-pub record IsUnknown {D : Type 0} (disks : Disks D) (es : List (Event D)) (name : List ℕ) (why : StoreFault) : Type 0 where
+-- The commit of a frame's file is asked for, the disk of the file's name wasn't opened, and the container isn't told
+-- what became of the commit.
+pub record IsUnknown {D : Type 0} (disks : Disks D) (es : List (Event D)) (name : List ℕ) (why : StoreFault) : Type
+    0 where
   pub f : ℕ
   pub frame : Frame
   pub found : nth (record_of es).frames f ≡ Some frame

@@ -1,11 +1,12 @@
 -- What a host is asked and answers, and what happens to the container meanwhile. A history has the newest event first.
-use Rattle.std.specs.Prelude.{◌+◌, ◌-◌, ◌==◌, ◌&&◌, ℕ, Bool, List, [], ◌∷◌, if◌then◌else◌, Option, Some, None, Result, Ok, Err}
+use Rattle.std.specs.Prelude.{◌+◌, ◌-◌, ◌==◌, ◌&&◌, ℕ, Bool, List, [], ◌∷◌, if◌then◌else◌, Option, Some, None, Result}
+use Rattle.std.specs.Prelude.{Ok, Err}
 use Rattle.script_model.specs.declared.step.Step.{Step}
 
--- A server is started in a session, and a link to it made; the link is made anew; bytes are sent; bytes came, none where the other
--- side has closed the link; a server is ended and awaited. Each says whose it is, and whether it was done. The disk of a file is
--- opened, and the file made where it is missing; the disk of a file is looked for; each says which disk was given, or none.
--- The disk of a file is given back.
+-- A server is started in a session, and a link to it made; the link is made anew; bytes are sent; bytes came, none
+-- where the other side has closed the link; a server is ended and awaited. Each says whose it is, and whether it was
+-- done. The disk of a file is opened, and the file made where it is missing; the disk of a file is looked for; each
+-- says which disk was given, or none. The disk of a file is given back.
 pub data Event (D : Type 0) : Type 0 where
   Started : (session inc : ℕ) → Bool → Event D
   Connected : ℕ → Bool → Event D
@@ -55,7 +56,8 @@ reads (Stepped step ∷ es) = reads es
 -- how many starts failed, and of which server the last one was
 abbrev pub failed_starts : {D : Type 0} → ℕ → List (Event D) → ℕ
 failed_starts s [] = 0
-failed_starts s (Started session inc ok ∷ es) = if ok then failed_starts s es else if inc == s then failed_starts s es + 1 else failed_starts s es
+failed_starts s (Started session inc ok ∷ es) = if ok then failed_starts s es else if inc == s
+    then failed_starts s es + 1 else failed_starts s es
 failed_starts s (Ended inc ∷ es) = failed_starts s es
 failed_starts s (Connected inc ok ∷ es) = failed_starts s es
 failed_starts s (Sent inc bytes ok ∷ es) = failed_starts s es

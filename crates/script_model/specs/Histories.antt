@@ -1,7 +1,7 @@
 -- What a history that takes no memory says: its calls, and the steps and the disks in their places.
 use Rattle.std.specs.Prelude.{◌&&◌, Bool, List, [], ◌∷◌, ◌++◌, drop, cond, nat_eq, nat_le, Some, None}
 use Rattle.std.specs.Int.{w32, from_le_bytes}
-use Rattle.histories.specs.Noted.{Noted}
+use Rattle.script_model.specs.Noted.{Noted}
 use Rattle.script_model.specs.declared.history.History.{History}
 use Rattle.script_model.specs.declared.step.Step.{Step}
 use Rattle.script_model.specs.Events.{Event, Started, Connected, Sent, Heard, Ended, Opened, Found, Shut, Stepped}

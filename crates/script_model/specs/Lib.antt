@@ -1,3 +1,4 @@
+pub mod Noted
 pub mod Events
 pub mod Containers
 pub mod Courses

@@ -1,4 +1,5 @@
--- What a history has to tell of a command besides what the command makes: an object that refused a call, a save that was lost.
+-- What a history has to tell of a command besides what the command makes: an object that refused a call, a save that
+-- was lost.
 use Rattle.std.specs.Prelude.{◌≡◌, List, [], ◌∷◌, Option, Some, None, Result, Ok, Err}
 use Rattle.container_model.specs.Messages.{on_message}
 use Rattle.container_model.specs.Record.{Took}
@@ -7,7 +8,7 @@ use Rattle.container_model.specs.declared.answer.FrameDocument.{FrameDocument}
 use Rattle.container_model.specs.declared.fault.ContainerFault.{ContainerFault}
 use Rattle.container_model.specs.declared.fault.ContainerFault.TheVariants.{Full}
 use Rattle.store_model.specs.declared.fault.StoreFault.{StoreFault}
-use Rattle.wire_msgs.specs.declared.refusal.Refusal.{Refusal}
+use Rattle.message_values.specs.declared.refusal.Refusal.{Refusal}
 use Rattle.script_model.specs.declared.answer.Told.{Told}
 use Rattle.script_model.specs.declared.answer.Told.TheVariants as told
 use Rattle.script_model.specs.declared.step.Step.{Step}
@@ -44,7 +45,8 @@ abbrev pub behind_notices : {D : Type 0} → Step → List (Event D) → Option 
 behind_notices (step.Begins n) es noticed = None
 behind_notices (step.Command c) es noticed = noticed
 behind_notices (step.Message inc m) es noticed =
-    first_noticed noticed (refused_by (on_message (record_of es) (record { session = (record_of es).session; inc = inc }) m))
+    first_noticed noticed
+    (refused_by (on_message (record_of es) (record { session = (record_of es).session; inc = inc }) m))
 behind_notices (step.Reap inc) es noticed = noticed
 behind_notices (step.Committed f) es noticed = noticed
 behind_notices (step.Failed f) es noticed = first_noticed noticed (Some (lost_as (image (record_of es) f)))

@@ -31,10 +31,11 @@ ordered_by (st ∷ steps) = behind_order st (ordered_by steps)
 abbrev pub orders : {D : Type 0} → List (Event D) → List Step
 orders es = ordered_by (asked es)
 
--- A start that the container is given while it has no session stands directly behind a Session that it was given, which was to raise
--- one.
+-- A start that the container is given while it has no session stands directly behind a Session that it was given, which
+-- was to raise one.
 abbrev pub IsReadied : Command → Record → List Step → Type 0
-IsReadied command.Start r steps = (r.session ≢ 0) ⊎ ((before : List Step) × (steps ≡ step.Command command.Session ∷ before))
+IsReadied command.Start r steps = (r.session ≢ 0)
+    ⊎ ((before : List Step) × (steps ≡ step.Command command.Session ∷ before))
 IsReadied c r steps = Unit {0}
 
 -- behind the orders of the commands before it, those of a command: the container is given what its user asks for
@@ -51,18 +52,19 @@ abbrev pub behind_commands : ℕ → List ScriptCommand → List Step → List S
 behind_commands place [] os = os
 behind_commands place (c ∷ cs) os = behind_commands (place + 1) cs (behind_command c (step.Begins place ∷ os))
 
--- Behind the orders before it, those of a command; or none of them, where that is a start: the save that is to raise the session comes
--- before it, and may end the script.
+-- Behind the orders before it, those of a command; or none of them, where that is a start: the save that is to raise
+-- the session comes before it, and may end the script.
 abbrev pub IsBegun : ScriptCommand → (before after : List Step) → Type 0
 IsBegun c before after = (after ≡ behind_command c before) ⊎ ((c ≡ script.Container command.Start) × (after ≡ before))
 
 -- the orders of commands of which the last one is a start that the container isn't given
 abbrev pub AreBeforeStart : List Step → List ScriptCommand → Type 0
-AreBeforeStart os cs = (before : List ScriptCommand) × (cs ≡ before ++ script.Container command.Start ∷ []) × (os ≡ step.Begins (length before) ∷ behind_commands 0 before [])
+AreBeforeStart os cs = (before : List ScriptCommand) × (cs ≡ before ++ script.Container command.Start ∷ [])
+    × (os ≡ step.Begins (length before) ∷ behind_commands 0 before [])
 
--- Commands began one after another, from the first on, each once, and no other: so many of them, of which the container was given what
--- its user asks for. Where the last one is a start, it may not have been given that: the save that was to raise the session ended the
--- script.
+-- Commands began one after another, from the first on, each once, and no other: so many of them, of which the container
+-- was given what its user asks for. Where the last one is a start, it may not have been given that: the save that was
+-- to raise the session ended the script.
 pub record HaveBegun {D : Type 0} (es : List (Event D)) (commands : List ScriptCommand) : Type 0 where
   pub front : List ScriptCommand
   pub rest : List ScriptCommand

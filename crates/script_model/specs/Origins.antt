@@ -1,7 +1,7 @@
 -- Where messages come from: what came on the links of a server, and what the container was given of it, its end last.
 use Rattle.std.specs.Prelude.{◌≡◌, ◌==◌, ◌&&◌, ◌++◌, ℕ, false, List, [], ◌∷◌, if◌then◌else◌}
 use Rattle.std.specs.List.{AllByRecursion}
-use Rattle.wire_msgs.specs.declared.message.Message.{Message}
+use Rattle.message_values.specs.declared.message.Message.{Message}
 use Rattle.message_model.specs.declared.frame.Frame.{Frame}
 use Rattle.message_model.specs.declared.frame.Frame.TheVariants as frame
 use Rattle.message_model.specs.Frames.{IsFrame}
@@ -15,8 +15,9 @@ use Rattle.script_model.specs.Saved.{OfEachStep, is_any_unsaved}
 
 -- ---- histories
 
--- What passed between a server and the container since it was started: the bytes that came on each link to it, the last link
--- first, and the messages that the container was given of it, in their order. A server that doesn't run has no link.
+-- What passed between a server and the container since it was started: the bytes that came on each link to it, the last
+-- link first, and the messages that the container was given of it, in their order. A server that doesn't run has no
+-- link.
 pub record Passed : Type 0 where
   pub came : List (List ℕ)
   pub given : List Message
@@ -89,13 +90,15 @@ pub record Begins (bytes : List ℕ) (ms : List Message) : Type 0 where
   pub each : AllByRecursion IsFrame frames
   pub messages : messages_of frames ≡ ms
 
--- Messages came on these links, of which the last is first: those at the beginning of what came on each, one link after another.
--- What came behind them on a link may be lost with the link.
+-- Messages came on these links, of which the last is first: those at the beginning of what came on each, one link after
+-- another. What came behind them on a link may be lost with the link.
 abbrev pub AreFirst : List (List ℕ) → List Message → Type 0
 AreFirst [] ms = ms ≡ []
-AreFirst (bytes ∷ earlier) ms = (before : List Message) × (last : List Message) × (ms ≡ before ++ last) × AreFirst earlier before × Begins bytes last
+AreFirst (bytes ∷ earlier) ms = (before : List Message) × (last : List Message) × (ms ≡ before ++ last)
+    × AreFirst earlier before × Begins bytes last
 
--- These messages are the next ones: they came on the links of their server, directly behind those that the container was given.
+-- These messages are the next ones: they came on the links of their server, directly behind those that the container
+-- was given.
 abbrev pub AreNext : Passed → List Message → Type 0
 AreNext p ms = (more : List Message) × AreFirst p.came (p.given ++ (ms ++ more))
 
@@ -107,9 +110,9 @@ IsJustEnded {D = D} inc es = (before : List (Event D)) × (es ≡ Ended inc ∷ 
 abbrev pub BeginsSaved : {D : Type 0} → List (Event D) → Type 0
 BeginsSaved es = is_any_unsaved (record_of es).frames ≡ false
 
--- a step that gives the container a message, behind these calls: it is the next one that came on the links of its server; one that
--- tells it the end of a server, directly behind this end; a start, where it has a session or was to get one; and the beginning of a
--- command
+-- a step that gives the container a message, behind these calls: it is the next one that came on the links of its
+-- server; one that tells it the end of a server, directly behind this end; a start, where it has a session or was to
+-- get one; and the beginning of a command
 abbrev pub GivesNext : {D : Type 0} → Step → List (Event D) → Type 0
 GivesNext (step.Begins n) es = BeginsSaved es
 GivesNext (step.Command c) es = IsReadied c (record_of es) (asked es)
@@ -121,10 +124,10 @@ GivesNext (step.Resolved f is_kept) es = Unit {0}
 GivesNext (step.Open name w h session objects) es = Unit {0}
 GivesNext step.NoMemory es = Unit {0}
 
--- Each message that the container was given came on a link of its server, since this was started and before it was ended: it is
--- the next one behind those that the container was given of this server. So none is made up, none comes twice, and none comes
--- before its bytes. Each end of a server that it was told stands directly behind the end of this server. Each start that it was given
--- without a session stands behind a Session, which was to raise one. And where a command begins, no frame's file is to be committed,
--- or in doubt.
+-- Each message that the container was given came on a link of its server, since this was started and before it was
+-- ended: it is the next one behind those that the container was given of this server. So none is made up, none comes
+-- twice, and none comes before its bytes. Each end of a server that it was told stands directly behind the end of this
+-- server. Each start that it was given without a session stands behind a Session, which was to raise one. And where a
+-- command begins, no frame's file is to be committed, or in doubt.
 abbrev pub AreHeard : {D : Type 0} → List (Event D) → Type 0
 AreHeard es = OfEachStep GivesNext es

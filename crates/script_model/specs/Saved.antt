@@ -1,15 +1,17 @@
--- What a history says of files: which disk stands behind each commit that the container counts, and behind each file that is opened.
-use Rattle.std.specs.Prelude.{◌≡◌, ◌<◌, ◌⊎◌, ◌||◌, ℕ, Bool, true, false, List, [], ◌∷◌, length, Option, Some, None, Ok, Err}
-use Rattle.file_model.specs.Denotes.{Denotes}
-use Rattle.file_zeros.specs.Zeroed.{IsZeroed}
-use Rattle.document_model.specs.DocOf.{DocOf}
-use Rattle.document_model.specs.Documents.{Doc}
+-- What a history says of files: which disk stands behind each commit that the container counts, and behind each file
+-- that is opened.
+use Rattle.std.specs.Prelude.{◌≡◌, ◌<◌, ◌⊎◌, ◌||◌, ℕ, Bool, true, false, List, [], ◌∷◌, length, Option, Some, None, Ok}
+use Rattle.std.specs.Prelude.{Err}
+use Rattle.cfb_file.specs.Denotes.{Denotes}
+use Rattle.write_zeros.specs.Zeroed.{IsZeroed}
+use Rattle.ole_model.specs.DocOf.{DocOf}
+use Rattle.ole_model.specs.Documents.{Doc}
 use Rattle.store_model.specs.Crash.{Rose, StaysIn}
 use Rattle.store_model.specs.Image.{Image}
 use Rattle.store_model.specs.Store.{StandsAsOneOf, StandsFor}
 use Rattle.store_model.specs.declared.limit.TheConstants.{MAX_DOCUMENT}
 use Rattle.store_model.specs.declared.disk.Disk.{Ghosts as Disks}
-use Rattle.wire_msgs.specs.Found.{nth}
+use Rattle.message_values.specs.Found.{nth}
 use Rattle.container_model.specs.declared.answer.FrameDocument.{FrameDocument}
 use Rattle.container_model.specs.declared.record.Frame.{Frame}
 use Rattle.container_model.specs.declared.record.Phase.{Phase}
@@ -41,14 +43,14 @@ IsAsGiven disks given c = StandsAsOneOf (disks.may_leave given) c
 abbrev pub IsAsGivenOr : {D : Type 0} (disks : Disks D) → D → List ℕ → Image → Type 0
 IsAsGivenOr disks given bytes c = IsAsGiven disks given c ⊎ StandsFor bytes c
 
--- These bytes were saved on a disk that was given: a crash since then leaves what stands for what the disk as it was given might
--- have stood for, or for these bytes, and a crash now leaves what stands for these bytes.
+-- These bytes were saved on a disk that was given: a crash since then leaves what stands for what the disk as it was
+-- given might have stood for, or for these bytes, and a crash now leaves what stands for these bytes.
 pub record IsSavedOn {D : Type 0} (disks : Disks D) (given : D) (bytes : List ℕ) (disk : D) : Type 0 where
   pub since : IsSince disks given disk (IsAsGivenOr disks given bytes)
   pub durable : IsDurable disks disk bytes
 
--- These bytes weren't saved on a disk that was given: a crash since then leaves what stands for what the disk as it was given
--- might have stood for, or for these bytes, and a crash now leaves what stands for the first alone.
+-- These bytes weren't saved on a disk that was given: a crash since then leaves what stands for what the disk as it was
+-- given might have stood for, or for these bytes, and a crash now leaves what stands for the first alone.
 pub record IsLostOn {D : Type 0} (disks : Disks D) (given : D) (bytes : List ℕ) (disk : D) : Type 0 where
   pub since : IsSince disks given disk (IsAsGivenOr disks given bytes)
   pub stays : (c : Image) → disks.may_leave disk c → IsAsGiven disks given c
@@ -57,13 +59,13 @@ pub record IsLostOn {D : Type 0} (disks : Disks D) (given : D) (bytes : List ℕ
 abbrev pub HasFailed : {D : Type 0} (disks : Disks D) → (given disk : D) → Type 0
 HasFailed disks given disk = Rose (disks.failed given) (disks.failed disk)
 
--- Why these bytes weren't saved on a disk that was given: they are more than a document may have, or a call of the disk failed
--- since then.
+-- Why these bytes weren't saved on a disk that was given: they are more than a document may have, or a call of the disk
+-- failed since then.
 abbrev pub IsRefusedOn : {D : Type 0} (disks : Disks D) → (given : D) → List ℕ → (disk : D) → Type 0
 IsRefusedOn disks given bytes disk = (MAX_DOCUMENT < length bytes) ⊎ HasFailed disks given disk
 
--- These bytes were read of a disk that was given: it stood for them then, a crash since then leaves what stands for what the
--- disk as it was given might have stood for, and a crash now leaves what stands for these bytes.
+-- These bytes were read of a disk that was given: it stood for them then, a crash since then leaves what stands for
+-- what the disk as it was given might have stood for, and a crash now leaves what stands for these bytes.
 pub record IsReadOf {D : Type 0} (disks : Disks D) (given : D) (bytes : List ℕ) (disk : D) : Type 0 where
   pub read : StandsFor bytes (disks.reads given)
   pub since : IsSince disks given disk (IsAsGiven disks given)
@@ -92,8 +94,8 @@ abbrev pub is_any_unsaved : List Frame → Bool
 is_any_unsaved [] = false
 is_any_unsaved (frame ∷ frames) = is_unsaved frame.phase || is_any_unsaved frames
 
--- Bytes are the file of a frame whose commit is asked for: this is its name, they denote a tree, what this holds is the document of
--- its save, and what this takes none of is zero, so that nothing of an older document is left there.
+-- Bytes are the file of a frame whose commit is asked for: this is its name, they denote a tree, what this holds is the
+-- document of its save, and what this takes none of is zero, so that nothing of an older document is left there.
 pub record IsFileOf (r : Record) (f : ℕ) (name bytes : List ℕ) : Type 0 where
   pub frame : Frame
   pub found : nth r.frames f ≡ Some frame
@@ -104,8 +106,8 @@ pub record IsFileOf (r : Record) (f : ℕ) (name bytes : List ℕ) : Type 0 wher
   pub holds : DocOf (document_tree saved) (document saved)
   pub zeroed : IsZeroed bytes
 
--- The last call gave a disk back under this name, the call before it had given this disk under the same name, and in between these
--- bytes were saved on it.
+-- The last call gave a disk back under this name, the call before it had given this disk under the same name, and in
+-- between these bytes were saved on it.
 pub record IsShutWith {D : Type 0} (disks : Disks D) (es : List (Event D)) (name bytes : List ℕ) : Type 0 where
   pub given : D
   pub disk : D
@@ -124,9 +126,10 @@ pub record IsSaved {D : Type 0} (disks : Disks D) (es : List (Event D)) (f : ℕ
 abbrev pub IsMissing : {D : Type 0} → List ℕ → List (Event D) → Type 0
 IsMissing {D = D} name es = (before : List (Event D)) × (es ≡ Opened name None ∷ before)
 
--- The last call gave a disk back under this name, the call before it had given this disk under the same name, and in between these
--- bytes were to be saved on it and weren't: they are too many, a call of the disk failed, or the disk wasn't given when it was asked
--- for the first time, in the call before these. That the disk holds what it held before is said where it follows the model.
+-- The last call gave a disk back under this name, the call before it had given this disk under the same name, and in
+-- between these bytes were to be saved on it and weren't: they are too many, a call of the disk failed, or the disk
+-- wasn't given when it was asked for the first time, in the call before these. That the disk holds what it held before
+-- is said where it follows the model.
 pub record IsShutWithout {D : Type 0} (disks : Disks D) (es : List (Event D)) (name bytes : List ℕ) : Type 0 where
   pub given : D
   pub disk : D
@@ -142,7 +145,8 @@ pub record IsLeft {D : Type 0} (disks : Disks D) (es : List (Event D)) (f : ℕ)
   pub shut : IsShutWithout disks es name bytes
   pub file : IsFileOf (record_of es) f name bytes
 
--- The commit of a frame's file failed: no file can hold its document, or it wasn't saved, for a cause that the history shows.
+-- The commit of a frame's file failed: no file can hold its document, or it wasn't saved, for a cause that the history
+-- shows.
 abbrev pub IsLost : {D : Type 0} (disks : Disks D) → List (Event D) → ℕ → Type 0
 IsLost disks es f = (image (record_of es) f ≡ Err Full) ⊎ IsLeft disks es f
 
@@ -168,8 +172,8 @@ CountsSaved disks step.NoMemory es = Unit {0}
 
 -- ---- opened files
 
--- The last call gave a disk back under this name, the call before it had found this disk under the same name, and in between these
--- bytes were read of it.
+-- The last call gave a disk back under this name, the call before it had found this disk under the same name, and in
+-- between these bytes were read of it.
 pub record IsReadFrom {D : Type 0} (disks : Disks D) (es : List (Event D)) (name bytes : List ℕ) : Type 0 where
   pub found : D
   pub disk : D
@@ -192,7 +196,8 @@ OpensRead disks (step.Reap inc) es = Unit {0}
 OpensRead disks (step.Committed f) es = Unit {0}
 OpensRead disks (step.Failed f) es = Unit {0}
 OpensRead disks (step.Resolved f is_kept) es = Unit {0}
-OpensRead disks (step.Open name w h session objects) es = IsOpened disks es name (record { session = session; objects = objects })
+OpensRead disks (step.Open name w h session objects) es =
+    IsOpened disks es name (record { session = session; objects = objects })
 OpensRead disks step.NoMemory es = Unit {0}
 
 -- ---- whole histories
@@ -210,15 +215,16 @@ OfEachStep P (Opened name disk ∷ es) = OfEachStep P es
 OfEachStep P (Found name disk ∷ es) = OfEachStep P es
 OfEachStep P (Shut name disk ∷ es) = OfEachStep P es
 
--- Where disks follow the model, each commit that the container counts stands directly behind the giving back of the disk that the
--- host gave under the frame's name directly before, and which then holds the frame's file, whatever a crash leaves of it: this denotes
--- the document that is saved, and all else in it is zero. Each that
--- fails stands directly behind the giving back of such a disk, for a cause: the file is too large, or a call of this disk failed, or
--- it wasn't given when it was asked for the first time; and where disks follow the model, it then holds what it held as it was given,
--- whatever a crash leaves of it. Or no file can hold its document.
+-- Where disks follow the model, each commit that the container counts stands directly behind the giving back of the
+-- disk that the host gave under the frame's name directly before, and which then holds the frame's file, whatever a
+-- crash leaves of it: this denotes the document that is saved, and all else in it is zero. Each that fails stands
+-- directly behind the giving back of such a disk, for a cause: the file is too large, or a call of this disk failed, or
+-- it wasn't given when it was asked for the first time; and where disks follow the model, it then holds what it held as
+-- it was given, whatever a crash leaves of it. Or no file can hold its document.
 abbrev pub AreSaved : {D : Type 0} (disks : Disks D) → List (Event D) → Type 0
 AreSaved disks es = OfEachStep (CountsSaved disks) es
 
--- Each file that is opened has the session and the objects of the document that was read of the disk which the host found under its name.
+-- Each file that is opened has the session and the objects of the document that was read of the disk which the host
+-- found under its name.
 abbrev pub AreOpened : {D : Type 0} (disks : Disks D) → List (Event D) → Type 0
 AreOpened disks es = OfEachStep (OpensRead disks) es

@@ -1,8 +1,8 @@
 -- What a link is sent: the calls that are pending for its server, and a Turn.
 use Rattle.std.specs.Prelude.{◌≡◌, ◌==◌, ◌++◌, ℕ, List, [], ◌∷◌, if◌then◌else◌}
-use Rattle.wire_msgs.specs.declared.message.Message.{Message}
-use Rattle.wire_msgs.specs.declared.message.Said.{Said}
-use Rattle.wire_msgs.specs.declared.message.Said.TheVariants.{Call, Reply, Write, Ask}
+use Rattle.message_values.specs.declared.message.Message.{Message}
+use Rattle.message_values.specs.declared.message.Said.{Said}
+use Rattle.message_values.specs.declared.message.Said.TheVariants.{Call, Reply, Write, Ask}
 use Rattle.container_model.specs.Record.{Record}
 use Rattle.container_model.specs.Replies.{pending_calls}
 use Rattle.message_model.specs.declared.frame.Frame.TheVariants as frame
@@ -20,7 +20,8 @@ server_of (Ask inc act g) = inc
 -- the byte forms of those messages of a server, one after the other, in their order
 abbrev pub spelled_to : ℕ → List Message → List ℕ
 spelled_to inc [] = []
-spelled_to inc (m ∷ ms) = if server_of m.said == inc then spell (frame.Message m) ++ spelled_to inc ms else spelled_to inc ms
+spelled_to inc (m ∷ ms) = if server_of m.said == inc then spell (frame.Message m) ++ spelled_to inc ms
+    else spelled_to inc ms
 
 -- a server's turn
 abbrev pub turn_of : Record → ℕ → List ℕ

@@ -1,8 +1,8 @@
 //! What is printed of a command.
 
 use container_model::fault::ContainerFault;
+use message_values::refusal::Refusal;
 use store_model::fault::StoreFault;
-use wire_msgs::refusal::Refusal;
 
 /// What is printed of a command.
 #[derive(Clone, Copy)]

@@ -1,7 +1,7 @@
 //! The commands of a script.
 
 use container_model::command::Command;
-use stored_values::bytes::Bytes;
+use tree_values::bytes::Bytes;
 
 /// A command of a script.
 #[derive(Drop)]

@@ -4,9 +4,9 @@ ghost use Rattle.script_model.specs.Events.{Connected, Ended, Found, Heard, Open
 ghost use Rattle.script_model.specs.Histories.{told_in};
 ghost use Rattle.std.specs.Prelude.{◌≡◌, [], ◌∷◌, option_copied};
 
+use crate::calls::Calls;
 use crate::step::Step;
-use histories::calls::Calls;
-use histories::values::Values;
+use crate::values::Values;
 
 /// What a host was asked and answered, and what the container was given meanwhile. It takes no memory.
 #[derive(Drop)]

@@ -1,6 +1,7 @@
 //! A host: it starts servers, carries bytes to and from them, ends them, and gives the disks of files.
 
-ghost use Rattle.script_model.specs.Events.{Event, Connected, Ended, Found, Heard, Opened, Sent, Shut, Started, Stepped, disk_found, disk_given};
+ghost use Rattle.script_model.specs.Events.{Event, Connected, Ended, Found, Heard, Opened, Sent, Shut, Started};
+ghost use Rattle.script_model.specs.Events.{Stepped, disk_found, disk_given};
 ghost use Rattle.std.specs.Prelude.{◌≡◌, ◌≤◌, false, true, List, [], ◌∷◌, IfOk, MatchResult, is_ok, length, take};
 
 use crate::step::Step;
@@ -19,8 +20,8 @@ pub enum HostFault {
     NoMemory,
 }
 
-/// What starts servers, carries bytes to and from them, and ends them, and gives the disks that files are saved to. A server is
-/// named by its incarnation; all of them are of one session.
+/// What starts servers, carries bytes to and from them, and ends them, and gives the disks that files are saved to. A
+/// server is named by its incarnation; all of them are of one session.
 pub trait Host {
     /// The disk of a file and its journal.
     type Disk: Disk + Drop;
@@ -43,7 +44,8 @@ pub trait Host {
     /// Reads some bytes, and none where the other side has closed the link.
     fn read(&mut self, inc: u32, into: &mut [u8]) -> Result<usize, HostFault>
         ensures few { IfOk result (λ n. n ≤ length into.new) }
-        ensures told { MatchResult result (λ n. told self.new ≡ Heard inc (take n into.new) true ∷ told self.old) (λ _. told self.new ≡ Heard inc [] false ∷ told self.old) };
+        ensures told { MatchResult result (λ n. told self.new ≡ Heard inc (take n into.new) true ∷ told self.old)
+            (λ _. told self.new ≡ Heard inc [] false ∷ told self.old) };
 
     /// Ends a server, and awaits its end.
     fn end(&mut self, inc: u32)
@@ -53,8 +55,8 @@ pub trait Host {
     fn disk(&mut self, name: &[u8]) -> Result<Self::Disk, StoreFault>
         ensures { told self.new ≡ Opened name.now (disk_given result) ∷ told self.old };
 
-    /// The disk of the file of this name, where the file or its journal is there; none where neither is, or where a file without
-    /// bytes has no journal, and then nothing is made.
+    /// The disk of the file of this name, where the file or its journal is there; none where neither is, or where a
+    /// file without bytes has no journal, and then nothing is made.
     fn find(&mut self, name: &[u8]) -> Result<Option<Self::Disk>, StoreFault>
         ensures told { told self.new ≡ Found name.now (disk_found result) ∷ told self.old };
 

@@ -1,10 +1,10 @@
 //! What happens to a container between the calls of its host.
 
 use container_model::command::Command;
-use document_model::object::DocObject;
-use stored_values::bytes::Bytes;
-use wire_msgs::items::Items;
-use wire_msgs::message::Message;
+use message_values::items::Items;
+use message_values::message::Message;
+use ole_model::object::DocObject;
+use tree_values::bytes::Bytes;
 
 /// What happens to a container between the calls of its host.
 #[derive(Drop)]
@@ -23,8 +23,8 @@ pub enum Step {
     Failed(u32),
     /// The container is told whether the file of this frame, which was in doubt, was committed after all.
     Resolved(u32, bool),
-    /// The container is given a file that is opened under this name, as a frame so many columns wide and so many lines high: the
-    /// session and the objects of its document.
+    /// The container is given a file that is opened under this name, as a frame so many columns wide and so many lines
+    /// high: the session and the objects of its document.
     Open(Bytes, u16, u16, u32, Items<DocObject>),
     /// The container had no memory for what it was given last.
     NoMemory,

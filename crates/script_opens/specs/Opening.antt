@@ -20,11 +20,14 @@ MOST_OPENED = 134217728
 abbrev pub HoldsMore : {D : Type 0} (disks : Disks D) → D → Type 0
 HoldsMore disks found = (bytes : List ℕ) × StandsFor bytes (disks.reads found) × (MOST_OPENED < length bytes)
 
--- Why a file that was found isn't opened, and what is told. It has no bytes; it has bytes, and they hold no document; it has more
--- bytes than are opened: each is said where disks follow the model. Or the disk isn't read, for a fault of the store.
+-- Why a file that was found isn't opened, and what is told. It has no bytes; it has bytes, and they hold no document;
+-- it has more bytes than are opened: each is said where disks follow the model. Or the disk isn't read, for a fault of
+-- the store.
 pub data IsUnread {D : Type 0} (disks : Disks D) (found disk : D) (first : Told) : Type 0 where
-  empty : first ≡ told.Fault NoSuch → (disks.follows_model → IsReadOf disks found [] disk) → IsUnread disks found disk first
-  broken : (bytes : List ℕ) → first ≡ told.Fault BadFile → (disks.follows_model → IsReadOf disks found bytes disk) → IsReadAs (Some bytes) Given.Broken → IsUnread disks found disk first
+  empty : first ≡ told.Fault NoSuch → (disks.follows_model → IsReadOf disks found [] disk)
+      → IsUnread disks found disk first
+  broken : (bytes : List ℕ) → first ≡ told.Fault BadFile → (disks.follows_model → IsReadOf disks found bytes disk)
+      → IsReadAs (Some bytes) Given.Broken → IsUnread disks found disk first
   large : first ≡ told.Fault BadFile → (disks.follows_model → HoldsMore disks found) → IsUnread disks found disk first
   refused : (why : StoreFault) → first ≡ told.Unread why → IsUnread disks found disk first
 
@@ -32,8 +35,10 @@ pub data IsUnread {D : Type 0} (disks : Disks D) (found disk : D) (first : Told)
 abbrev pub IsUnfound : Told → Type 0
 IsUnfound first = (first ≡ told.Fault NoSuch) ⊎ ((why : StoreFault) × (first ≡ told.Unread why))
 
--- What is told of a file that is to be opened under a name, as a frame of this size, by what was looked at first and what was done.
-abbrev pub IsOpenTold : {D : Type 0} (disks : Disks D) → Result (Unit {0}) ContainerFault → List ℕ → (w h : ℕ) → Opening D → Told → Type 0
+-- What is told of a file that is to be opened under a name, as a frame of this size, by what was looked at first and
+-- what was done.
+abbrev pub IsOpenTold : {D : Type 0} (disks : Disks D) → Result (Unit {0}) ContainerFault → List ℕ → (w h : ℕ)
+    → Opening D → Told → Type 0
 IsOpenTold disks (Err fault) name w h Unasked first = first ≡ told.Fault fault
 IsOpenTold disks (Err fault) name w h (Looked other found) first = ⊥
 IsOpenTold disks (Err fault) name w h (Read other found disk) first = ⊥
@@ -54,8 +59,11 @@ IsJustFound {D = D} name disk es = (before : List (Event D)) × (es ≡ Found na
 abbrev pub looked : Result (Unit {0}) ContainerFault
 looked = Ok tt
 
--- How a file that is there, and was read, is opened: as a frame; or its bytes hold no document, or it has none. Then the course stays.
-pub data IsOpenedBy {D : Type 0} (before after : Course D) (name : List ℕ) (w h : ℕ) (bytes : List ℕ) (first : Told) : Type 0 where
+-- How a file that is there, and was read, is opened: as a frame; or its bytes hold no document, or it has none. Then
+-- the course stays.
+pub data IsOpenedBy {D : Type 0} (before after : Course D) (name : List ℕ) (w h : ℕ) (bytes : List ℕ)
+    (first : Told) : Type 0 where
   made : after ≡ record before { opening = Made name w h first } → IsOpenedBy before after name w h bytes first
   void : after ≡ before → first ≡ told.Fault NoSuch → bytes ≡ [] → IsOpenedBy before after name w h bytes first
-  bad : after ≡ before → first ≡ told.Fault BadFile → IsReadAs (Some bytes) Given.Broken → IsOpenedBy before after name w h bytes first
+  bad : after ≡ before → first ≡ told.Fault BadFile → IsReadAs (Some bytes) Given.Broken
+      → IsOpenedBy before after name w h bytes first

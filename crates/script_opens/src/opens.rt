@@ -21,7 +21,6 @@ use crate::refusals::refusal;
 use container_core::container::ContainerCore;
 use container_documents::reading::document_in;
 use container_model::fault::ContainerFault;
-use doc_store::store::Store;
 use ole_streams::doc::Doc;
 use script_container::container::opened;
 use script_container::fault::ScriptFault;
@@ -29,14 +28,16 @@ use script_model::answer::Told;
 use script_model::host::Host;
 use script_texts::answers::opened_by;
 use std::alloc::Global;
+use store_core::store::Store;
 use store_model::disk::Disk;
 use store_model::fault::StoreFault;
-use stored_values::bytes::Bytes;
+use tree_values::bytes::Bytes;
 
 /// The most bytes of a document that is opened.
 const MOST: u64 = 134_217_728;
 
-/// The document of a disk, once its open journal is carried out, and the disk. `TooBig` where it has more bytes than are opened.
+/// The document of a disk, once its open journal is carried out, and the disk. `TooBig` where it has more bytes than
+/// are opened.
 fn document_on<D: Disk + Drop>(alloc: Global, disk: D) -> (Result<Vec<u8>, StoreFault>, D)
     ensures read { D.follows_model → IfOk result.0 (λ file. IsReadOf ⟦<D as Disk>⟧ disk file.items result.1) }
     ensures large { D.follows_model → result.0 ≡ Err store.TooBig → HoldsMore ⟦<D as Disk>⟧ disk }
@@ -71,7 +72,8 @@ fn make_frame<H: Host>(
     ensures paced { (s : ℕ) → pace s (H.told host.new) ≡ pace s (H.told host.old) }
     ensures ordered { but_opening (course (H.told host.new)) ≡ but_opening (course (H.told host.old)) }
     ensures noticed { notices (H.told host.new) ≡ notices (H.told host.old) }
-    ensures made { IfOk result (λ t. course (H.told host.new) ≡ record (course (H.told host.old)) { opening = Made name width height t }) }
+    ensures made { IfOk result (λ t. course (H.told host.new)
+        ≡ record (course (H.told host.old)) { opening = Made name width height t }) }
     ensures lacking { IfErr result (λ fault. fault ≡ NoMemory) }
 {
     match opened(alloc, host, core, name, width, height, document, file) {
@@ -99,7 +101,8 @@ fn open_found<H: Host>(
     ensures paced { (s : ℕ) → pace s (H.told host.new) ≡ pace s (H.told host.old) }
     ensures ordered { but_opening (course (H.told host.new)) ≡ but_opening (course (H.told host.old)) }
     ensures noticed { notices (H.told host.new) ≡ notices (H.told host.old) }
-    ensures opened { IfOk result (λ t. IsOpenedBy (course (H.told host.old)) (course (H.told host.new)) name width height file.now t) }
+    ensures opened { IfOk result (λ t. IsOpenedBy (course (H.told host.old)) (course (H.told host.new)) name width
+        height file.now t) }
     ensures lacking { IfErr result (λ fault. fault ≡ NoMemory) }
 {
     if file.is_empty() {
@@ -154,7 +157,8 @@ fn open_disk<H: Host>(
     ensures paced { (s : ℕ) → pace s (H.told host.new) ≡ pace s (H.told host.old) }
     ensures ordered { but_opening (course (H.told host.new)) ≡ but_opening (course (H.told host.old)) }
     ensures noticed { notices (H.told host.new) ≡ notices (H.told host.old) }
-    ensures first { IfOk result (λ t. IsOpenTold ⟦<H::Disk as Disk>⟧ looked name width height (course (H.told host.new)).opening t) }
+    ensures first { IfOk result (λ t. IsOpenTold ⟦<H::Disk as Disk>⟧ looked name width height
+        (course (H.told host.new)).opening t) }
     ensures lacking { IfErr result (λ fault. fault ≡ NoMemory) }
 {
     let (file, disk) = document_on(alloc, disk);
@@ -182,7 +186,8 @@ fn open_named<H: Host>(
     ensures paced { (s : ℕ) → pace s (H.told host.new) ≡ pace s (H.told host.old) }
     ensures ordered { but_opening (course (H.told host.new)) ≡ but_opening (course (H.told host.old)) }
     ensures noticed { notices (H.told host.new) ≡ notices (H.told host.old) }
-    ensures first { IfOk result (λ t. IsOpenTold ⟦<H::Disk as Disk>⟧ looked name width height (course (H.told host.new)).opening t) }
+    ensures first { IfOk result (λ t. IsOpenTold ⟦<H::Disk as Disk>⟧ looked name width height
+        (course (H.told host.new)).opening t) }
     ensures lacking { IfErr result (λ fault. fault ≡ NoMemory) }
 {
     match host.find(name.as_slice()) {
@@ -192,10 +197,10 @@ fn open_named<H: Host>(
     }
 }
 
-/// Opens the file of a name as a frame, so many columns wide and so many lines high. Gives what is told of it: the frame and its
-/// objects, or why it isn't opened, and then the container stays as it is. A name or a size that can't be is told before any disk
-/// is touched; then `NoSuch`, where there is no such file, or nothing in it; the store's fault; `BadFile`, where it is no document, or
-/// has more than 134,217,728 bytes.
+/// Opens the file of a name as a frame, so many columns wide and so many lines high. Gives what is told of it: the
+/// frame and its objects, or why it isn't opened, and then the container stays as it is. A name or a size that can't be
+/// is told before any disk is touched; then `NoSuch`, where there is no such file, or nothing in it; the store's fault;
+/// `BadFile`, where it is no document, or has more than 134,217,728 bytes.
 ///
 /// Refused for want of memory alone.
 pub fn open<H: Host>(
@@ -215,7 +220,8 @@ pub fn open<H: Host>(
     ensures paced { (s : ℕ) → pace s (H.told host.new) ≡ pace s (H.told host.old) }
     ensures ordered { but_opening (course (H.told host.new)) ≡ but_opening (course (H.told host.old)) }
     ensures noticed { notices (H.told host.new) ≡ notices (H.told host.old) }
-    ensures first { IfOk result (λ t. IsOpenTold ⟦<H::Disk as Disk>⟧ (looked_at core.old name width height) name width height (course (H.told host.new)).opening t) }
+    ensures first { IfOk result (λ t. IsOpenTold ⟦<H::Disk as Disk>⟧ (looked_at core.old name width height) name
+        width height (course (H.told host.new)).opening t) }
     ensures lacking { IfErr result (λ fault. fault ≡ NoMemory) }
 {
     match core.may_open(name.as_slice(), width, height) {

@@ -1,8 +1,8 @@
 -- Which errors a script ends with, and what its history shows of each.
 use Rattle.std.specs.Prelude.{◌≡◌, ◌⊎◌, ℕ, List, [], Option, IfSome, Ok}
 use Rattle.store_model.specs.declared.disk.Disk.{Ghosts as Disks}
-use Rattle.texts.specs.Input.{MayRefuseInput}
-use Rattle.texts.specs.Lines.{RefusesText}
+use Rattle.text_io.specs.Input.{MayRefuseInput}
+use Rattle.text_io.specs.Lines.{RefusesText}
 use Rattle.script_container.specs.declared.fault.ScriptFault.{ScriptFault}
 use Rattle.script_container.specs.declared.fault.ScriptFault.TheVariants as fault
 use Rattle.script_model.specs.declared.command.ScriptCommand.{ScriptCommand}
@@ -21,8 +21,8 @@ RefusesScript input (fault.File name why) = ⊥
 RefusesScript input fault.NoMemory = ⊥
 RefusesScript input fault.Unwritable = ⊥
 
--- A history shows this error of the commands of a script: that of its last command, or, where all of them were carried out, that a
--- server is left held.
+-- A history shows this error of the commands of a script: that of its last command, or, where all of them were carried
+-- out, that a server is left held.
 abbrev pub ShowsOf : {D : Type 0} (disks : Disks D) → List ScriptCommand → List (Event D) → ScriptFault → Type 0
 ShowsOf disks commands es (fault.Input why) = ⊥
 ShowsOf disks commands es (fault.Line n why) = ⊥
@@ -32,18 +32,19 @@ ShowsOf disks commands es (fault.File name why) = IsUnknown disks es name.items 
 ShowsOf disks commands es fault.NoMemory = Unit {0}
 ShowsOf disks commands es fault.Unwritable = Unit {0}
 
--- All commands that the input spells began, one after another, and a server runs that they hold and don't release again: it ran when it
--- was held, and since then.
+-- All commands that the input spells began, one after another, and a server runs that they hold and don't release
+-- again: it ran when it was held, and since then.
 pub record IsHeldToTheEnd {D : Type 0} (input : Option (List ℕ)) (es : List (Event D)) : Type 0 where
   pub commands : List ScriptCommand
   pub read : IfSome input (λ text. commands_read text ≡ Ok commands)
   pub left : IsStillHeld es commands
 
--- The error that a script over this input ended with, by its whole history. Where the input isn't read, or a line of it is refused,
--- nothing was asked and nothing was given to the container; and where the bytes of the input are known, they may be refused for it.
--- Every other error is shown by the history without the ends of servers that are its last calls: a server isn't started; what a
--- server that runs is asked isn't answered, a frame's file is still to be committed, or a server is still held behind the last
--- command; or it isn't known what became of a save. Of memory and of writers a history says nothing.
+-- The error that a script over this input ended with, by its whole history. Where the input isn't read, or a line of it
+-- is refused, nothing was asked and nothing was given to the container; and where the bytes of the input are known,
+-- they may be refused for it. Every other error is shown by the history without the ends of servers that are its last
+-- calls: a server isn't started; what a server that runs is asked isn't answered, a frame's file is still to be
+-- committed, or a server is still held behind the last command; or it isn't known what became of a save. Of memory and
+-- of writers a history says nothing.
 abbrev pub IsFaultOf : {D : Type 0} (disks : Disks D) → Option (List ℕ) → List (Event D) → ScriptFault → Type 0
 IsFaultOf disks input es (fault.Input why) = (es ≡ []) × RefusesScript input (fault.Input why)
 IsFaultOf disks input es (fault.Line n why) = (es ≡ []) × RefusesScript input (fault.Line n why)

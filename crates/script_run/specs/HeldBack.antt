@@ -20,8 +20,8 @@ GivesFree commands (step.Resolved f is_kept) es = Unit {0}
 GivesFree commands (step.Open name w h session objects) es = Unit {0}
 GivesFree commands step.NoMemory es = Unit {0}
 
--- Each message that the container was given is of a server that wasn't held then: from the command on that holds a server which
--- runs, up to the one that releases it, or to its end, none of its messages is given to the container.
+-- Each message that the container was given is of a server that wasn't held then: from the command on that holds a
+-- server which runs, up to the one that releases it, or to its end, none of its messages is given to the container.
 abbrev pub AreHeldBack : {D : Type 0} → List ScriptCommand → List (Event D) → Type 0
 AreHeldBack commands es = OfEachStep (GivesFree commands) es
 

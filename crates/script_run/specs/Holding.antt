@@ -1,9 +1,11 @@
 -- Which servers a script holds, by its history.
-use Rattle.std.specs.Prelude.{◌≡◌, ◌≤◌, ◌&&◌, ℕ, zero, suc, Bool, true, false, List, [], ◌∷◌, Option, Some, None, Ok, slice_get}
+use Rattle.std.specs.Prelude.{◌≡◌, ◌≤◌, ◌&&◌, ℕ, zero, suc, Bool, true, false, List, [], ◌∷◌, Option, Some, None, Ok}
+use Rattle.std.specs.Prelude.{slice_get}
 use Rattle.script_model.specs.declared.command.ScriptCommand.{ScriptCommand}
 use Rattle.script_model.specs.declared.step.Step.TheVariants as step
 use Rattle.script_model.specs.Errors.{IsLeftHeld, behind_hold}
-use Rattle.script_model.specs.Events.{Event, Started, Connected, Sent, Heard, Ended, Opened, Found, Shut, Stepped, running}
+use Rattle.script_model.specs.Events.{Event, Started, Connected, Sent, Heard, Ended, Opened, Found, Shut, Stepped}
+use Rattle.script_model.specs.Events.{running}
 use Rattle.script_texts.specs.Commands.{commands_read}
 
 -- whether a server runs
@@ -19,11 +21,12 @@ abbrev pub behind_place : Option ScriptCommand → ℕ → Bool → Bool
 behind_place None s held = held
 behind_place (Some c) s held = behind_hold c s held
 
--- Whether what comes from a server is held since the command began that began last: it ran and was held when that began, or that
--- command holds it; and that command doesn't release it.
+-- Whether what comes from a server is held since the command began that began last: it ran and was held when that
+-- began, or that command holds it; and that command doesn't release it.
 abbrev pub held_in : {D : Type 0} → List ScriptCommand → List (Event D) → ℕ → Bool
 held_in commands [] s = false
-held_in commands (Stepped (step.Begins n) ∷ es) s = behind_place (slice_get commands n) s (runs s es && held_in commands es s)
+held_in commands (Stepped (step.Begins n) ∷ es) s = behind_place (slice_get commands n) s
+    (runs s es && held_in commands es s)
 held_in commands (Stepped (step.Command c) ∷ es) s = held_in commands es s
 held_in commands (Stepped (step.Message inc m) ∷ es) s = held_in commands es s
 held_in commands (Stepped (step.Reap inc) ∷ es) s = held_in commands es s

@@ -2,11 +2,11 @@
 use Rattle.std.specs.Prelude.{ℕ, Bool, false, List, [], ◌∷◌, codes, cond, Option, Some, None, option_map, Result}
 use Rattle.std.specs.Str.{bytes_eq}
 use Rattle.text_words.specs.Words.{words}
-use Rattle.event_texts.specs.Events.{event_read, open_in, sole_number}
+use Rattle.text_worlds.specs.Events.{event_read, open_in, sole_number}
 use Rattle.script_model.specs.declared.command.ScriptCommand.{ScriptCommand}
 use Rattle.script_model.specs.declared.command.ScriptCommand.TheVariants as script
-use Rattle.texts.specs.Lines.{text_read}
-use Rattle.texts.specs.declared.lines.SyntaxFault.{SyntaxFault}
+use Rattle.text_io.specs.Lines.{text_read}
+use Rattle.text_io.specs.declared.lines.SyntaxFault.{SyntaxFault}
 use Rattle.world_model.specs.declared.event.Event.{Event}
 use Rattle.world_model.specs.declared.event.Event.TheVariants as event
 
@@ -51,7 +51,8 @@ is_open (name ∷ others) = bytes_eq name (codes "open")
 
 -- the command that a line spells
 abbrev pub command_read : List ℕ → Option ScriptCommand
-command_read line = or_else (link_in (words line)) (or_else (command_in (open_in (words line))) (command_in (event_read line)))
+command_read line = or_else (link_in (words line))
+    (or_else (command_in (open_in (words line))) (command_in (event_read line)))
 
 abbrev pub line_read : ℕ → List ℕ → Option ScriptCommand
 line_read n line = command_read line

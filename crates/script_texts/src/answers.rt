@@ -1,13 +1,14 @@
 //! What is printed of a command.
 
-ghost use Rattle.script_model.specs.Answers.{first_of, further, made_by, made_frame, made_object, made_server, objects_from, opened_as, opened_by, told_line, told_text};
+ghost use Rattle.script_model.specs.Answers.{first_of, further, made_by, made_frame, made_object, made_server};
+ghost use Rattle.script_model.specs.Answers.{objects_from, opened_as, opened_by, told_line, told_text};
 ghost use Rattle.script_model.specs.declared.answer.Told.TheVariants as told;
 ghost use Rattle.std.specs.Prelude.{◌≡◌, ◌<◌, ◌++◌, ◌∷◌, ◌^◌, [], OnOk, length};
 
 use container_model::answer::Answer;
 use script_model::answer::Told;
 use std::alloc::{AllocError, Global};
-use texts::writing::push_numbered;
+use text_spelling::writing::push_numbered;
 
 /// The server that was started, or that it was done.
 fn made_server(server: Option<u32>) -> Told
@@ -61,7 +62,8 @@ pub fn opened_by(answer: &Answer) -> Told
     }
 }
 
-/// A command that made nothing tells what was noticed first meanwhile: that an object refused a call, or that a save was lost.
+/// A command that made nothing tells what was noticed first meanwhile: that an object refused a call, or that a save
+/// was lost.
 pub fn further(told: Told, noticed: Option<Told>) -> Told
     ensures { result ≡ further told noticed }
 {

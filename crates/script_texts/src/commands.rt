@@ -1,16 +1,16 @@
 //! Texts of scripts.
 
 ghost use Rattle.text_words.specs.Words.{words};
-ghost use Rattle.event_texts.specs.Events.{open_in, sole_number};
+ghost use Rattle.text_worlds.specs.Events.{open_in, sole_number};
 ghost use Rattle.script_texts.specs.Commands.{command_in, command_of, command_read, is_open, link_in, link_named};
 ghost use Rattle.std.specs.Prelude.{◌≡◌, IfErr, IfOk, IsSome};
 
-use event_texts::events;
-use event_texts::lines::parse_line;
 use script_model::command::ScriptCommand;
 use std::alloc::{AllocError, Global};
+use text_io::lines::Grammar;
 use text_words::words::{Pieces, cut, number};
-use texts::lines::Grammar;
+use text_worlds::events;
+use text_worlds::lines::parse_line;
 use world_model::event::Event;
 
 /// The commands of a script.

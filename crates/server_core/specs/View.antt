@@ -1,6 +1,6 @@
 -- Servers as they are seen: their objects by what they contain.
 use Rattle.std.specs.Prelude.{◌≡◌, ◌≢◌, ℕ, cond, nat_eq, List, map, Option, Some, None, option_map, slice_index_or}
-use Rattle.embed_core.specs.Content.{Content}
+use Rattle.object_core.specs.Content.{Content}
 use Rattle.server_core.specs.Kept.{whole}
 use Rattle.server_core.specs.declared.seats.Owned.{Owned}
 use Rattle.server_core.specs.declared.server.Seat.{Seat}
@@ -29,4 +29,9 @@ module _ {X : Type 0} {V : X → Type 0} (content : Seat X V → Content) where
   seen_activation slots e = whole e.0 e.1.facts (option_map content (seat_at slots e.0 e.1.key))
 
   abbrev pub seen : ServerCore X V → Server
-  seen v = record { session = v.session; inc = v.inc; numbers = v.numbers; acts = map (seen_activation v.seats.slab.slots) v.acts.entries }
+  seen v = record {
+    session = v.session;
+    inc = v.inc;
+    numbers = v.numbers;
+    acts = map (seen_activation v.seats.slab.slots) v.acts.entries;
+  }

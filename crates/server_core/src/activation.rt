@@ -1,7 +1,7 @@
 //! What an activation does with a call.
 
 ghost use Rattle.std.specs.Prelude.{◌≡◌, ◌+◌, Some, None, IfErr, IfOk, OnErr, option_map};
-ghost use Rattle.wire_msgs.specs.declared.operation.Operation.TheVariants as op;
+ghost use Rattle.message_values.specs.declared.operation.Operation.TheVariants as op;
 ghost use Rattle.server_model.specs.Opened.{Acts, Writes, does_now, stored_open, write_open};
 ghost use Rattle.server_model.specs.Server.{Refuses, known_call, next_call, refuses};
 ghost use Rattle.server_core.specs.Kept.{whole};
@@ -10,16 +10,16 @@ ghost use Rattle.server_core.specs.View.{KeepsOthers, seen_activation};
 use crate::facts::{Answered, Facts};
 use crate::seats::Seats;
 use crate::server::{Activation, Seat};
-use embed_core::fault::EmbedFault;
+use message_values::answer::Answer;
+use message_values::message::Said;
+use message_values::operation::Operation;
+use message_values::refusal::Refusal;
+use object_core::fault::EmbedFault;
 use object_state::{CloseOption, States};
 use server_model::fault::ServerFault;
 use std::alloc::Global;
-use stored_streams::stored::Stored;
-use stored_values::bytes::Bytes;
-use wire_msgs::answer::Answer;
-use wire_msgs::message::Said;
-use wire_msgs::operation::Operation;
-use wire_msgs::refusal::Refusal;
+use tree_streams::stored::Stored;
+use tree_values::bytes::Bytes;
 
 // What is stored of an object, where there is one.
 fn stored(alloc: Global, seat: &Option<Seat>) -> Result<Stored, ServerFault>
@@ -46,9 +46,15 @@ impl Facts {
         edit: &Bytes,
     ) -> Result<Answered, ServerFault>
         requires { n ≡ self.old.last + 1 }
-        ensures acted { IfOk result (λ t. Acts (does_now (whole act self.old (option_map (λ s. content s.boxed) seat.old)) states (op.Edit edit.now)) (whole act self.new (option_map (λ s. content s.boxed) seat.new)) t.answer t.counted) }
-        ensures refused { IfErr result (Refuses (does_now (whole act self.old (option_map (λ s. content s.boxed) seat.old)) states (op.Edit edit.now))) }
-        ensures kept { OnErr result (whole act self.new (option_map (λ s. content s.boxed) seat.new) ≡ whole act self.old (option_map (λ s. content s.boxed) seat.old)) }
+        ensures acted { IfOk result
+            (λ t. Acts (does_now (whole act self.old (option_map (λ s. content s.boxed) seat.old)) states
+            (op.Edit edit.now)) (whole act self.new (option_map (λ s. content s.boxed) seat.new)) t.answer
+            t.counted) }
+        ensures refused { IfErr result
+            (Refuses (does_now (whole act self.old (option_map (λ s. content s.boxed) seat.old)) states
+            (op.Edit edit.now))) }
+        ensures kept { OnErr result (whole act self.new (option_map (λ s. content s.boxed) seat.new)
+            ≡ whole act self.old (option_map (λ s. content s.boxed) seat.old)) }
     {
         let Some(mut taken) = seat.take() else {
             return Err(ServerFault::Ignored);
@@ -74,9 +80,14 @@ impl Facts {
         k: u32,
     ) -> Result<Answered, ServerFault>
         requires { n ≡ self.old.last + 1 }
-        ensures acted { IfOk result (λ t. Acts (does_now (whole act self.old (option_map (λ s. content s.boxed) seat.old)) states (op.Save k)) (whole act self.new (option_map (λ s. content s.boxed) seat.new)) t.answer t.counted) }
-        ensures refused { IfErr result (Refuses (does_now (whole act self.old (option_map (λ s. content s.boxed) seat.old)) states (op.Save k))) }
-        ensures kept { OnErr result (whole act self.new (option_map (λ s. content s.boxed) seat.new) ≡ whole act self.old (option_map (λ s. content s.boxed) seat.old)) }
+        ensures acted { IfOk result
+            (λ t. Acts (does_now (whole act self.old (option_map (λ s. content s.boxed) seat.old)) states
+            (op.Save k)) (whole act self.new (option_map (λ s. content s.boxed) seat.new)) t.answer t.counted) }
+        ensures refused { IfErr result
+            (Refuses (does_now (whole act self.old (option_map (λ s. content s.boxed) seat.old)) states
+            (op.Save k))) }
+        ensures kept { OnErr result (whole act self.new (option_map (λ s. content s.boxed) seat.new)
+            ≡ whole act self.old (option_map (λ s. content s.boxed) seat.old)) }
     {
         let saved = stored(alloc, seat)?;
         let kept = saved.copy(alloc)?;
@@ -96,9 +107,15 @@ impl Facts {
         storage: bool,
     ) -> Result<Answered, ServerFault>
         requires { n ≡ self.old.last + 1 }
-        ensures acted { IfOk result (λ t. Acts (does_now (whole act self.old (option_map (λ s. content s.boxed) seat.old)) states (op.SaveCompleted k storage)) (whole act self.new (option_map (λ s. content s.boxed) seat.new)) t.answer t.counted) }
-        ensures refused { IfErr result (Refuses (does_now (whole act self.old (option_map (λ s. content s.boxed) seat.old)) states (op.SaveCompleted k storage))) }
-        ensures kept { OnErr result (whole act self.new (option_map (λ s. content s.boxed) seat.new) ≡ whole act self.old (option_map (λ s. content s.boxed) seat.old)) }
+        ensures acted { IfOk result
+            (λ t. Acts (does_now (whole act self.old (option_map (λ s. content s.boxed) seat.old)) states
+            (op.SaveCompleted k storage)) (whole act self.new (option_map (λ s. content s.boxed) seat.new)) t.answer
+            t.counted) }
+        ensures refused { IfErr result
+            (Refuses (does_now (whole act self.old (option_map (λ s. content s.boxed) seat.old)) states
+            (op.SaveCompleted k storage))) }
+        ensures kept { OnErr result (whole act self.new (option_map (λ s. content s.boxed) seat.new)
+            ≡ whole act self.old (option_map (λ s. content s.boxed) seat.old)) }
     {
         if seat.is_none() {
             return Err(ServerFault::Ignored);
@@ -120,9 +137,15 @@ impl Facts {
         grant: u32,
     ) -> Result<Answered, ServerFault>
         requires { n ≡ self.old.last + 1 }
-        ensures acted { IfOk result (λ t. Acts (does_now (whole act self.old (option_map (λ s. content s.boxed) seat.old)) states (op.UiActivate grant)) (whole act self.new (option_map (λ s. content s.boxed) seat.new)) t.answer t.counted) }
-        ensures refused { IfErr result (Refuses (does_now (whole act self.old (option_map (λ s. content s.boxed) seat.old)) states (op.UiActivate grant))) }
-        ensures kept { OnErr result (whole act self.new (option_map (λ s. content s.boxed) seat.new) ≡ whole act self.old (option_map (λ s. content s.boxed) seat.old)) }
+        ensures acted { IfOk result
+            (λ t. Acts (does_now (whole act self.old (option_map (λ s. content s.boxed) seat.old)) states
+            (op.UiActivate grant)) (whole act self.new (option_map (λ s. content s.boxed) seat.new)) t.answer
+            t.counted) }
+        ensures refused { IfErr result
+            (Refuses (does_now (whole act self.old (option_map (λ s. content s.boxed) seat.old)) states
+            (op.UiActivate grant))) }
+        ensures kept { OnErr result (whole act self.new (option_map (λ s. content s.boxed) seat.new)
+            ≡ whole act self.old (option_map (λ s. content s.boxed) seat.old)) }
     {
         let (menus, border) = match &*seat {
             Some(seat) => (seat.boxed.menus(), seat.boxed.border()),
@@ -141,9 +164,15 @@ impl Facts {
         option: CloseOption,
     ) -> Result<Answered, ServerFault>
         requires { n ≡ self.old.last + 1 }
-        ensures acted { IfOk result (λ t. Acts (does_now (whole act self.old (option_map (λ s. content s.boxed) seat.old)) states (op.Close option)) (whole act self.new (option_map (λ s. content s.boxed) seat.new)) t.answer t.counted) }
-        ensures refused { IfErr result (Refuses (does_now (whole act self.old (option_map (λ s. content s.boxed) seat.old)) states (op.Close option))) }
-        ensures kept { OnErr result (whole act self.new (option_map (λ s. content s.boxed) seat.new) ≡ whole act self.old (option_map (λ s. content s.boxed) seat.old)) }
+        ensures acted { IfOk result
+            (λ t. Acts (does_now (whole act self.old (option_map (λ s. content s.boxed) seat.old)) states
+            (op.Close option)) (whole act self.new (option_map (λ s. content s.boxed) seat.new)) t.answer
+            t.counted) }
+        ensures refused { IfErr result
+            (Refuses (does_now (whole act self.old (option_map (λ s. content s.boxed) seat.old)) states
+            (op.Close option))) }
+        ensures kept { OnErr result (whole act self.new (option_map (λ s. content s.boxed) seat.new)
+            ≡ whole act self.old (option_map (λ s. content s.boxed) seat.old)) }
     {
         match option {
             CloseOption::SaveIfDirty => {
@@ -174,9 +203,14 @@ impl Facts {
         operation: &Operation,
     ) -> Result<Answered, ServerFault>
         requires { n ≡ self.old.last + 1 }
-        ensures acted { IfOk result (λ t. Acts (does_now (whole act self.old (option_map (λ s. content s.boxed) seat.old)) states operation.now) (whole act self.new (option_map (λ s. content s.boxed) seat.new)) t.answer t.counted) }
-        ensures refused { IfErr result (Refuses (does_now (whole act self.old (option_map (λ s. content s.boxed) seat.old)) states operation.now)) }
-        ensures kept { OnErr result (whole act self.new (option_map (λ s. content s.boxed) seat.new) ≡ whole act self.old (option_map (λ s. content s.boxed) seat.old)) }
+        ensures acted { IfOk result
+            (λ t. Acts (does_now (whole act self.old (option_map (λ s. content s.boxed) seat.old)) states
+            operation.now) (whole act self.new (option_map (λ s. content s.boxed) seat.new)) t.answer t.counted) }
+        ensures refused { IfErr result
+            (Refuses (does_now (whole act self.old (option_map (λ s. content s.boxed) seat.old)) states
+            operation.now)) }
+        ensures kept { OnErr result (whole act self.new (option_map (λ s. content s.boxed) seat.new)
+            ≡ whole act self.old (option_map (λ s. content s.boxed) seat.old)) }
     {
         if seat.is_none() {
             return Err(ServerFault::Ignored);
@@ -210,7 +244,12 @@ impl Facts {
         refusal: Refusal,
     ) -> Answered
         requires { n ≡ self.old.last + 1 }
-        ensures { refuses (whole act self.old (option_map (λ s. content s.boxed) seat.old)) operation.now refusal ≡ record { activation = whole act self.new (option_map (λ s. content s.boxed) seat.new); answer = result.answer; counted = result.counted } }
+        ensures { refuses (whole act self.old (option_map (λ s. content s.boxed) seat.old)) operation.now refusal
+            ≡ record {
+              activation = whole act self.new (option_map (λ s. content s.boxed) seat.new);
+              answer = result.answer;
+              counted = result.counted;
+            } }
     {
         if let Operation::InitNew(_) | Operation::Load(_, _) = operation {
             *seat = None;
@@ -228,9 +267,15 @@ impl Facts {
         operation: &Operation,
     ) -> Result<Answered, ServerFault>
         requires { n ≡ self.old.last + 1 }
-        ensures acted { IfOk result (λ t. Acts (next_call (whole act self.old (option_map (λ s. content s.boxed) seat.old)) operation.now (whole act self.old (option_map (λ s. content s.boxed) seat.old)).content) (whole act self.new (option_map (λ s. content s.boxed) seat.new)) t.answer t.counted) }
-        ensures refused { IfErr result (Refuses (next_call (whole act self.old (option_map (λ s. content s.boxed) seat.old)) operation.now (whole act self.old (option_map (λ s. content s.boxed) seat.old)).content)) }
-        ensures kept { OnErr result (whole act self.new (option_map (λ s. content s.boxed) seat.new) ≡ whole act self.old (option_map (λ s. content s.boxed) seat.old)) }
+        ensures acted { IfOk result
+            (λ t. Acts (next_call (whole act self.old (option_map (λ s. content s.boxed) seat.old)) operation.now
+            (whole act self.old (option_map (λ s. content s.boxed) seat.old)).content)
+            (whole act self.new (option_map (λ s. content s.boxed) seat.new)) t.answer t.counted) }
+        ensures refused { IfErr result
+            (Refuses (next_call (whole act self.old (option_map (λ s. content s.boxed) seat.old)) operation.now
+            (whole act self.old (option_map (λ s. content s.boxed) seat.old)).content)) }
+        ensures kept { OnErr result (whole act self.new (option_map (λ s. content s.boxed) seat.new)
+            ≡ whole act self.old (option_map (λ s. content s.boxed) seat.old)) }
     {
         if seat.is_none() {
             return Err(ServerFault::Ignored);
@@ -250,9 +295,14 @@ impl Facts {
         n: u32,
         operation: &Operation,
     ) -> Result<Answered, ServerFault>
-        ensures acted { IfOk result (λ t. Acts (known_call (whole act self.old (option_map (λ s. content s.boxed) seat.old)) n operation.now) (whole act self.new (option_map (λ s. content s.boxed) seat.new)) t.answer t.counted) }
-        ensures refused { IfErr result (Refuses (known_call (whole act self.old (option_map (λ s. content s.boxed) seat.old)) n operation.now)) }
-        ensures kept { OnErr result (whole act self.new (option_map (λ s. content s.boxed) seat.new) ≡ whole act self.old (option_map (λ s. content s.boxed) seat.old)) }
+        ensures acted { IfOk result
+            (λ t. Acts (known_call (whole act self.old (option_map (λ s. content s.boxed) seat.old)) n
+            operation.now) (whole act self.new (option_map (λ s. content s.boxed) seat.new)) t.answer t.counted) }
+        ensures refused { IfErr result
+            (Refuses (known_call (whole act self.old (option_map (λ s. content s.boxed) seat.old)) n
+            operation.now)) }
+        ensures kept { OnErr result (whole act self.new (option_map (λ s. content s.boxed) seat.new)
+            ≡ whole act self.old (option_map (λ s. content s.boxed) seat.old)) }
         ensures closed { seat.old ≡ None → seat.new ≡ None }
     {
         if n == self.last() {
@@ -279,9 +329,15 @@ impl Activation {
         n: u32,
         operation: &Operation,
     ) -> Result<Answered, ServerFault>
-        ensures acted { IfOk result (λ t. Acts (known_call (seen_activation (λ s. content s.boxed) seats.old.slab.slots (act, self.old)) n operation.now) (seen_activation (λ s. content s.boxed) seats.new.slab.slots (act, self.new)) t.answer t.counted) }
-        ensures refused { IfErr result (Refuses (known_call (seen_activation (λ s. content s.boxed) seats.old.slab.slots (act, self.old)) n operation.now)) }
-        ensures kept { OnErr result (seen_activation (λ s. content s.boxed) seats.new.slab.slots (act, self.new) ≡ seen_activation (λ s. content s.boxed) seats.old.slab.slots (act, self.old)) }
+        ensures acted { IfOk result
+            (λ t. Acts (known_call (seen_activation (λ s. content s.boxed) seats.old.slab.slots (act, self.old)) n
+            operation.now) (seen_activation (λ s. content s.boxed) seats.new.slab.slots (act, self.new)) t.answer
+            t.counted) }
+        ensures refused { IfErr result
+            (Refuses (known_call (seen_activation (λ s. content s.boxed) seats.old.slab.slots (act, self.old)) n
+            operation.now)) }
+        ensures kept { OnErr result (seen_activation (λ s. content s.boxed) seats.new.slab.slots (act, self.new)
+            ≡ seen_activation (λ s. content s.boxed) seats.old.slab.slots (act, self.old)) }
         ensures others { KeepsOthers act seats.old.slab.slots seats.new.slab.slots }
     {
         let mut seat = seats.take(act, self.key);
@@ -302,8 +358,15 @@ impl Activation {
         inc: u32,
         numbers: u32,
     ) -> Result<Said, ServerFault>
-        ensures written { IfOk result (λ m. Writes (write_open inc numbers (seen_activation (λ s. content s.boxed) seats.now.slab.slots (act, self.old)) (seen_activation (λ s. content s.boxed) seats.now.slab.slots (act, self.old)).content) (seen_activation (λ s. content s.boxed) seats.now.slab.slots (act, self.new)) m) }
-        ensures refused { IfErr result (Refuses (write_open inc numbers (seen_activation (λ s. content s.boxed) seats.now.slab.slots (act, self.old)) (seen_activation (λ s. content s.boxed) seats.now.slab.slots (act, self.old)).content)) }
+        ensures written { IfOk result
+            (λ m. Writes
+            (write_open inc numbers (seen_activation (λ s. content s.boxed) seats.now.slab.slots (act, self.old))
+            (seen_activation (λ s. content s.boxed) seats.now.slab.slots (act, self.old)).content)
+            (seen_activation (λ s. content s.boxed) seats.now.slab.slots (act, self.new)) m) }
+        ensures refused { IfErr result
+            (Refuses (write_open inc numbers (seen_activation (λ s. content s.boxed) seats.now.slab.slots
+            (act, self.old)) (seen_activation (λ s. content s.boxed) seats.now.slab.slots
+            (act, self.old)).content)) }
         ensures kept { OnErr result (self.new ≡ self.old) }
     {
         let Some(seat) = seats.get(act, self.key) else {

@@ -1,30 +1,33 @@
 //! What a server does with calls.
 
-ghost use Rattle.std.specs.Prelude.{◌≡◌, ◌≢◌, ◌++◌, ◌∷◌, [], Some, None, Option, true, IfErr, IfOk, OnErr, Ok, OnOk, option_map, is_some, ◌<◌};
+ghost use Rattle.std.specs.Prelude.{◌≡◌, ◌≢◌, ◌++◌, ◌∷◌, [], Some, None, Option, true, IfErr, IfOk, OnErr, Ok, OnOk};
+ghost use Rattle.std.specs.Prelude.{option_map, is_some, ◌<◌};
 ghost use Rattle.indexmap.specs.IndexMap.{spare};
 ghost use Rattle.slab.specs.Slab.{HasRoomFor};
-ghost use Rattle.wire_msgs.specs.Found.{find};
-ghost use Rattle.embed_core.specs.Kinds.{Kind, kind_of};
-ghost use Rattle.server_model.specs.Server.{Refuses, Takes, after_begun, begins, begun_class, begun_content, begun_states, called, answers, fresh, offered, is_act, is_for, on_call, unknown_call, unless_wanted, wanted, wanted_unknown};
+ghost use Rattle.message_values.specs.Found.{find};
+ghost use Rattle.object_core.specs.Kinds.{Kind, kind_of};
+ghost use Rattle.server_model.specs.Server.{Refuses, Takes, after_begun, begins, begun_class, begun_content};
+ghost use Rattle.server_model.specs.Server.{begun_states, called, answers, fresh, offered, is_act, is_for, on_call};
+ghost use Rattle.server_model.specs.Server.{unknown_call, unless_wanted, wanted, wanted_unknown};
 ghost use Rattle.server_model.specs.Opened.{TakesCall, TakesKnown, first_class};
 ghost use Rattle.server_core.specs.Kept.{whole};
 ghost use Rattle.server_core.specs.Places.{IsAt};
 ghost use Rattle.server_core.specs.View.{seen};
-ghost use Rattle.wire_msgs.specs.declared.answer.Answer.TheVariants as answer;
+ghost use Rattle.message_values.specs.declared.answer.Answer.TheVariants as answer;
 
 use crate::facts::{Answered, Facts};
 use crate::refusal::{Reaction, Refusal};
 use crate::server::{Activation, Seat, ServerCore};
-use embed_core::embedded::Embedded;
-use embed_core::fault::EmbedFault;
+use message_values::answer::Answer;
+use message_values::message::{Message, Said};
+use message_values::operation::Operation;
+use message_values::refusal::Refusal as Why;
+use object_core::embedded::Embedded;
+use object_core::fault::EmbedFault;
 use object_state::States;
 use server_model::fault::ServerFault;
 use std::alloc::{AllocError, Global};
-use stored_values::class_id::ClassId;
-use wire_msgs::answer::Answer;
-use wire_msgs::message::{Message, Said};
-use wire_msgs::operation::Operation;
-use wire_msgs::refusal::Refusal as Why;
+use tree_values::class_id::ClassId;
 
 // The class that a call begins an activation of, where it is a first one.
 fn begun_class(n: u32, operation: &Operation) -> Option<ClassId>
@@ -58,8 +61,12 @@ impl ServerCore {
         operation: &Operation,
     ) -> Result<Answered, ServerFault>
         requires { IsAt self.old.acts.entries act i }
-        ensures acted { IfOk result (λ t. TakesKnown (seen (λ s. content s.boxed) self.old) act n operation.now (find (is_act act) (seen (λ s. content s.boxed) self.old).acts) (seen (λ s. content s.boxed) self.new) t.answer t.counted) }
-        ensures refused { IfErr result (λ e. (box : Option Kind) → Refuses (called (seen (λ s. content s.boxed) self.old) act n operation.now box (find (is_act act) (seen (λ s. content s.boxed) self.old).acts)) e) }
+        ensures acted { IfOk result (λ t. TakesKnown (seen (λ s. content s.boxed) self.old) act n operation.now
+            (find (is_act act) (seen (λ s. content s.boxed) self.old).acts) (seen (λ s. content s.boxed) self.new)
+            t.answer t.counted) }
+        ensures refused { IfErr result (λ e. (box : Option Kind)
+            → Refuses (called (seen (λ s. content s.boxed) self.old) act n operation.now box
+            (find (is_act act) (seen (λ s. content s.boxed) self.old).acts)) e) }
         ensures kept { OnErr result (seen (λ s. content s.boxed) self.new ≡ seen (λ s. content s.boxed) self.old) }
     {
         self.acts[i].on_call(alloc, act, &mut self.seats, n, operation)
@@ -70,7 +77,11 @@ impl ServerCore {
         requires unknown { find (is_act act) (seen (λ s. content s.boxed) self.old).acts ≡ None }
         requires room { 0 < spare self.old.acts }
         requires free { HasRoomFor self.old.seats.slab 1 }
-        ensures { seen (λ s. content s.boxed) self.new ≡ record (seen (λ s. content s.boxed) self.old) { acts = (seen (λ s. content s.boxed) self.old).acts ++ whole act facts (option_map (λ s. content s.boxed) seat) ∷ [] } }
+        ensures { seen (λ s. content s.boxed) self.new
+            ≡ record (seen (λ s. content s.boxed) self.old) {
+              acts = (seen (λ s. content s.boxed) self.old).acts
+                  ++ whole act facts (option_map (λ s. content s.boxed) seat) ∷ [];
+            } }
     {
         let key = self.seats.put(act, seat);
         self.acts.insert(act, Activation { facts, key }).unwrap();
@@ -81,7 +92,11 @@ impl ServerCore {
         requires unknown { find (is_act act) (seen (λ s. content s.boxed) self.old).acts ≡ None }
         requires room { 0 < spare self.old.acts }
         requires free { HasRoomFor self.old.seats.slab 1 }
-        ensures pushed { seen (λ s. content s.boxed) self.new ≡ record (seen (λ s. content s.boxed) self.old) { acts = (seen (λ s. content s.boxed) self.old).acts ++ (answers (fresh act class) (answer.Refused refusal)).activation ∷ [] } }
+        ensures pushed { seen (λ s. content s.boxed) self.new
+            ≡ record (seen (λ s. content s.boxed) self.old) {
+              acts = (seen (λ s. content s.boxed) self.old).acts
+                  ++ (answers (fresh act class) (answer.Refused refusal)).activation ∷ [];
+            } }
         ensures answered { result ≡ answer.Refused refusal }
     {
         self.push(act, Facts::closed(class, refusal), None);
@@ -108,7 +123,14 @@ impl ServerCore {
         boxed: Box<dyn Embedded>,
     ) -> Result<Answer, Refusal>
         requires { find (is_act act) (seen (λ s. content s.boxed) self.old).acts ≡ None }
-        ensures begun { IfOk result (λ a. after_begun (seen (λ s. content s.boxed) self.old) (begins act class operation.now (begun_content (kind_of (content boxed)) operation.now)) ≡ Ok (record { server = seen (λ s. content s.boxed) self.new; answer = a; counted = None; used = true })) }
+        ensures begun { IfOk result (λ a. after_begun (seen (λ s. content s.boxed) self.old)
+            (begins act class operation.now (begun_content (kind_of (content boxed)) operation.now))
+            ≡ Ok (record {
+              server = seen (λ s. content s.boxed) self.new;
+              answer = a;
+              counted = None;
+              used = true;
+            })) }
         ensures refused { IfErr result (λ r. r.fault ≡ ServerFault.NoMemory) }
         ensures handed_back { IfErr result (λ r. option_map (λ b. content b) r.back ≡ Some (content boxed)) }
         ensures same { IfErr result (λ r. r.fault ≢ ServerFault.NoMemory → r.back ≡ Some boxed) }
@@ -142,17 +164,27 @@ impl ServerCore {
         boxed: Option<Box<dyn Embedded>>,
     ) -> Result<Reaction, Refusal>
         requires { IsAt self.old.acts.entries act i }
-        ensures acted { IfOk result (λ r. TakesCall (seen (λ s. content s.boxed) self.old) act n operation (option_map (λ b. kind_of (content b)) boxed) (find (is_act act) (seen (λ s. content s.boxed) self.old).acts) (seen (λ s. content s.boxed) self.new) r.reply r.counted) }
-        ensures back { IfOk result (λ r. r.back ≡ unless_wanted (wanted_unknown (seen (λ s. content s.boxed) self.old) (begun_class n operation) (find (is_act act) (seen (λ s. content s.boxed) self.old).acts)) boxed) }
-        ensures refused { IfErr result (λ r. Refuses (called (seen (λ s. content s.boxed) self.old) act n operation (option_map (λ b. kind_of (content b)) boxed) (find (is_act act) (seen (λ s. content s.boxed) self.old).acts)) r.fault) }
-        ensures handed_back { IfErr result (λ r. option_map (λ b. content b) r.back ≡ option_map (λ b. content b) boxed) }
+        ensures acted { IfOk result (λ r. TakesCall (seen (λ s. content s.boxed) self.old) act n operation
+            (option_map (λ b. kind_of (content b)) boxed)
+            (find (is_act act) (seen (λ s. content s.boxed) self.old).acts) (seen (λ s. content s.boxed) self.new)
+            r.reply r.counted) }
+        ensures back { IfOk result
+            (λ r. r.back ≡ unless_wanted (wanted_unknown (seen (λ s. content s.boxed) self.old)
+            (begun_class n operation) (find (is_act act) (seen (λ s. content s.boxed) self.old).acts)) boxed) }
+        ensures refused { IfErr result
+            (λ r. Refuses (called (seen (λ s. content s.boxed) self.old) act n operation
+            (option_map (λ b. kind_of (content b)) boxed)
+            (find (is_act act) (seen (λ s. content s.boxed) self.old).acts)) r.fault) }
+        ensures handed_back { IfErr result (λ r. option_map (λ b. content b) r.back
+            ≡ option_map (λ b. content b) boxed) }
         ensures same { IfErr result (λ r. r.fault ≢ ServerFault.NoMemory → r.back ≡ boxed) }
         ensures kept { OnErr result (seen (λ s. content s.boxed) self.new ≡ seen (λ s. content s.boxed) self.old) }
     {
         let session = self.session;
         let inc = self.inc;
         let told = self.known(alloc, i, act, n, &operation);
-        // In one call: at each way out of a function an operation that it still has is let go of as a match over its kinds.
+        // In one call: at each way out of a function an operation that it still has is let go of as a match over its
+        // kinds.
         drop(operation);
         match told {
             Ok(answered) => Ok(Reaction {
@@ -195,9 +227,19 @@ impl ServerCore {
         boxed: Option<Box<dyn Embedded>>,
     ) -> Result<Answer, Refusal>
         requires { find (is_act act) (seen (λ s. content s.boxed) self.old).acts ≡ None }
-        ensures acted { IfOk result (λ a. offered (seen (λ s. content s.boxed) self.old) act class operation.now (option_map (λ b. kind_of (content b)) boxed) ≡ Ok (record { server = seen (λ s. content s.boxed) self.new; answer = a; counted = None; used = true })) }
-        ensures refused { IfErr result (λ r. Refuses (offered (seen (λ s. content s.boxed) self.old) act class operation.now (option_map (λ b. kind_of (content b)) boxed)) r.fault) }
-        ensures handed_back { IfErr result (λ r. option_map (λ b. content b) r.back ≡ option_map (λ b. content b) boxed) }
+        ensures acted { IfOk result (λ a. offered (seen (λ s. content s.boxed) self.old) act class operation.now
+            (option_map (λ b. kind_of (content b)) boxed)
+            ≡ Ok (record {
+              server = seen (λ s. content s.boxed) self.new;
+              answer = a;
+              counted = None;
+              used = true;
+            })) }
+        ensures refused { IfErr result
+            (λ r. Refuses (offered (seen (λ s. content s.boxed) self.old) act class operation.now
+            (option_map (λ b. kind_of (content b)) boxed)) r.fault) }
+        ensures handed_back { IfErr result (λ r. option_map (λ b. content b) r.back
+            ≡ option_map (λ b. content b) boxed) }
         ensures same { IfErr result (λ r. r.fault ≢ ServerFault.NoMemory → r.back ≡ boxed) }
         ensures kept { OnErr result (seen (λ s. content s.boxed) self.new ≡ seen (λ s. content s.boxed) self.old) }
     {
@@ -226,10 +268,17 @@ impl ServerCore {
         boxed: Option<Box<dyn Embedded>>,
     ) -> Result<Reaction, Refusal>
         requires { find (is_act act) (seen (λ s. content s.boxed) self.old).acts ≡ None }
-        ensures acted { IfOk result (λ r. TakesCall (seen (λ s. content s.boxed) self.old) act n operation (option_map (λ b. kind_of (content b)) boxed) None (seen (λ s. content s.boxed) self.new) r.reply r.counted) }
-        ensures back { IfOk result (λ r. r.back ≡ unless_wanted (wanted_unknown (seen (λ s. content s.boxed) self.old) (begun_class n operation) None) boxed) }
-        ensures refused { IfErr result (λ r. Refuses (called (seen (λ s. content s.boxed) self.old) act n operation (option_map (λ b. kind_of (content b)) boxed) None) r.fault) }
-        ensures handed_back { IfErr result (λ r. option_map (λ b. content b) r.back ≡ option_map (λ b. content b) boxed) }
+        ensures acted { IfOk result (λ r. TakesCall (seen (λ s. content s.boxed) self.old) act n operation
+            (option_map (λ b. kind_of (content b)) boxed) None (seen (λ s. content s.boxed) self.new) r.reply
+            r.counted) }
+        ensures back { IfOk result
+            (λ r. r.back ≡ unless_wanted (wanted_unknown (seen (λ s. content s.boxed) self.old)
+            (begun_class n operation) None) boxed) }
+        ensures refused { IfErr result
+            (λ r. Refuses (called (seen (λ s. content s.boxed) self.old) act n operation
+            (option_map (λ b. kind_of (content b)) boxed) None) r.fault) }
+        ensures handed_back { IfErr result (λ r. option_map (λ b. content b) r.back
+            ≡ option_map (λ b. content b) boxed) }
         ensures same { IfErr result (λ r. r.fault ≢ ServerFault.NoMemory → r.back ≡ boxed) }
         ensures kept { OnErr result (seen (λ s. content s.boxed) self.new ≡ seen (λ s. content s.boxed) self.old) }
     {
@@ -297,22 +346,28 @@ impl ServerCore {
     /// What a message does, with an object handed in for an activation that it makes, or none. The activation's next
     /// call acts, its last is answered again.
     ///
-    /// Refused: `WrongIncarnation` a call of another session, or for another incarnation; `Ignored` what isn't a call, a
-    /// call of an unknown activation but for a first InitNew or Load, a call of a known one that is neither the last nor the
-    /// next, or the next of a closed one; `NumbersSpent` where the server has as many activations as it may have; `NeedObject`
-    /// where there is none to make the activation with; `WrongClass` where it is of another class; then `NoMemory`.
-    /// Then nothing changes, and the object comes back: the very one that was handed in, and after `NoMemory` one with its
-    /// content.
+    /// Refused: `WrongIncarnation` a call of another session, or for another incarnation; `Ignored` what isn't a call,
+    /// a call of an unknown activation but for a first InitNew or Load, a call of a known one that is neither the last
+    /// nor the next, or the next of a closed one; `NumbersSpent` where the server has as many activations as it may
+    /// have; `NeedObject` where there is none to make the activation with; `WrongClass` where it is of another class;
+    /// then `NoMemory`. Then nothing changes, and the object comes back: the very one that was handed in, and after
+    /// `NoMemory` one with its content.
     pub fn on_call(
         &mut self,
         alloc: Global,
         message: Message,
         boxed: Option<Box<dyn Embedded>>,
     ) -> Result<Reaction, Refusal>
-        ensures acted { IfOk result (λ r. Takes (seen (λ s. content s.boxed) self.old) message (option_map (λ b. kind_of (content b)) boxed) (seen (λ s. content s.boxed) self.new) r.reply r.counted) }
-        ensures back { IfOk result (λ r. r.back ≡ unless_wanted (wanted (seen (λ s. content s.boxed) self.old) message) boxed) }
-        ensures refused { IfErr result (λ r. Refuses (on_call (seen (λ s. content s.boxed) self.old) message (option_map (λ b. kind_of (content b)) boxed)) r.fault) }
-        ensures handed_back { IfErr result (λ r. option_map (λ b. content b) r.back ≡ option_map (λ b. content b) boxed) }
+        ensures acted { IfOk result (λ r. Takes (seen (λ s. content s.boxed) self.old) message
+            (option_map (λ b. kind_of (content b)) boxed) (seen (λ s. content s.boxed) self.new) r.reply
+            r.counted) }
+        ensures back { IfOk result
+            (λ r. r.back ≡ unless_wanted (wanted (seen (λ s. content s.boxed) self.old) message) boxed) }
+        ensures refused { IfErr result
+            (λ r. Refuses (on_call (seen (λ s. content s.boxed) self.old) message
+            (option_map (λ b. kind_of (content b)) boxed)) r.fault) }
+        ensures handed_back { IfErr result (λ r. option_map (λ b. content b) r.back
+            ≡ option_map (λ b. content b) boxed) }
         ensures same { IfErr result (λ r. r.fault ≢ ServerFault.NoMemory → r.back ≡ boxed) }
         ensures kept { OnErr result (seen (λ s. content s.boxed) self.new ≡ seen (λ s. content s.boxed) self.old) }
         ensures session { OnOk result (message.session ≡ (seen (λ s. content s.boxed) self.old).session) }

@@ -2,20 +2,20 @@
 
 ghost use Rattle.std.specs.Prelude.{◌≡◌, ◌+◌, ◌<◌, ◌^◌, Some, None, IfOk, option_map, IsTrue, ◌↔◌};
 ghost use Rattle.object_state.specs.Both as both;
-ghost use Rattle.wire_msgs.specs.declared.answer.Answer.TheVariants as answer;
-ghost use Rattle.wire_msgs.specs.declared.message.Said.TheVariants as said;
+ghost use Rattle.message_values.specs.declared.answer.Answer.TheVariants as answer;
+ghost use Rattle.message_values.specs.declared.message.Said.TheVariants as said;
 ghost use Rattle.object_state.specs.Persists.{may_write};
 
+use message_values::answer::Answer;
+use message_values::message::Said;
+use message_values::refusal::Refusal;
 use object_state::{Menus, Op, StateFault, States};
 use server_model::activation_view::ActivationView;
 use server_model::counted::Counted;
 use std::alloc::{AllocError, Global};
 use std::marker::Model;
-use stored_streams::stored::Stored;
-use stored_values::class_id::ClassId;
-use wire_msgs::answer::Answer;
-use wire_msgs::message::Said;
-use wire_msgs::refusal::Refusal;
+use tree_streams::stored::Stored;
+use tree_values::class_id::ClassId;
 
 /// An answer, and the save that was counted with it.
 #[derive(Drop)]
@@ -68,7 +68,16 @@ impl Model for Facts {
 
     ghost Value = { Kept };
 
-    ghost view = { λ f. record { class = f.class; last = f.last; reply = f.reply; states = f.states; saved = f.saved; s = f.s; w = f.w; g = f.g } };
+    ghost view = { λ f. record {
+      class = f.class;
+      last = f.last;
+      reply = f.reply;
+      states = f.states;
+      saved = f.saved;
+      s = f.s;
+      w = f.w;
+      g = f.g;
+    } };
 
     ghost invariant = { λ f. f.s ≤ f.last };
 }
@@ -76,7 +85,16 @@ impl Model for Facts {
 impl Facts {
     /// Those of an activation whose first call was done.
     pub fn opened(class: ClassId, states: States) -> Facts
-        ensures { result ≡ record { class = class; last = 1; reply = answer.Done; states = states; saved = None; s = 1; w = 0; g = None } }
+        ensures { result ≡ record {
+          class = class;
+          last = 1;
+          reply = answer.Done;
+          states = states;
+          saved = None;
+          s = 1;
+          w = 0;
+          g = None;
+        } }
     {
         Facts {
             class,
@@ -92,7 +110,16 @@ impl Facts {
 
     /// Those of an activation whose first call was refused.
     pub fn closed(class: ClassId, refusal: Refusal) -> Facts
-        ensures { result ≡ record { class = class; last = 1; reply = answer.Refused refusal; states = both.loaded; saved = None; s = 0; w = 0; g = None } }
+        ensures { result ≡ record {
+          class = class;
+          last = 1;
+          reply = answer.Refused refusal;
+          states = both.loaded;
+          saved = None;
+          s = 0;
+          w = 0;
+          g = None;
+        } }
     {
         Facts {
             class,
@@ -145,7 +172,8 @@ impl Facts {
 
     /// The save of this number as it is counted, none where no content was answered to a save.
     pub fn counted(&self, alloc: Global, act: u32, k: u32) -> Result<Option<Counted>, AllocError>
-        ensures { IfOk result (λ c. c ≡ option_map (λ content. record { act = act; k = k; content = content }) self.now.saved) }
+        ensures { IfOk result (λ c. c ≡ option_map (λ content. record { act = act; k = k; content = content })
+            self.now.saved) }
     {
         match &self.saved {
             Some(content) => Ok(Some(Counted {
@@ -160,7 +188,11 @@ impl Facts {
     /// Call n was done.
     pub fn done(&mut self, n: u32, states: States) -> Answered
         requires { n ≡ self.old.last + 1 }
-        ensures settled { self.new ≡ record self.old { last = self.old.last + 1; states = states; reply = answer.Done } }
+        ensures settled { self.new ≡ record self.old {
+          last = self.old.last + 1;
+          states = states;
+          reply = answer.Done;
+        } }
         ensures answered { result ≡ record { answer = answer.Done; counted = None } }
     {
         self.settle(n, states, Answer::Done);
@@ -170,7 +202,11 @@ impl Facts {
     /// Call n led to these states, and the object refused it.
     pub fn refused_in(&mut self, n: u32, states: States, refusal: Refusal) -> Answered
         requires { n ≡ self.old.last + 1 }
-        ensures settled { self.new ≡ record self.old { last = self.old.last + 1; states = states; reply = answer.Refused refusal } }
+        ensures settled { self.new ≡ record self.old {
+          last = self.old.last + 1;
+          states = states;
+          reply = answer.Refused refusal;
+        } }
         ensures answered { result ≡ record { answer = answer.Refused refusal; counted = None } }
     {
         self.settle(n, states, Answer::Refused(refusal));
@@ -180,7 +216,12 @@ impl Facts {
     /// Call n was answered with this content, for a save.
     pub fn settle_save(&mut self, n: u32, states: States, content: Stored, reply: Answer)
         requires { n ≡ self.old.last + 1 }
-        ensures { self.new ≡ record self.old { last = self.old.last + 1; states = states; reply = reply; saved = Some content } }
+        ensures { self.new ≡ record self.old {
+          last = self.old.last + 1;
+          states = states;
+          reply = reply;
+          saved = Some content;
+        } }
     {
         self.last = n;
         self.states = states;
@@ -191,7 +232,12 @@ impl Facts {
     /// Call n ended a save: the storage is granted anew.
     pub fn settle_end(&mut self, n: u32, states: States)
         requires { n ≡ self.old.last + 1 }
-        ensures { self.new ≡ record self.old { last = self.old.last + 1; states = states; reply = answer.Done; s = self.old.s + 1 } }
+        ensures { self.new ≡ record self.old {
+          last = self.old.last + 1;
+          states = states;
+          reply = answer.Done;
+          s = self.old.s + 1;
+        } }
     {
         self.last = n;
         self.states = states;
@@ -202,7 +248,12 @@ impl Facts {
     /// Call n gave up a save: the storage is granted anew.
     pub fn dropped(&mut self, n: u32, states: States) -> Answered
         requires { n ≡ self.old.last + 1 }
-        ensures settled { self.new ≡ record self.old { last = self.old.last + 1; states = states; reply = answer.Done; s = self.old.s + 1 } }
+        ensures settled { self.new ≡ record self.old {
+          last = self.old.last + 1;
+          states = states;
+          reply = answer.Done;
+          s = self.old.s + 1;
+        } }
         ensures answered { result ≡ record { answer = answer.Done; counted = None } }
     {
         self.settle_end(n, states);
@@ -219,7 +270,12 @@ impl Facts {
         border: [u16; 4],
     ) -> Answered
         requires { n ≡ self.old.last + 1 }
-        ensures settled { self.new ≡ record self.old { last = self.old.last + 1; states = states; reply = answer.Tools menus.now border; g = Some grant } }
+        ensures settled { self.new ≡ record self.old {
+          last = self.old.last + 1;
+          states = states;
+          reply = answer.Tools menus.now border;
+          g = Some grant;
+        } }
         ensures answered { result ≡ record { answer = answer.Tools menus.now border; counted = None } }
     {
         self.settle(n, states, tools(menus, border));
@@ -230,7 +286,12 @@ impl Facts {
     /// Call n gave the grant of the frame back.
     pub fn ui_inactive(&mut self, n: u32, states: States) -> Answered
         requires { n ≡ self.old.last + 1 }
-        ensures settled { self.new ≡ record self.old { last = self.old.last + 1; states = states; reply = answer.Done; g = None } }
+        ensures settled { self.new ≡ record self.old {
+          last = self.old.last + 1;
+          states = states;
+          reply = answer.Done;
+          g = None;
+        } }
         ensures answered { result ≡ record { answer = answer.Done; counted = None } }
     {
         self.settle(n, states, Answer::Done);
@@ -310,7 +371,15 @@ impl Facts {
 
     /// What is seen of it.
     pub fn view(&self, opened: bool) -> ActivationView
-        ensures { result ≡ record { class = self.now.class; opened = opened; states = self.now.states; s = self.now.s; last = self.now.last; g = self.now.g; w = self.now.w } }
+        ensures { result ≡ record {
+          class = self.now.class;
+          opened = opened;
+          states = self.now.states;
+          s = self.now.s;
+          last = self.now.last;
+          g = self.now.g;
+          w = self.now.w;
+        } }
     {
         ActivationView {
             class: self.class,

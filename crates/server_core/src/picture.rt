@@ -1,12 +1,12 @@
 //! Pictures as they are written.
 
-ghost use Rattle.ole_parts.specs.Presentations.{PAST_DATA, are_lines};
+ghost use Rattle.ole_model.specs.Presentations.{PAST_DATA, are_lines};
 ghost use Rattle.server_model.specs.Pictures.{presented};
 ghost use Rattle.std.specs.Prelude.{◌≡◌, ◌<◌, IfOk, length, true};
 
-use ole_parts::presentation::Presentation;
+use ole_model::presentation::Presentation;
 use std::alloc::{AllocError, Global};
-use stored_values::bytes::Bytes;
+use tree_values::bytes::Bytes;
 
 /// The stream of a picture of these lines, empty for a picture without lines.
 ///

@@ -2,10 +2,10 @@
 
 ghost use Rattle.std.specs.Prelude.{◌≡◌, Some};
 
-use embed_core::embedded::Embedded;
+use message_values::message::Message;
+use object_core::embedded::Embedded;
 use server_model::counted::Counted;
 use server_model::fault::ServerFault;
-use wire_msgs::message::Message;
 
 /// What a server did with a call.
 #[derive(Drop)]

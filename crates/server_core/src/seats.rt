@@ -1,5 +1,5 @@
-//! The objects of a server's open activations, each at a key of a slab. An activation keeps the key of its seat, and the
-//! seat bears the number of its activation: so a key leads an activation to no seat but its own.
+//! The objects of a server's open activations, each at a key of a slab. An activation keeps the key of its seat, and
+//! the seat bears the number of its activation: so a key leads an activation to no seat but its own.
 
 ghost use Rattle.std.specs.Prelude.{◌≡◌, Some, None, [], IsSome, OnOk, OnSome, option_copied};
 ghost use Rattle.slab.specs.Slab.{HasRoomFor};

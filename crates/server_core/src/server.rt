@@ -1,11 +1,11 @@
 //! A server.
 
 ghost use Rattle.std.specs.Prelude.{◌≡◌, Some, None, [], true, IfErr, IfOk, MatchOption, OnErr, OnOk, option_map};
-ghost use Rattle.wire_msgs.specs.Found.{find};
-ghost use Rattle.embed_core.specs.Kinds.{kind_of};
-ghost use Rattle.embed_core.specs.Content.{is_content};
-ghost use Rattle.embed_core.specs.Objects as object;
-ghost use Rattle.embed_core.specs.Pictures.{picture_bytes};
+ghost use Rattle.message_values.specs.Found.{find};
+ghost use Rattle.object_core.specs.Kinds.{kind_of};
+ghost use Rattle.object_core.specs.Content.{is_content};
+ghost use Rattle.object_core.specs.Objects as object;
+ghost use Rattle.object_core.specs.Pictures.{picture_bytes};
 ghost use Rattle.server_model.specs.Pictures.{picture_of};
 ghost use Rattle.server_model.specs.Server.{begun_content, is_act, last_reply, stored_of, view_of};
 ghost use Rattle.server_core.specs.Places.{IsAt};
@@ -14,15 +14,15 @@ ghost use Rattle.server_core.specs.View.{seen};
 use crate::facts::Facts;
 use crate::picture::presented;
 use crate::seats::Seats;
-use embed_core::embedded::Embedded;
-use embed_core::fault::EmbedFault;
 use indexmap::IndexMap;
+use message_values::message::Message;
+use message_values::operation::Operation;
+use object_core::embedded::Embedded;
+use object_core::fault::EmbedFault;
 use server_model::activation_view::ActivationView;
 use std::alloc::{AllocError, Global};
-use stored_streams::stored::Stored;
-use stored_values::bytes::Bytes;
-use wire_msgs::message::Message;
-use wire_msgs::operation::Operation;
+use tree_streams::stored::Stored;
+use tree_values::bytes::Bytes;
 
 /// An object in a server.
 #[derive(Drop)]
@@ -36,8 +36,10 @@ impl Seat {
     ///
     /// Refused: `BadContent` where the object doesn't take the content. Then its own is as before.
     pub(crate) fn begin(&mut self, alloc: Global, operation: &Operation) -> Result<(), EmbedFault>
-        ensures begun { OnOk result (begun_content (kind_of (content self.old.boxed)) operation.now ≡ Ok (content self.new.boxed)) }
-        ensures refused { IfErr result (object.Refuses (begun_content (kind_of (content self.old.boxed)) operation.now)) }
+        ensures begun { OnOk result (begun_content (kind_of (content self.old.boxed)) operation.now
+            ≡ Ok (content self.new.boxed)) }
+        ensures refused { IfErr result
+            (object.Refuses (begun_content (kind_of (content self.old.boxed)) operation.now)) }
         ensures kept { OnErr result (content self.new.boxed ≡ content self.old.boxed) }
     {
         match operation {
@@ -102,7 +104,12 @@ impl ServerCore {
     /// A server of this session and incarnation without activations. It may have so many activations, and each so many
     /// writes.
     pub fn new(alloc: Global, session: u32, inc: u32, numbers: u32) -> ServerCore
-        ensures { seen (λ s. content s.boxed) result ≡ record { session = session; inc = inc; numbers = numbers; acts = [] } }
+        ensures { seen (λ s. content s.boxed) result ≡ record {
+          session = session;
+          inc = inc;
+          numbers = numbers;
+          acts = [];
+        } }
     {
         ServerCore {
             session,
@@ -115,7 +122,8 @@ impl ServerCore {
 
     // Where an activation stands.
     pub(crate) fn place(&self, act: u32) -> Option<usize>
-        ensures { MatchOption result (find (is_act act) (seen (λ s. content s.boxed) self.now).acts ≡ None) (IsAt self.now.acts.entries act) }
+        ensures { MatchOption result (find (is_act act) (seen (λ s. content s.boxed) self.now).acts ≡ None)
+            (IsAt self.now.acts.entries act) }
     {
         // `len` is called for its clause that the keys are distinct, which the proof cites.
         let _len = self.acts.len();

@@ -1,2 +1,5 @@
+pub mod Links
+pub mod Turns
+pub mod View
 pub mod Events
 pub mod Served

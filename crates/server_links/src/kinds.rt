@@ -1,17 +1,17 @@
 //! The objects that calls want, by their classes.
 
-ghost use Rattle.embed_core.specs.Kinds as kinds;
+ghost use Rattle.object_core.specs.Kinds as kinds;
 ghost use Rattle.server_links.specs.Served.{IsKindOf};
 ghost use Rattle.server_model.specs.Server.{is_class};
 ghost use Rattle.std.specs.Prelude.{◌≡◌};
 
-use embed_core::classes;
-use embed_core::tally::Tally;
-use embed_drawing::drawing::Drawing;
-use embed_note::note::Note;
-use embed_table::table::Table;
+use object_core::classes;
+use object_core::tally::Tally;
+use object_kinds::drawing::Drawing;
+use object_kinds::note::Note;
+use object_kinds::table::Table;
 use std::alloc::{AllocError, Global};
-use stored_values::class_id::ClassId;
+use tree_values::class_id::ClassId;
 
 /// The kinds of objects.
 #[derive(Clone, Copy)]

@@ -1,5 +1,6 @@
 -- What a server does with a call.
-use Rattle.std.specs.Prelude.{◌≡◌, ◌+◌, ℕ, Bool, true, false, List, [], ◌∷◌, ◌++◌, length, Option, Some, None, option_map, is_some, ◌&&◌, Result, Ok, Err, IsOk, cond, nat_eq, nat_le}
+use Rattle.std.specs.Prelude.{◌≡◌, ◌+◌, ℕ, Bool, true, false, List, [], ◌∷◌, ◌++◌, length, Option, Some, None}
+use Rattle.std.specs.Prelude.{option_map, is_some, ◌&&◌, Result, Ok, Err, IsOk, cond, nat_eq, nat_le}
 use Rattle.std.specs.Str.{bytes_eq}
 use Rattle.object_state.specs.Both as both
 use Rattle.object_state.specs.declared.both_states.States.{States}
@@ -7,30 +8,32 @@ use Rattle.object_state.specs.declared.faults.StateFault.{StateFault}
 use Rattle.object_state.specs.declared.operations.CloseOption.{CloseOption}
 use Rattle.object_state.specs.declared.operations.CloseOption.TheVariants.{SaveIfDirty, NoSave}
 use Rattle.object_state.specs.Persists.{may_write}
-use Rattle.stored_streams.specs.declared.stored.Stored.{Stored}
-use Rattle.embed_core.specs.Content.{Content, stored}
-use Rattle.embed_core.specs.Kinds.{Kind, kind_of, class_of, empty, menus_of, border_of}
-use Rattle.embed_core.specs.Objects as object
-use Rattle.embed_core.specs.declared.fault.EmbedFault.{EmbedFault}
-use Rattle.embed_core.specs.declared.fault.EmbedFault.TheVariants as embed
-use Rattle.wire_msgs.specs.Operations.{op_of}
-use Rattle.wire_msgs.specs.Refusals.{of_state}
-use Rattle.wire_msgs.specs.declared.operation.Operation.{Operation}
-use Rattle.wire_msgs.specs.declared.operation.Operation.TheVariants.{InitNew, Load, UiActivate, UiDeactivate, Edit, Save, SaveCompleted, SaveDropped, Close}
-use Rattle.wire_msgs.specs.declared.refusal.Refusal.{Refusal}
-use Rattle.wire_msgs.specs.declared.refusal.Refusal.TheVariants.{BadEdit, BadContent, TooBig}
-use Rattle.wire_msgs.specs.declared.answer.Answer.{Answer}
-use Rattle.wire_msgs.specs.declared.answer.Answer.TheVariants as answer
-use Rattle.wire_msgs.specs.declared.message.Message.{Message}
-use Rattle.wire_msgs.specs.declared.message.Said.{Said}
-use Rattle.wire_msgs.specs.declared.message.Said.TheVariants.{Call, Reply, Write, Ask}
-use Rattle.wire_msgs.specs.Found.{find, put}
+use Rattle.tree_streams.specs.declared.stored.Stored.{Stored}
+use Rattle.object_core.specs.Content.{Content, stored}
+use Rattle.object_core.specs.Kinds.{Kind, kind_of, class_of, empty, menus_of, border_of}
+use Rattle.object_core.specs.Objects as object
+use Rattle.object_core.specs.declared.fault.EmbedFault.{EmbedFault}
+use Rattle.object_core.specs.declared.fault.EmbedFault.TheVariants as embed
+use Rattle.message_values.specs.Operations.{op_of}
+use Rattle.message_values.specs.Refusals.{of_state}
+use Rattle.message_values.specs.declared.operation.Operation.{Operation}
+use Rattle.message_values.specs.declared.operation.Operation.TheVariants.{InitNew, Load, UiActivate, UiDeactivate, Edit}
+use Rattle.message_values.specs.declared.operation.Operation.TheVariants.{Save, SaveCompleted, SaveDropped, Close}
+use Rattle.message_values.specs.declared.refusal.Refusal.{Refusal}
+use Rattle.message_values.specs.declared.refusal.Refusal.TheVariants.{BadEdit, BadContent, TooBig}
+use Rattle.message_values.specs.declared.answer.Answer.{Answer}
+use Rattle.message_values.specs.declared.answer.Answer.TheVariants as answer
+use Rattle.message_values.specs.declared.message.Message.{Message}
+use Rattle.message_values.specs.declared.message.Said.{Said}
+use Rattle.message_values.specs.declared.message.Said.TheVariants.{Call, Reply, Write, Ask}
+use Rattle.message_values.specs.Found.{find, put}
 use Rattle.server_model.specs.Pictures.{picture_of}
 use Rattle.server_model.specs.declared.activation_view.ActivationView.{ActivationView}
 pub use Rattle.server_model.specs.declared.counted.Counted.{Counted}
 use Rattle.server_model.specs.declared.hold.Hold.{Hold}
 use Rattle.server_model.specs.declared.fault.ServerFault.{ServerFault}
-use Rattle.server_model.specs.declared.fault.ServerFault.TheVariants.{WrongIncarnation, Ignored, NumbersSpent, NeedObject, WrongClass, NoMemory}
+use Rattle.server_model.specs.declared.fault.ServerFault.TheVariants.{WrongIncarnation, Ignored, NumbersSpent}
+use Rattle.server_model.specs.declared.fault.ServerFault.TheVariants.{NeedObject, WrongClass, NoMemory}
 
 -- An activation of an object. It has a content while it is open; what it was and what it answered last stay known.
 pub record Activation : Type 0 where
@@ -45,7 +48,8 @@ pub record Activation : Type 0 where
   pub w : ℕ
   pub g : Option ℕ
 
--- A server: its session and its incarnation, the limit of its numbers, its activations in the order in which they were made.
+-- A server: its session and its incarnation, the limit of its numbers, its activations in the order in which they were
+-- made.
 pub record Server : Type 0 where
   pub session : ℕ
   pub inc : ℕ
@@ -99,7 +103,8 @@ does a c v (Edit bytes) = edits a v (object.edit c bytes)
 does a c v (Save k) = answers (record a { states = v; saved = Some (stored_of c) }) (answer.Content (stored_of c))
 does a c v (SaveCompleted k storage) = counts a k (answers (record a { states = v; s = a.s + 1 }) answer.Done) a.saved
 does a c v (SaveDropped k) = answers (record a { states = v; s = a.s + 1 }) answer.Done
-does a c v (UiActivate grant) = answers (record a { states = v; g = Some grant }) (answer.Tools (menus_of (kind_of c)) (border_of (kind_of c)))
+does a c v (UiActivate grant) = answers (record a { states = v; g = Some grant })
+    (answer.Tools (menus_of (kind_of c)) (border_of (kind_of c)))
 does a c v UiDeactivate = answers (record a { states = v; g = None }) answer.Done
 does a c v (Close option) = closes a v c option
 does a c v op = answers (record a { states = v }) answer.Done
@@ -130,7 +135,18 @@ begun_content kind (Load class content) = object.load kind content.streams
 begun_content kind op = Ok (empty kind)
 
 abbrev pub fresh : ℕ → List ℕ → Activation
-fresh act class = record { act = act; class = class; content = None; last = 0; reply = answer.Done; states = both.loaded; saved = None; s = 0; w = 0; g = None }
+fresh act class = record {
+  act = act;
+  class = class;
+  content = None;
+  last = 0;
+  reply = answer.Done;
+  states = both.loaded;
+  saved = None;
+  s = 0;
+  w = 0;
+  g = None;
+}
 
 abbrev pub states_or : States → Result States StateFault → States
 states_or v (Ok u) = u
@@ -142,7 +158,8 @@ begun_states op = states_or both.loaded (both.step both.loaded (op_of op))
 
 abbrev pub begins : ℕ → List ℕ → Operation → Result Content EmbedFault → Acted
 begins act class op (Err fault) = answers (fresh act class) (answer.Refused (refusal_of fault))
-begins act class op (Ok c) = answers (record (fresh act class) { content = Some c; states = begun_states op; s = 1 }) answer.Done
+begins act class op (Ok c) =
+    answers (record (fresh act class) { content = Some c; states = begun_states op; s = 1 }) answer.Done
 
 -- A server after a call, its answer, the save that it counted, and whether the object handed in was used.
 pub record Served : Type 0 where
@@ -153,10 +170,21 @@ pub record Served : Type 0 where
 
 abbrev pub after_known : Server → ℕ → Result Acted ServerFault → Result Served ServerFault
 after_known v act (Err fault) = Err fault
-after_known v act (Ok b) = Ok (record { server = record v { acts = put (is_act act) b.activation v.acts }; answer = b.answer; counted = b.counted; used = false })
+after_known v act (Ok b) =
+    Ok (record {
+      server = record v { acts = put (is_act act) b.activation v.acts };
+      answer = b.answer;
+      counted = b.counted;
+      used = false;
+    })
 
 abbrev pub after_begun : Server → Acted → Result Served ServerFault
-after_begun v b = Ok (record { server = record v { acts = v.acts ++ b.activation ∷ [] }; answer = b.answer; counted = None; used = true })
+after_begun v b = Ok (record {
+  server = record v { acts = v.acts ++ b.activation ∷ [] };
+  answer = b.answer;
+  counted = None;
+  used = true;
+})
 
 abbrev pub is_class : Kind → List ℕ → Bool
 is_class kind class = bytes_eq (class_of kind) class
@@ -169,7 +197,8 @@ offered v act class op (Some kind) =
 
 abbrev pub unknown_call : Server → ℕ → Operation → Option Kind → Option (List ℕ) → Result Served ServerFault
 unknown_call v act op box None = Err Ignored
-unknown_call v act op box (Some class) = cond (nat_le v.numbers (length v.acts)) (Err NumbersSpent) (offered v act class op box)
+unknown_call v act op box (Some class) = cond (nat_le v.numbers (length v.acts)) (Err NumbersSpent)
+    (offered v act class op box)
 
 abbrev pub called : Server → ℕ → ℕ → Operation → Option Kind → Option Activation → Result Served ServerFault
 called v act n op box None = unknown_call v act op box (begun_class n op)
@@ -180,7 +209,8 @@ abbrev pub is_for : Server → ℕ → ℕ → Bool
 is_for v session inc = nat_eq session v.session && nat_eq inc v.inc
 
 abbrev pub on_said : Server → ℕ → Said → Option Kind → Result Served ServerFault
-on_said v session (Call inc act n op) box = cond (is_for v session inc) (called v act n op box (find (is_act act) v.acts)) (Err WrongIncarnation)
+on_said v session (Call inc act n op) box = cond (is_for v session inc)
+    (called v act n op box (find (is_act act) v.acts)) (Err WrongIncarnation)
 on_said v session said box = Err Ignored
 
 -- The server's step: what a message does, with an object handed in or none.
@@ -238,7 +268,8 @@ wanted_unknown v class (Some a) = None
 wanted_unknown v class None = cond (nat_le v.numbers (length v.acts)) None class
 
 abbrev pub wanted_by : Server → ℕ → Said → Option (List ℕ)
-wanted_by v session (Call inc act n op) = cond (is_for v session inc) (wanted_unknown v (begun_class n op) (find (is_act act) v.acts)) None
+wanted_by v session (Call inc act n op) = cond (is_for v session inc)
+    (wanted_unknown v (begun_class n op) (find (is_act act) v.acts)) None
 wanted_by v session said = None
 
 abbrev pub wanted : Server → Message → Option (List ℕ)
@@ -255,7 +286,10 @@ reply_to m told = record { session = m.session; said = said_back m.said told }
 -- A call was taken: the server after it, the reply, and the save that it counted.
 abbrev pub Takes : Server → Message → Option Kind → Server → Message → Option Counted → Type 0
 Takes v m box after reply counted =
-    (told : Answer) × (on_call v m box ≡ Ok (record { server = after; answer = told; counted = counted; used = is_some (wanted v m) })) × (reply ≡ reply_to m told)
+    (told : Answer)
+    × (on_call v m box
+    ≡ Ok (record { server = after; answer = told; counted = counted; used = is_some (wanted v m) }))
+    × (reply ≡ reply_to m told)
 
 -- what comes back of an object that was handed in
 abbrev pub unless_wanted : {A : Type 0} → Option (List ℕ) → Option A → Option A
@@ -275,7 +309,15 @@ last_reply v act = option_map (kept_reply v) (find (is_act act) v.acts)
 
 -- what is seen of an activation, but for its content
 abbrev pub view_of : Activation → ActivationView
-view_of a = record { class = a.class; opened = is_some a.content; states = a.states; s = a.s; last = a.last; g = a.g; w = a.w }
+view_of a = record {
+  class = a.class;
+  opened = is_some a.content;
+  states = a.states;
+  s = a.s;
+  last = a.last;
+  g = a.g;
+  w = a.w;
+}
 
 -- The activations that have a grant, each with its grant, by rising number.
 abbrev pub place_hold : Hold → List Hold → List Hold

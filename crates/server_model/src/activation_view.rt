@@ -1,7 +1,7 @@
 //! What is seen of an activation.
 
 use object_state::States;
-use stored_values::class_id::ClassId;
+use tree_values::class_id::ClassId;
 
 /// What is seen of an activation from outside, but for its content.
 #[derive(Clone, Copy)]

@@ -1,6 +1,6 @@
 //! Saves that a server counts.
 
-use stored_streams::stored::Stored;
+use tree_streams::stored::Stored;
 
 /// A save that a server counts, as it is told that it is completed.
 #[derive(Drop)]

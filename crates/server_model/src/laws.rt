@@ -1,6 +1,7 @@
 //! Laws of servers. Each function is empty: its contract is the law, which is proved.
 
-ghost use Rattle.server_model.specs.Laws.{ActsOnce, ClosedForGood, OtherSessionsStay, OthersStay, TakenInSession, UnwantedUnused, WantedUsed};
+ghost use Rattle.server_model.specs.Laws.{ActsOnce, ClosedForGood, OtherSessionsStay, OthersStay, TakenInSession};
+ghost use Rattle.server_model.specs.Laws.{UnwantedUnused, WantedUsed};
 ghost use Rattle.server_model.specs.Stored.{PicturesAreRead, StoredIsWithin};
 
 /// A call that was taken never acts again.

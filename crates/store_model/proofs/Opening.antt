@@ -9,7 +9,8 @@ use Rattle.store_model.specs.declared.limit.TheConstants.{MAX_DOCUMENT}
 use Rattle.store_model.proofs.Changed.{changes_few, changes_fit, changes_make, changes_whole}
 use Rattle.store_model.proofs.Installed.{IsBlocksImage, blocks_are_whole, blocks_changed, restores}
 use Rattle.store_model.proofs.Patched.{makes_is}
-use Rattle.store_model.proofs.Spelled.{AreNumbered, changes_numbered, length_journal, says_blocks, says_count, says_size}
+use Rattle.store_model.proofs.Spelled.{AreNumbered, changes_numbered, length_journal, says_blocks, says_count}
+use Rattle.store_model.proofs.Spelled.{says_size}
 
 abbrev pub opened : List ℕ → List ℕ → Image
 opened old new = record { document = old; journal = journal_from 1 old new }
@@ -19,13 +20,15 @@ counted size small = omega (arith, small)
 
 module _ (old new : List ℕ) (small : length new ≤ MAX_DOCUMENT) where
   few : length (changes old new) < 2 ^ 30
-  few = let most = changes_few 0 (block_count new) old new in let count = counted (length new) small in omega (arith, most, count)
+  few = let most = changes_few 0 (block_count new) old new in let count = counted (length new) small in
+      omega (arith, most, count)
 
   whole : AreWhole (changes old new)
   whole = changes_whole 0 (block_count new) old new
 
   numbered : AreNumbered (changes old new)
-  numbered = changes_numbered 0 (block_count new) old new (let count = counted (length new) small in omega (arith, count))
+  numbered = changes_numbered 0 (block_count new) old new (let count = counted (length new) small in
+      omega (arith, count))
 
   pub size_is : size_in (journal_from 1 old new) ≡ length new
   size_is = says_size 1 (length new) (changes old new) (omega (arith, small))
@@ -41,8 +44,10 @@ module _ (old new : List ℕ) (small : length new ≤ MAX_DOCUMENT) where
     form = refl;
     small = let is = size_is in omega (arith, is, small);
     head = let long = length_journal 1 (length new) (changes old new) whole in omega (arith, long);
-    room = let long = length_journal 1 (length new) (changes old new) whole in let is = count_is in omega (arith, long, is);
-    fits = ap (λ (n : ℕ). fit n 0 (length old) (blocks_in (journal_from 1 old new))) size_is ∙ ap (λ bs. fit (length new) 0 (length old) bs) blocks_are ∙ changes_fit old new;
+    room = let long = length_journal 1 (length new) (changes old new) whole in let is = count_is in
+        omega (arith, long, is);
+    fits = ap (λ (n : ℕ). fit n 0 (length old) (blocks_in (journal_from 1 old new))) size_is
+        ∙ ap (λ bs. fit (length new) 0 (length old) bs) blocks_are ∙ changes_fit old new;
   }
 
   pub gate : is_open (journal_from 1 old new) ≡ true
@@ -56,4 +61,5 @@ module _ (old new : List ℕ) (small : length new ≤ MAX_DOCUMENT) where
       ∙ makes_is new (length new) (changes old new) old (changes_fit old new) whole (changes_make old new)
 
   pub opened_stands : restored (opened old new) ≡ Some new
-  opened_stands = restores (opened old new) gate (blocks_are_whole (opened old new) parts) ∙ ap (λ (d : List ℕ). Some d) opened_changed
+  opened_stands = restores (opened old new) gate (blocks_are_whole (opened old new) parts)
+      ∙ ap (λ (d : List ℕ). Some d) opened_changed

@@ -1,5 +1,6 @@
 -- What a crash may make of calls that no sync has followed yet.
-use Rattle.std.specs.Prelude.{◌≡◌, ◌<◌, ◌≤◌, ◌⊎◌, ◌+◌, ◌-◌, ◌^◌, ℕ, List, length, take, drop, min, max, Result, IsOk, IsErr}
+use Rattle.std.specs.Prelude.{◌≡◌, ◌<◌, ◌≤◌, ◌⊎◌, ◌+◌, ◌-◌, ◌^◌, ℕ, List, length, take, drop, min, max, Result, IsOk}
+use Rattle.std.specs.Prelude.{IsErr}
 use Rattle.store_model.specs.Image.{Image}
 use Rattle.store_model.specs.declared.area.Area.{Area}
 use Rattle.store_model.specs.declared.area.Area.TheVariants.{Document, Journal}
@@ -42,19 +43,22 @@ pub record Elapses (before now : ℕ) (past since : ℕ → Image → Type 0) (o
   pub keeps : (t : ℕ) (c : Image) → t ≤ before → past t c → since t c
 
 -- A crash at any moment from old to new leaves an image that has P.
-pub record LeavesOnly {D : Type 0} (moment : D → ℕ) (left_since : D → ℕ → Image → Type 0) (old new : D) (P : Image → Type 0) : Type 0 where
+pub record LeavesOnly {D : Type 0} (moment : D → ℕ) (left_since : D → ℕ → Image → Type 0) (old new : D)
+    (P : Image → Type 0) : Type 0 where
   pub later : moment old ≤ moment new
   pub each : (c : Image) → left_since new (moment old) c → P c
   -- for a run that began earlier
   pub before : (t : ℕ) (c : Image) → t ≤ moment old → left_since new t c → left_since old t c ⊎ P c
 
 -- From old to new a crash leaves an image that has P, at any moment, and so does one now.
-pub record StaysIn {D : Type 0} (may_leave : D → Image → Type 0) (moment : D → ℕ) (left_since : D → ℕ → Image → Type 0) (old new : D) (P : Image → Type 0) : Type 0 where
+pub record StaysIn {D : Type 0} (may_leave : D → Image → Type 0) (moment : D → ℕ)
+    (left_since : D → ℕ → Image → Type 0) (old new : D) (P : Image → Type 0) : Type 0 where
   pub any_moment : LeavesOnly moment left_since old new P
   pub now : (c : Image) → may_leave new c → P c
 
 -- Calls that change no byte: a crash leaves what it could have left before.
-abbrev pub Quiet : {D : Type 0} (may_leave : D → Image → Type 0) (moment : D → ℕ) (left_since : D → ℕ → Image → Type 0) (old new : D) → Type 0
+abbrev pub Quiet : {D : Type 0} (may_leave : D → Image → Type 0) (moment : D → ℕ)
+    (left_since : D → ℕ → Image → Type 0) (old new : D) → Type 0
 Quiet may_leave moment left_since old new = StaysIn may_leave moment left_since old new (may_leave old)
 
 -- The count of failures has risen. At its last value it is read as risen.

@@ -1,7 +1,8 @@
 -- The journal: byte 0 is the gate, which is 1 where it is open; bytes 1 to 7 are the new length, little-endian; byte 8
 -- is the form. In form 0 the document follows. In form 1 bytes 9 to 12 are a number of blocks, and then come these: of
 -- each its number, in four bytes, and its 512 bytes.
-use Rattle.std.specs.Prelude.{◌+◌, ◌*◌, ℕ, zero, suc, max, List, [], ◌∷◌, ◌++◌, length, take, drop, get_or, Bool, ◌&&◌, ◌==◌, nat_le, nat_lt, if◌then◌else◌, Option, Some, None}
+use Rattle.std.specs.Prelude.{◌+◌, ◌*◌, ℕ, zero, suc, max, List, [], ◌∷◌, ◌++◌, length, take, drop, get_or, Bool, ◌&&◌}
+use Rattle.std.specs.Prelude.{◌==◌, nat_le, nat_lt, if◌then◌else◌, Option, Some, None}
 use Rattle.std.specs.Int.{w32, w64, from_le_bytes}
 use Rattle.store_model.specs.Image.{Image, put}
 use Rattle.store_model.specs.declared.journal.TheConstants.{BLOCK, BLOCKS, ENTRY, FIRST_BLOCK, HEADER, OPEN, WHOLE}
@@ -62,17 +63,20 @@ holds_whole journal = nat_le (HEADER + size_in journal) (length journal)
 
 -- so is one in form 1, and its blocks fit the document
 abbrev pub holds_blocks : Image → Bool
-holds_blocks image = nat_le FIRST_BLOCK (length image.journal) && nat_le (FIRST_BLOCK + ENTRY * count_in image.journal) (length image.journal)
+holds_blocks image = nat_le FIRST_BLOCK (length image.journal) && nat_le
+    (FIRST_BLOCK + ENTRY * count_in image.journal) (length image.journal)
     && fit (size_in image.journal) 0 (length image.document) (blocks_in image.journal)
 
 -- an open journal says at most the limit, and isn't damaged
 abbrev pub is_whole : Image → Bool
 is_whole image = nat_le (size_in image.journal) MAX_DOCUMENT
-    && (if form_in image.journal == WHOLE then holds_whole image.journal else ((form_in image.journal == BLOCKS) && holds_blocks image))
+    && (if form_in image.journal == WHOLE then holds_whole image.journal
+    else ((form_in image.journal == BLOCKS) && holds_blocks image))
 
 -- what an open journal makes of the document
 abbrev pub changed_document : Image → List ℕ
-changed_document image = take (size_in image.journal) (if form_in image.journal == WHOLE then drop HEADER image.journal else patched image.document (blocks_in image.journal))
+changed_document image = take (size_in image.journal) (if form_in image.journal == WHOLE
+    then drop HEADER image.journal else patched image.document (blocks_in image.journal))
 
 -- The document that an image stands for, and that the next open gives: what the journal makes of it where its gate is
 -- open, else the document area's. None where an open journal is damaged.

@@ -32,4 +32,5 @@ pub record FitIs : Type 0 where
 
 -- the journal of a commit, once its gate is open, stands for the new document
 abbrev pub CommitsStand : Type 0
-CommitsStand = (old new : List ℕ) → length new ≤ MAX_DOCUMENT → restored (record { document = old; journal = journal_from 1 old new }) ≡ Some new
+CommitsStand = (old new : List ℕ) → length new ≤ MAX_DOCUMENT
+    → restored (record { document = old; journal = journal_from 1 old new }) ≡ Some new

@@ -16,11 +16,13 @@ AreWhole (b ∷ bs) = (length b.bytes ≡ BLOCK) × AreWhole bs
 -- each block has the bytes of this document, up to its size
 abbrev pub Tell : List ℕ → ℕ → List Block → Type 0
 Tell document size [] = ⊤
-Tell document size (b ∷ bs) = ((q : ℕ) → q < BLOCK → BLOCK * b.number + q < size → get_or b.bytes q 0 ≡ get_or document (BLOCK * b.number + q) 0) × Tell document size bs
+Tell document size (b ∷ bs) = ((q : ℕ) → q < BLOCK → BLOCK * b.number + q < size
+    → get_or b.bytes q 0 ≡ get_or document (BLOCK * b.number + q) 0) × Tell document size bs
 
 -- outside of these blocks a document area has the bytes of this document, up to its size
 abbrev pub Agrees : List ℕ → ℕ → List Block → List ℕ → Type 0
-Agrees document size bs area = (p : ℕ) → p < size → Misses p bs → (p < length area) × (get_or area p 0 ≡ get_or document p 0)
+Agrees document size bs area = (p : ℕ) → p < size → Misses p bs → (p < length area)
+    × (get_or area p 0 ≡ get_or document p 0)
 
 -- these blocks follow one another, from this number on
 abbrev pub Follow : ℕ → List Block → Type 0
@@ -32,6 +34,7 @@ abbrev pub joined : List Block → List ℕ
 joined [] = []
 joined (b ∷ bs) = b.bytes ++ joined bs
 
--- Bytes from there on, so many, that a journal tells: it has the whole document, or each of them is in one of its blocks.
+-- Bytes from there on, so many, that a journal tells: it has the whole document, or each of them is in one of its
+-- blocks.
 abbrev pub IsTold : List ℕ → ℕ → ℕ → Type 0
 IsTold journal at n = (form_in journal ≡ WHOLE) ⊎ ((p : ℕ) → at ≤ p → p < at + n → Misses p (blocks_in journal) → ⊥)

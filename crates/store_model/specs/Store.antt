@@ -65,7 +65,8 @@ ReadRefuses before after NoMemory = ⊤
 
 -- When `commit` of so many bytes refuses with each fault.
 abbrev pub CommitRefuses : ℕ → Bool → Bool → ℕ → ℕ → StoreFault → Type 0
-CommitRefuses size was now before after Device = (was ≡ false) × (size ≤ MAX_DOCUMENT) × (now ≡ true) × Rose before after
+CommitRefuses size was now before after Device = (was ≡ false) × (size ≤ MAX_DOCUMENT) × (now ≡ true)
+    × Rose before after
 CommitRefuses size was now before after NeedsReopen = was ≡ true
 CommitRefuses size was now before after TooBig = (was ≡ false) × (MAX_DOCUMENT < size)
 CommitRefuses size was now before after Damaged = ⊥

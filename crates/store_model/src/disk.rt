@@ -34,8 +34,8 @@ pub trait Disk {
     /// How many calls have failed.
     ghost failed: { Self → ℕ };
 
-    /// That the count of failed calls isn't past its last value, where it rises no more: it is then read as risen. It does
-    /// nothing.
+    /// That the count of failed calls isn't past its last value, where it rises no more: it is then read as risen. It
+    /// does nothing.
     fn counts(&self)
         ensures { failed self.now < 2 ^ 64 };
 
@@ -44,40 +44,54 @@ pub trait Disk {
         ensures length { follows_model → IfOk result (λ n. n ≡ length (bytes_of area (reads self.old))) }
         ensures same { follows_model → OnOk result (reads self.new ≡ reads self.old) }
         ensures crash { follows_model → IsWithin (may_leave self.old) (may_leave self.new) }
-        ensures time { follows_model → Elapses (moment self.old) (moment self.new) (left_since self.old) (left_since self.new) (may_leave self.new) }
+        ensures time { follows_model → Elapses (moment self.old) (moment self.new) (left_since self.old)
+            (left_since self.new) (may_leave self.new) }
         ensures count { Counts (failed self.old) (failed self.new) result };
 
-    /// Fills the buffer with an area's bytes from an offset on. Where the area ends before, the call fails, and the disk owes
-    /// no answer.
+    /// Fills the buffer with an area's bytes from an offset on. Where the area ends before, the call fails, and the
+    /// disk owes no answer.
     fn read(&mut self, area: Area, at: u64, into: &mut [u8]) -> Result<(), DiskFailure>
-        ensures bytes { follows_model → OnOk result (into.new ≡ take (length into.old) (drop at (bytes_of area (reads self.old)))) }
+        ensures bytes { follows_model
+            → OnOk result (into.new ≡ take (length into.old) (drop at (bytes_of area (reads self.old)))) }
         ensures same { follows_model → OnOk result (reads self.new ≡ reads self.old) }
         ensures crash { follows_model → IsWithin (may_leave self.old) (may_leave self.new) }
-        ensures time { follows_model → Elapses (moment self.old) (moment self.new) (left_since self.old) (left_since self.new) (may_leave self.new) }
-        ensures count { CountsOwed (follows_model → at + length into.old ≤ length (bytes_of area (reads self.old))) (failed self.old) (failed self.new) result };
+        ensures time { follows_model → Elapses (moment self.old) (moment self.new) (left_since self.old)
+            (left_since self.new) (may_leave self.new) }
+        ensures count { CountsOwed (follows_model → at + length into.old ≤ length (bytes_of area (reads self.old)))
+            (failed self.old) (failed self.new) result };
 
     /// Writes over what is there from an offset on, and past the end. Until a sync, a crash may leave any bytes in
     /// the range, and past the end. Where the area ends before the offset, the disk owes no answer.
     fn write(&mut self, area: Area, at: u64, bytes: &[u8]) -> Result<(), DiskFailure>
         ensures written { follows_model → at ≤ length (bytes_of area (reads self.old))
-            → OnOk result (reads self.new ≡ changed area (put (bytes_of area (reads self.old)) at bytes.now) (reads self.old)) }
-        ensures crash { follows_model → Follows (InArea area (Torn at (length bytes.now))) (may_leave self.old) (may_leave self.new) }
-        ensures time { follows_model → Elapses (moment self.old) (moment self.new) (left_since self.old) (left_since self.new) (may_leave self.new) }
-        ensures count { CountsOwed (follows_model → at ≤ length (bytes_of area (reads self.old))) (failed self.old) (failed self.new) result };
+            → OnOk result (reads self.new ≡ changed area (put (bytes_of area (reads self.old)) at bytes.now)
+            (reads self.old)) }
+        ensures crash { follows_model → Follows (InArea area (Torn at (length bytes.now))) (may_leave self.old)
+            (may_leave self.new) }
+        ensures time { follows_model → Elapses (moment self.old) (moment self.new) (left_since self.old)
+            (left_since self.new) (may_leave self.new) }
+        ensures count { CountsOwed (follows_model → at ≤ length (bytes_of area (reads self.old))) (failed self.old)
+            (failed self.new) result };
 
     /// Cuts an area that is longer to this length. Until a sync, a crash may leave any length between.
     fn cut(&mut self, area: Area, size: u64) -> Result<(), DiskFailure>
-        ensures cut { follows_model → OnOk result (reads self.new ≡ changed area (take size (bytes_of area (reads self.old))) (reads self.old)) }
-        ensures crash { follows_model → Follows (InArea area (CutShort size)) (may_leave self.old) (may_leave self.new) }
-        ensures time { follows_model → Elapses (moment self.old) (moment self.new) (left_since self.old) (left_since self.new) (may_leave self.new) }
+        ensures cut { follows_model
+            → OnOk result (reads self.new ≡ changed area (take size (bytes_of area (reads self.old)))
+            (reads self.old)) }
+        ensures crash { follows_model → Follows (InArea area (CutShort size)) (may_leave self.old)
+            (may_leave self.new) }
+        ensures time { follows_model → Elapses (moment self.old) (moment self.new) (left_since self.old)
+            (left_since self.new) (may_leave self.new) }
         ensures count { Counts (failed self.old) (failed self.new) result };
 
     /// After it, a crash leaves of this area what reads give.
     fn sync(&mut self, area: Area) -> Result<(), DiskFailure>
-        ensures durable { follows_model → OnOk result ((c : Image) → may_leave self.new c → bytes_of area c ≡ bytes_of area (reads self.old)) }
+        ensures durable { follows_model → OnOk result ((c : Image) → may_leave self.new c
+            → bytes_of area c ≡ bytes_of area (reads self.old)) }
         ensures same { follows_model → OnOk result (reads self.new ≡ reads self.old) }
         ensures crash { follows_model → IsWithin (may_leave self.old) (may_leave self.new) }
-        ensures time { follows_model → Elapses (moment self.old) (moment self.new) (left_since self.old) (left_since self.new) (may_leave self.new) }
+        ensures time { follows_model → Elapses (moment self.old) (moment self.new) (left_since self.old)
+            (left_since self.new) (may_leave self.new) }
         ensures count { Counts (failed self.old) (failed self.new) result };
 
     /// What reads give is one of the images that a crash may leave.

@@ -1,1 +1,4 @@
 pub mod Words
+pub mod Spelled
+pub mod Reports
+pub mod Told

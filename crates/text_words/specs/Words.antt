@@ -23,7 +23,8 @@ further c (Some rest) = pieces c rest
 -- digits behind a number so far, which is nowhere past the largest of 32 bits
 abbrev pub digits_read : ℕ → List ℕ → Option ℕ
 digits_read n [] = Some n
-digits_read n (c ∷ cs) = cond (is_ascii_digit c && nat_le (10 * n + (c - 48)) 4294967295) (digits_read (10 * n + (c - 48)) cs) None
+digits_read n (c ∷ cs) = cond (is_ascii_digit c && nat_le (10 * n + (c - 48)) 4294967295)
+    (digits_read (10 * n + (c - 48)) cs) None
 
 -- a decimal number of 32 bits without leading zeros
 abbrev pub number_read : List ℕ → Option ℕ

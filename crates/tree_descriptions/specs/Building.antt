@@ -1,9 +1,9 @@
 -- A tree that is built from a description. Once its streams have more bytes than any file holds, their bytes are no
 -- longer kept: the lines that follow can be refused by the outline alone, and then the whole for its size.
 use Rattle.std.specs.Prelude.{◌≡◌, ◌≤◌, ◌<◌, ℕ, length, Result, Ok, Err}
-use Rattle.storage_tree.specs.Kept.{Kept, kept}
-use Rattle.file_model.specs.Limits.{MOST_BYTES}
-use Rattle.file_model.specs.Need.{over_streams}
+use Rattle.tree_storage.specs.Kept.{Kept, kept}
+use Rattle.cfb_file.specs.Limits.{MOST_BYTES}
+use Rattle.cfb_file.specs.Need.{over_streams}
 use Rattle.tree_descriptions.specs.Outline.{outline}
 use Rattle.tree_descriptions.specs.Description.{Refuses}
 use Rattle.tree_descriptions.specs.declared.fault.LineFault.{LineFault}

@@ -3,13 +3,13 @@ use Rattle.std.specs.Prelude.{ℕ, Option, Some, None, List, [], ◌∷◌, cond
 use Rattle.std.specs.Option.{option_map}
 use Rattle.std.specs.Str.{bytes_eq}
 use Rattle.text_words.specs.Words.{words, number_read}
-use Rattle.texts.specs.Words.{byte_read, content_read}
-use Rattle.texts.specs.Paths.{path_read}
+use Rattle.text_spelling.specs.Words.{byte_read, content_read}
+use Rattle.text_spelling.specs.Paths.{path_read}
 use Rattle.tree_descriptions.specs.declared.command.Command.{Command}
 use Rattle.tree_descriptions.specs.declared.command.Command.TheVariants.{Storage, Stream, Fill}
 use Rattle.cfb_names.specs.declared.fault.DirFault.{DirFault}
-use Rattle.texts.specs.Lines.{text_read}
-use Rattle.texts.specs.declared.lines.SyntaxFault.{SyntaxFault}
+use Rattle.text_io.specs.Lines.{text_read}
+use Rattle.text_io.specs.declared.lines.SyntaxFault.{SyntaxFault}
 
 -- a stream at a path, of given bytes
 abbrev pub stream_of : Option (Result (List (List ℕ)) DirFault) → Option (List ℕ) → Option Command

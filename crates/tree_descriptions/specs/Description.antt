@@ -1,13 +1,13 @@
 -- The tree that a description describes.
 use Rattle.std.specs.Prelude.{◌≡◌, ◌++◌, ◌⊎◌, ℕ, List, [], ◌∷◌, Result, Ok, Err, IsOk, cond, is_ok, replicate}
 use Rattle.cfb_names.specs.declared.fault.DirFault.{DirFault}
-use Rattle.storage_tree.specs.Tree.{tree, none}
-use Rattle.storage_tree.specs.Change.{inner, look}
-use Rattle.storage_tree.specs.Kept.{Kept, put, made}
-use Rattle.storage_tree.specs.declared.fault.TreeFault.{TreeFault}
-use Rattle.storage_tree.specs.declared.fault.TreeFault.TheVariants.{Exists}
-use Rattle.texts.specs.Lines.{MayLackMemory}
-use Rattle.texts.specs.declared.lines.SyntaxFault.{SyntaxFault}
+use Rattle.cfb_entries.specs.Tree.{tree, none}
+use Rattle.tree_storage.specs.Change.{inner, look}
+use Rattle.tree_storage.specs.Kept.{Kept, put, made}
+use Rattle.tree_storage.specs.declared.fault.TreeFault.{TreeFault}
+use Rattle.tree_storage.specs.declared.fault.TreeFault.TheVariants.{Exists}
+use Rattle.text_io.specs.Lines.{MayLackMemory}
+use Rattle.text_io.specs.declared.lines.SyntaxFault.{SyntaxFault}
 use Rattle.tree_descriptions.specs.Commands.{commands_read, numbered_read}
 use Rattle.tree_descriptions.specs.Faults.{of_syntax_fault}
 use Rattle.tree_descriptions.specs.declared.command.Command.{Command}

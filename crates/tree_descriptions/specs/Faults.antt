@@ -1,13 +1,13 @@
 -- The faults of lines, and their names.
 use Rattle.std.specs.Prelude.{ℕ, List, codes}
 use Rattle.cfb_names.specs.Faults.{name_of_fault}
-use Rattle.storage_tree.specs.FaultNames.{fault_name}
-use Rattle.storage_tree.specs.declared.fault.TreeFault.{TreeFault}
-use Rattle.storage_tree.specs.declared.fault.TreeFault.TheVariants as tree
+use Rattle.tree_storage.specs.FaultNames.{fault_name}
+use Rattle.tree_storage.specs.declared.fault.TreeFault.{TreeFault}
+use Rattle.tree_storage.specs.declared.fault.TreeFault.TheVariants as tree
 use Rattle.tree_descriptions.specs.declared.fault.LineFault.{LineFault}
 use Rattle.tree_descriptions.specs.declared.fault.LineFault.TheVariants.{Bad, Name, Tree, NoMemory}
-use Rattle.texts.specs.declared.lines.SyntaxFault.{SyntaxFault}
-use Rattle.texts.specs.declared.lines.SyntaxFault.TheVariants as syntax_fault
+use Rattle.text_io.specs.declared.lines.SyntaxFault.{SyntaxFault}
+use Rattle.text_io.specs.declared.lines.SyntaxFault.TheVariants as syntax_fault
 
 abbrev pub of_tree_fault : TreeFault → LineFault
 of_tree_fault tree.NoMemory = NoMemory

@@ -1,8 +1,8 @@
 -- The outline of a tree: what is left of it without the bytes of its streams.
 use Rattle.std.specs.Prelude.{ℕ, [], length}
-use Rattle.storage_tree.specs.Tree.{Tree, Children, tree, none, stream, storage}
-use Rattle.storage_tree.specs.Change.{Seen, bytes, inner}
-use Rattle.file_model.specs.Need.{over_streams}
+use Rattle.cfb_entries.specs.Tree.{Tree, Children, tree, none, stream, storage}
+use Rattle.tree_storage.specs.Change.{Seen, bytes, inner}
+use Rattle.cfb_file.specs.Need.{over_streams}
 
 abbrev mutual
   pub outline : Tree → Tree

@@ -1,9 +1,9 @@
 -- What is told of a description that is read line by line.
 use Rattle.std.specs.Prelude.{◌≡◌, ◌+◌, ◌≤◌, ℕ, List, length, Ok}
-use Rattle.storage_tree.specs.Kept.{Kept}
-use Rattle.texts.specs.Input.{MayRefuseInput, most}
-use Rattle.text_reading.specs.Reading.{MayRefuseBytes}
-use Rattle.text_reading.specs.declared.reading.Passed.{Passed}
+use Rattle.tree_storage.specs.Kept.{Kept}
+use Rattle.text_io.specs.Input.{MayRefuseInput, most}
+use Rattle.text_io.specs.Reading.{MayRefuseBytes}
+use Rattle.text_io.specs.declared.reading.Passed.{Passed}
 use Rattle.tree_descriptions.specs.Building.{IsDescribed}
 use Rattle.tree_descriptions.specs.Description.{RefusesDescription, described}
 use Rattle.tree_descriptions.specs.declared.building.Described.{Described}

@@ -3,19 +3,20 @@
 ghost use Rattle.tree_descriptions.specs.Building.{Builds, IsBuilt, IsDescribed, room};
 ghost use Rattle.tree_descriptions.specs.Run.{IsRun};
 ghost use Rattle.tree_descriptions.specs.Description.{Refuses, of_tree, nothing, stream_made, zero_class};
-ghost use Rattle.std.specs.Prelude.{◌≡◌, ◌+◌, ◌<◌, ◌≤◌, List, [], ℕ, Ok, false, length, is_ok, replicate, IfErr, IfOk, OnOk};
-ghost use Rattle.storage_tree.specs.Change.{inner, look};
-ghost use Rattle.storage_tree.specs.Kept.{Kept, kept, made, put};
+ghost use Rattle.std.specs.Prelude.{◌≡◌, ◌+◌, ◌<◌, ◌≤◌, List, [], ℕ, Ok, false, length, is_ok, replicate, IfErr, IfOk};
+ghost use Rattle.std.specs.Prelude.{OnOk};
+ghost use Rattle.tree_storage.specs.Change.{inner, look};
+ghost use Rattle.tree_storage.specs.Kept.{Kept, kept, made, put};
 
 use crate::fault::LineFault;
 use crate::run::Run;
+use cfb_file::limit::MOST_BYTES;
 use cfb_names::name::Name;
-use file_model::limit::MOST_BYTES;
 use std::alloc::{AllocError, Global};
-use storage_tree::fault::TreeFault;
-use storage_tree::tree::Tree;
-use stored_values::bytes::Bytes;
-use stored_values::class_id::ClassId;
+use tree_storage::fault::TreeFault;
+use tree_storage::tree::Tree;
+use tree_values::bytes::Bytes;
+use tree_values::class_id::ClassId;
 
 /// A tree that is built, and how many bytes its streams have together. Once these are more than a file has, its streams
 /// are kept without their bytes, as nothing can come of it but a refusal.
@@ -104,7 +105,8 @@ impl Building {
         count: u32,
         byte: u8,
     ) -> Result<(), LineFault>
-        ensures { (k : Kept) → IsBuilt self.old k → Builds (stream_made (replicate count byte) k path.now) result self.new }
+        ensures { (k : Kept) → IsBuilt self.old k → Builds (stream_made (replicate count byte) k path.now) result
+            self.new }
     {
         if self.spent.saturating_add(u64::from(count)) > MOST_BYTES {
             return self.put_outline(alloc, path, u64::from(count));
@@ -143,7 +145,8 @@ impl Building {
         ensures same { self.new.spent ≡ self.old.spent }
         ensures free { OnOk result (is_ok (look path.now (inner (kept self.old.tree).now)) ≡ false) }
         ensures made { OnOk result (put path.now [] (kept self.old.tree) ≡ Ok (kept self.new.tree)) }
-        ensures refused { IfErr result (λ fault. (k : Kept) (bytes : List ℕ) → IsBuilt self.old k → Refuses (stream_made bytes k path.now) fault) }
+        ensures refused { IfErr result (λ fault. (k : Kept) (bytes : List ℕ) → IsBuilt self.old k
+            → Refuses (stream_made bytes k path.now) fault) }
     {
         if self.is_taken(path) {
             return Err(LineFault::Tree(TreeFault::Exists));
@@ -157,7 +160,8 @@ impl Building {
     /// Puts the outline of a new stream, for whose bytes there is no room, at a path.
     fn put_outline(&mut self, alloc: Global, path: &[Name], size: u64) -> Result<(), LineFault>
         requires { room < self.old.spent + size }
-        ensures { (k : Kept) (bytes : List ℕ) → length bytes ≡ size → IsBuilt self.old k → Builds (stream_made bytes k path.now) result self.new }
+        ensures { (k : Kept) (bytes : List ℕ) → length bytes ≡ size → IsBuilt self.old k
+            → Builds (stream_made bytes k path.now) result self.new }
     {
         match self.put_empty(alloc, path) {
             Ok(()) => {

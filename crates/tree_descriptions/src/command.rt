@@ -2,16 +2,16 @@
 
 ghost use Rattle.tree_descriptions.specs.Commands.{fill_read, line_read, storage_read, stream_of, stream_read};
 ghost use Rattle.std.specs.Prelude.{◌≡◌, ◌∷◌, ◌++◌, [], codes, IfErr, IfOk, IfSome, IsSome, Ok, Some, is_some};
-ghost use Rattle.texts.specs.Paths.{path_read};
+ghost use Rattle.text_spelling.specs.Paths.{path_read};
 ghost use Rattle.text_words.specs.Words.{words};
-ghost use Rattle.texts.specs.Words.{content_read};
+ghost use Rattle.text_spelling.specs.Words.{content_read};
 
 use cfb_names::name::Name;
 use std::alloc::{AllocError, Global};
-use stored_values::bytes::Bytes;
+use text_spelling::path::{Path, is_path, plain_start};
+use text_spelling::words::{byte, content, is_content};
 use text_words::words::{Pieces, cut, number};
-use texts::path::{Path, is_path, plain_start};
-use texts::words::{byte, content, is_content};
+use tree_values::bytes::Bytes;
 
 /// What a line of a description asks for.
 #[derive(Drop)]
@@ -149,8 +149,8 @@ fn behind_stream(line: &[u8]) -> Option<&[u8]>
     }
 }
 
-/// The name of the stream that a line asks for in the root, and the word that spells its bytes, where the name spells itself.
-/// None says nothing of the line.
+/// The name of the stream that a line asks for in the root, and the word that spells its bytes, where the name spells
+/// itself. None says nothing of the line.
 pub fn plain_stream(line: &[u8]) -> Option<(Name, &[u8])>
     ensures { IfSome result (λ s. line_read line.now ≡ stream_of (Some (Ok (s.0 ∷ []))) (content_read s.1.now)) }
 {

@@ -5,9 +5,9 @@ ghost use Rattle.tree_descriptions.specs.Description.{carried_out};
 ghost use Rattle.tree_descriptions.specs.Refusal.{refusal};
 ghost use Rattle.tree_descriptions.specs.Texts.{Describes, IsTold, MayRefuseText};
 ghost use Rattle.std.specs.Prelude.{◌≤◌, IfErr, IfOk, IfSome};
-ghost use Rattle.storage_tree.specs.Kept.{Kept};
-ghost use Rattle.texts.specs.Input.{most};
-ghost use Rattle.text_reading.specs.Reading.{left_asking};
+ghost use Rattle.tree_storage.specs.Kept.{Kept};
+ghost use Rattle.text_io.specs.Input.{most};
+ghost use Rattle.text_io.specs.Reading.{left_asking};
 
 use crate::building::Building;
 pub use crate::building::Described;
@@ -16,8 +16,8 @@ use crate::fault::{LineFault, TextFault};
 use crate::run::Run;
 use std::alloc::Global;
 use std::io::{BufRead, BufReader, Read};
-use text_reading::reading::{Passed, next_line};
-use texts::input::InputFault;
+use text_io::input::InputFault;
+use text_io::reading::{Passed, next_line};
 
 /// How many bytes are read at once.
 const AT_ONCE: usize = 65_536;
@@ -25,9 +25,9 @@ const AT_ONCE: usize = 65_536;
 /// The tree that a reader's description describes, or its outline where its streams have more bytes than a file. The
 /// description is read line by line, and never held whole.
 ///
-/// Refused: a description that isn't read, that has more than 134,217,728 bytes or for which no memory is left; else its
-/// first line that is outside the grammar (`Bad`), or else the first that can't be carried out, with its number from 1;
-/// `NoMemory` at the line at which no memory was left.
+/// Refused: a description that isn't read, that has more than 134,217,728 bytes or for which no memory is left; else
+/// its first line that is outside the grammar (`Bad`), or else the first that can't be carried out, with its number
+/// from 1; `NoMemory` at the line at which no memory was left.
 pub fn describe<R: Read>(alloc: Global, reader: &mut R) -> Result<Described, TextFault>
     ensures made { IfOk result (λ d. IfSome (R.remaining reader.old) (λ text. Describes text d)) }
     ensures refused { IfErr result (λ fault. IfSome (R.remaining reader.old) (λ text. MayRefuseText text fault)) }
@@ -75,8 +75,8 @@ fn describe_lines<R: BufRead>(alloc: Global, reader: &mut R) -> Result<Described
     Ok(building.finish())
 }
 
-/// What a description is refused for where the command of a line can't be carried out, given the reader behind it: a line
-/// outside the grammar comes first, and before it that the text isn't read to its end.
+/// What a description is refused for where the command of a line can't be carried out, given the reader behind it: a
+/// line outside the grammar comes first, and before it that the text isn't read to its end.
 fn refusal<R: BufRead>(
     alloc: Global,
     reader: &mut R,
@@ -87,7 +87,8 @@ fn refusal<R: BufRead>(
 ) -> TextFault
     requires lines { passed.lines ≤ passed.bytes }
     requires bytes { passed.bytes ≤ most }
-    ensures { IfSome (R.remaining reader.old) (λ text. IsTold passed text (refusal (left_asking passed text) (number, fault)) result) }
+    ensures { IfSome (R.remaining reader.old)
+        (λ text. IsTold passed text (refusal (left_asking passed text) (number, fault)) result) }
 {
     loop {
         match next_line(reader, line, &mut passed) {

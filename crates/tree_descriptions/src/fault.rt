@@ -1,10 +1,10 @@
 //! Why a description is refused.
 
 use cfb_names::fault::DirFault;
-use storage_tree::fault::TreeFault;
-use texts::input::InputFault;
-use texts::lines::SyntaxFault;
+use text_io::input::InputFault;
+use text_io::lines::SyntaxFault;
 use thiserror::Error;
+use tree_storage::fault::TreeFault;
 
 /// Why a line of a description is refused.
 #[derive(Debug, Clone, Copy, Error)]

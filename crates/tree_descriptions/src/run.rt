@@ -1,7 +1,7 @@
 //! The streams that a description begins with.
 
 ghost use Rattle.std.specs.Prelude.{◌≡◌, ◌≤◌, ◌+◌, ◌∷◌, [], IfSome, Ok, Some, replicate};
-ghost use Rattle.storage_tree.specs.Kept.{Kept};
+ghost use Rattle.tree_storage.specs.Kept.{Kept};
 ghost use Rattle.tree_descriptions.specs.Commands.{line_read};
 ghost use Rattle.tree_descriptions.specs.Description.{carried_out, nothing, stream_made};
 ghost use Rattle.tree_descriptions.specs.Run.{IsRun, Takes, TakesLine, TakesWord};
@@ -9,20 +9,20 @@ ghost use Rattle.tree_descriptions.specs.Building.{room};
 
 use crate::building::filled;
 use crate::command::{Command, plain_stream};
+use cfb_file::limit::MOST_BYTES;
 use cfb_names::name::Name;
-use file_model::limit::MOST_BYTES;
-use rising_trees::rising::Rising;
 use std::alloc::Global;
-use stored_values::bytes::Bytes;
-use stored_values::class_id::ClassId;
-use texts::words::read_content;
+use text_spelling::words::read_content;
+use tree_rising::rising::Rising;
+use tree_values::bytes::Bytes;
+use tree_values::class_id::ClassId;
 
-/// How long the word of a stream's bytes may be that are read into the buffer. More bytes have memory of their own, in which
-/// they are read at once.
+/// How long the word of a stream's bytes may be that are read into the buffer. More bytes have memory of their own, in
+/// which they are read at once.
 const LONGEST_WORD: usize = 32_768;
 
-/// A tree of which so far streams of the root alone are described, in name order, and how many bytes they have together,
-/// which is no more than a file has.
+/// A tree of which so far streams of the root alone are described, in name order, and how many bytes they have
+/// together, which is no more than a file has.
 #[derive(Drop)]
 pub struct Run {
     pub tree: Rising,
@@ -55,8 +55,8 @@ impl Run {
         (tree, spent)
     }
 
-    /// Carries out the command of a line, if it makes the next stream of these, and says whether it did. Where it didn't,
-    /// also for want of memory, nothing has changed.
+    /// Carries out the command of a line, if it makes the next stream of these, and says whether it did. Where it
+    /// didn't, also for want of memory, nothing has changed.
     pub fn take_line(&mut self, alloc: Global, line: &[u8]) -> bool
         ensures { TakesLine result line.now self.old self.new }
     {

@@ -1,6 +1,7 @@
 -- A server is hostile from now on: what holds of the honest ones holds of fewer.
-use Rattle.std.proofs.Common.{◌≡◌, ◌⊎◌, ◌==◌, ℕ, true, false, List, [], ◌∷◌, ◌++◌, refl, inl, inr, eq-eqb, if◌then◌else◌}
-use Rattle.wire_msgs.specs.declared.message.Said.{Said}
+use Rattle.std.proofs.Common.{◌≡◌, ◌⊎◌, ◌==◌, ℕ, true, false, List, [], ◌∷◌, ◌++◌, refl, inl, inr, eq-eqb}
+use Rattle.std.proofs.Common.{if◌then◌else◌}
+use Rattle.message_values.specs.declared.message.Said.{Said}
 use Rattle.container_model.specs.declared.answer.Done.{Done}
 use Rattle.world_model.specs.declared.logs.Sent.{Sent}
 use Rattle.world_model.specs.declared.logs.ServerDone.{ServerDone}
@@ -12,7 +13,8 @@ use Rattle.world_facts.specs.Views.{Views}
 pub honest_before : (hostile : List ℕ) (inc i : ℕ) → IsHonest (hostile ++ inc ∷ []) i → IsHonest hostile i
 honest_before [] inc i h = refl
 honest_before (x ∷ xs) inc i h =
-    elim (x == i) as (λ b. (if b then true else is_hostile (xs ++ inc ∷ []) i) ≡ false → (if b then true else is_hostile xs i) ≡ false) [
+    elim (x == i) as (λ b. (if b then true else is_hostile (xs ++ inc ∷ []) i) ≡ false
+    → (if b then true else is_hostile xs i) ≡ false) [
       | true ↦ (λ g. g)
       | false ↦ (λ g. honest_before xs inc i g)
     ] h
@@ -25,14 +27,20 @@ just_hostile (x ∷ xs) inc = elim (x == inc) as (λ b. (if b then true else is_
 ]
 
 pub honest_or_hostile : (hostile : List ℕ) (inc : ℕ) → IsHonest hostile inc ⊎ (is_hostile hostile inc ≡ true)
-honest_or_hostile hostile inc = elim (is_hostile hostile inc) as (λ b. (b ≡ false) ⊎ (b ≡ true)) [ true ↦ inr refl | false ↦ inl refl ]
+honest_or_hostile hostile inc = elim (is_hostile hostile inc) as (λ b. (b ≡ false) ⊎ (b ≡ true)) [
+  | true ↦
+      inr refl
+  | false ↦ inl refl
+]
 
 -- the honest ones of the second list are honest by the first
 abbrev pub Fewer : List ℕ → List ℕ → Type 0
 Fewer hostile more = (inc : ℕ) → IsHonest more inc → IsHonest hostile inc
 
-pub fewer_honest : (hostile more : List ℕ) (links : Links) (acts : Acts) (lives : Lives) (sent : List Said) (owners : List ℕ) (last : ℕ) (counted : List Done) (served : List ServerDone)
-    → Fewer hostile more → Facts hostile links acts lives sent owners last counted served → Facts more links acts lives sent owners last counted served
+pub fewer_honest : (hostile more : List ℕ) (links : Links) (acts : Acts) (lives : Lives) (sent : List Said)
+    (owners : List ℕ) (last : ℕ) (counted : List Done) (served : List ServerDone)
+    → Fewer hostile more → Facts hostile links acts lives sent owners last counted served
+    → Facts more links acts lives sent owners last counted served
 fewer_honest hostile more links acts lives sent owners last counted served fewer f = record {
   drawn = f.drawn;
   calls = f.calls;
@@ -54,15 +62,22 @@ fewer_honest hostile more links acts lives sent owners last counted served fewer
   };
 }
 
-pub fewer_views : (hostile more : List ℕ) (links : Links) (acts : Acts) (log : List Sent) → Fewer hostile more → Views hostile links acts log → Views more links acts log
+pub fewer_views : (hostile more : List ℕ) (links : Links) (acts : Acts) (log : List Sent) → Fewer hostile more
+    → Views hostile links acts log → Views more links acts log
 fewer_views hostile more links acts log fewer v = record {
   writes_sent = v.writes_sent;
   closes_sent = λ o l a option e honest. v.closes_sent o l a option e (fewer l.inc honest);
 }
 
-pub turned_facts : (hostile : List ℕ) (inc : ℕ) (links : Links) (acts : Acts) (lives : Lives) (sent : List Said) (owners : List ℕ) (last : ℕ) (counted : List Done) (served : List ServerDone)
-    → Facts hostile links acts lives sent owners last counted served → Facts (hostile ++ inc ∷ []) links acts lives sent owners last counted served
-turned_facts hostile inc links acts lives sent owners last counted served f = fewer_honest hostile (hostile ++ inc ∷ []) links acts lives sent owners last counted served (honest_before hostile inc) f
+pub turned_facts : (hostile : List ℕ) (inc : ℕ) (links : Links) (acts : Acts) (lives : Lives) (sent : List Said)
+    (owners : List ℕ) (last : ℕ) (counted : List Done) (served : List ServerDone)
+    → Facts hostile links acts lives sent owners last counted served
+    → Facts (hostile ++ inc ∷ []) links acts lives sent owners last counted served
+turned_facts hostile inc links acts lives sent owners last counted served f =
+    fewer_honest hostile (hostile ++ inc ∷ []) links acts lives sent owners last counted served
+    (honest_before hostile inc) f
 
-pub turned_views : (hostile : List ℕ) (inc : ℕ) (links : Links) (acts : Acts) (log : List Sent) → Views hostile links acts log → Views (hostile ++ inc ∷ []) links acts log
-turned_views hostile inc links acts log v = fewer_views hostile (hostile ++ inc ∷ []) links acts log (honest_before hostile inc) v
+pub turned_views : (hostile : List ℕ) (inc : ℕ) (links : Links) (acts : Acts) (log : List Sent)
+    → Views hostile links acts log → Views (hostile ++ inc ∷ []) links acts log
+turned_views hostile inc links acts log v = fewer_views hostile (hostile ++ inc ∷ []) links acts log
+    (honest_before hostile inc) v

@@ -1,10 +1,10 @@
--- What senders saw: the state of an activation just before it sent a message. So each content that the container takes was
--- sent under the storage grant that its record holds open.
+-- What senders saw: the state of an activation just before it sent a message. So each content that the container takes
+-- was sent under the storage grant that its record holds open.
 use Rattle.std.specs.Prelude.{◌≡◌, ◌⊎◌, ℕ, true, List, Option, Some, ⊤}
-use Rattle.wire_msgs.specs.declared.message.Said.{Said}
-use Rattle.wire_msgs.specs.declared.message.Said.TheVariants.{Call, Reply, Write, Ask}
-use Rattle.wire_msgs.specs.declared.operation.Operation.TheVariants.{Close}
-use Rattle.wire_msgs.specs.declared.answer.Answer.{Answer}
+use Rattle.message_values.specs.declared.message.Said.{Said}
+use Rattle.message_values.specs.declared.message.Said.TheVariants.{Call, Reply, Write, Ask}
+use Rattle.message_values.specs.declared.operation.Operation.TheVariants.{Close}
+use Rattle.message_values.specs.declared.answer.Answer.{Answer}
 use Rattle.object_state.specs.declared.both_states.States.{States}
 use Rattle.object_state.specs.declared.operations.CloseOption.{CloseOption}
 use Rattle.object_state.specs.declared.persist_states.PersistState.TheVariants.{Normal}
@@ -42,7 +42,8 @@ pub record IsSeen (sent : List Sent) (inc act n : ℕ) (answer : Answer) (v : St
 pub record Views (hostile : List ℕ) (links : Links) (acts : Acts) (sent : List Sent) : Type 0 where
   pub writes_sent : (x : Sent) → Among sent x → IsSentOpen x.message.said x.view
   -- an answer to a close that is pending was sent at the link's states and grant
-  pub closes_sent : (o : ℕ) (l : Link) (a : Activation) (option : CloseOption) → links o ≡ Some l → IsHonest hostile l.inc → acts l.inc l.act ≡ Some a → l.pending ≡ Some (Close option) → a.last ≡ l.last
+  pub closes_sent : (o : ℕ) (l : Link) (a : Activation) (option : CloseOption) → links o ≡ Some l
+      → IsHonest hostile l.inc → acts l.inc l.act ≡ Some a → l.pending ≡ Some (Close option) → a.last ≡ l.last
       → IsSeen sent l.inc l.act a.last a.reply l.states l.s
 
 -- the log of messages grew, by writes that were sent under their grants and by other messages
@@ -61,5 +62,7 @@ pub record WasAnswered (links : Links) (acts : Acts) (o : ℕ) (l : Link) (a : A
   pub reply : a.reply ≡ activation.reply
 
 abbrev pub LeavesCloses : List ℕ → Links → Links → Acts → Acts → Type 0
-LeavesCloses hostile links now acts after = (o : ℕ) (l : Link) (a : Activation) (option : CloseOption) → now o ≡ Some l → IsHonest hostile l.inc → after l.inc l.act ≡ Some a → l.pending ≡ Some (Close option) → a.last ≡ l.last
+LeavesCloses hostile links now acts after = (o : ℕ) (l : Link) (a : Activation) (option : CloseOption)
+    → now o ≡ Some l → IsHonest hostile l.inc → after l.inc l.act ≡ Some a → l.pending ≡ Some (Close option)
+    → a.last ≡ l.last
     → WasAnswered links acts o l a

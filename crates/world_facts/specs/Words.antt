@@ -1,11 +1,11 @@
--- The words of the invariant: a world by lookups, and the operations that were issued. No reader has to believe them; what
--- they are for stands in Safe.
+-- The words of the invariant: a world by lookups, and the operations that were issued. No reader has to believe them;
+-- what they are for stands in Safe.
 use Rattle.std.specs.Prelude.{◌≡◌, ◌+◌, ℕ, List, map, Option, Some, None, slice_get}
-use Rattle.wire_msgs.specs.Found.{nth}
-use Rattle.wire_msgs.specs.declared.message.Message.{Message}
-use Rattle.wire_msgs.specs.declared.message.Said.{Said}
-use Rattle.wire_msgs.specs.declared.message.Said.TheVariants.{Call}
-use Rattle.wire_msgs.specs.declared.operation.Operation.{Operation}
+use Rattle.message_values.specs.Found.{nth}
+use Rattle.message_values.specs.declared.message.Message.{Message}
+use Rattle.message_values.specs.declared.message.Said.{Said}
+use Rattle.message_values.specs.declared.message.Said.TheVariants.{Call}
+use Rattle.message_values.specs.declared.operation.Operation.{Operation}
 use Rattle.server_model.specs.Server.{Activation}
 use Rattle.container_model.specs.declared.record.Link.{Link}
 use Rattle.world_model.specs.declared.life.Life.{Life}
@@ -42,7 +42,8 @@ lives_of is inc = life_at (nth is inc)
 -- Sending what waits leaves it as it is.
 pub data Issued (links : Links) (sent : List Said) (inc act n : ℕ) (op : Operation) : Type 0 where
   called : Among sent (Call inc act n op) → Issued links sent inc act n op
-  waits : (o : ℕ) (l : Link) (i : ℕ) → links o ≡ Some l → l.inc ≡ inc → l.act ≡ act → slice_get l.waiting i ≡ Some op → n ≡ l.last + 1 + i → Issued links sent inc act n op
+  waits : (o : ℕ) (l : Link) (i : ℕ) → links o ≡ Some l → l.inc ≡ inc → l.act ≡ act
+      → slice_get l.waiting i ≡ Some op → n ≡ l.last + 1 + i → Issued links sent inc act n op
 
 -- an activation of this number that a link has in this incarnation
 abbrev pub IsLinked : Links → ℕ → ℕ → Type 0

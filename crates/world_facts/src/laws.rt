@@ -1,6 +1,8 @@
 //! Laws: each shape of change keeps the facts. Each function is empty: its contract is the law, which is proved.
 
-ghost use Rattle.world_facts.specs.Laws.{ActingKeeps, ActingKeepsViews, AskingKeeps, BeginningKeeps, CountingKeeps, EndingKeeps, LeavingKeepsViews, SendingNextKeeps, SettlingKeeps, StartingKeeps, TellingKeeps, TurningHostileKeeps, TurningHostileKeepsViews};
+ghost use Rattle.world_facts.specs.Laws.{ActingKeeps, ActingKeepsViews, AskingKeeps, BeginningKeeps, CountingKeeps};
+ghost use Rattle.world_facts.specs.Laws.{EndingKeeps, LeavingKeepsViews, SendingNextKeeps, SettlingKeeps};
+ghost use Rattle.world_facts.specs.Laws.{StartingKeeps, TellingKeeps, TurningHostileKeeps, TurningHostileKeepsViews};
 
 /// The facts stay where the pending operation of an object was answered.
 pub fn settling_keeps()

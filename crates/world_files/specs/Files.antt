@@ -1,10 +1,10 @@
--- The files of a world and the container's log of counted saves: the facts that each event keeps. No reader has to believe
--- them; what they are for stands in Safe.
+-- The files of a world and the container's log of counted saves: the facts that each event keeps. No reader has to
+-- believe them; what they are for stands in Safe.
 use Rattle.std.specs.Prelude.{◌≡◌, ◌≢◌, ◌⊎◌, ◌≤◌, ◌<◌, ℕ, true, false, List, [], ◌∷◌, length, map, Option, Some, ⊤}
 use Rattle.std.specs.List.{flat_map}
-use Rattle.wire_msgs.specs.Found.{find, nth}
-use Rattle.file_model.specs.Denotes.{Denotes}
-use Rattle.document_model.specs.DocOf.{DocOf}
+use Rattle.message_values.specs.Found.{find, nth}
+use Rattle.cfb_file.specs.Denotes.{Denotes}
+use Rattle.ole_model.specs.DocOf.{DocOf}
 use Rattle.container_model.specs.Saves as saves
 use Rattle.container_model.specs.Saves.{document_tree}
 use Rattle.container_model.specs.declared.answer.Part.{Part}
@@ -37,7 +37,8 @@ abbrev pub Bears : Frame → List ℕ → Type 0
 Bears frame name = (frame.name ≡ name) ⊎ (frame.asked ≡ Some name)
 
 abbrev pub Apart : List Frame → Type 0
-Apart frames = (f g : ℕ) (a b : Frame) (name : List ℕ) → nth frames f ≡ Some a → nth frames g ≡ Some b → Bears a name → Bears b name → f ≡ g
+Apart frames = (f g : ℕ) (a b : Frame) (name : List ℕ) → nth frames f ≡ Some a → nth frames g ≡ Some b
+    → Bears a name → Bears b name → f ≡ g
 
 abbrev pub Distinct : List Id → Type 0
 Distinct [] = ⊤
@@ -49,15 +50,16 @@ pub record AreNumbered (frames : List Frame) (ids : List Id) (last_object : ℕ)
   pub drawn : (x : Id) → Among ids x → x.number ≤ last_object
   pub placed : (x : Id) → Among ids x → (frame : Frame) × (nth frames x.frame ≡ Some frame)
 
--- The container counted saves of objects whose numbers were drawn, each object's below the number of its frame's last one,
--- and none twice.
+-- The container counted saves of objects whose numbers were drawn, each object's below the number of its frame's last
+-- one, and none twice.
 pub record CountedBounded (frames : List Frame) (ids : List Id) (last_object : ℕ) (dones : List Done) : Type 0 where
   pub counted : (d : Done) → Among dones d → d.object ≤ last_object
-  pub below : (x : Id) (d : Done) (frame : Frame) → Among ids x → Among dones d → d.object ≡ x.number → nth frames x.frame ≡ Some frame → IsBelow frame d.k
+  pub below : (x : Id) (d : Done) (frame : Frame) → Among ids x → Among dones d → d.object ≡ x.number
+      → nth frames x.frame ≡ Some frame → IsBelow frame d.k
   pub counted_once : CountedOnce dones
 
--- The file under a frame's name holds the document of its last counted commit, whose contents were counted with it. So it
--- does in a frame in doubt, as a commit that fails changes no file of the world.
+-- The file under a frame's name holds the document of its last counted commit, whose contents were counted with it. So
+-- it does in a frame in doubt, as a commit that fails changes no file of the world.
 pub record IsFiled (files : List File) (frame : Frame) (document : Document) (dones : List Done) : Type 0 where
   pub stored : frame.stored ≡ true
   pub file : File
@@ -66,17 +68,20 @@ pub record IsFiled (files : List File) (frame : Frame) (document : Document) (do
   pub holds : DocOf (document_tree (saved_of document)) (saves.document (saved_of document))
   pub counted_with : (p : Part) → Among document.parts p → Among dones (done_entry document.k p)
 
-pub record FilesCounted (frames : List Frame) (files : List File) (counted : List (Option Document)) (dones : List Done) : Type 0 where
+pub record FilesCounted (frames : List Frame) (files : List File) (counted : List (Option Document))
+    (dones : List Done) : Type 0 where
   pub aligned : length counted ≡ length frames
   pub names_apart : Apart frames
-  pub file_counted : (f : ℕ) (document : Document) (frame : Frame) → nth counted f ≡ Some (Some document) → nth frames f ≡ Some frame → IsFiled files frame document dones
+  pub file_counted : (f : ℕ) (document : Document) (frame : Frame) → nth counted f ≡ Some (Some document)
+      → nth frames f ≡ Some frame → IsFiled files frame document dones
 
--- Commits of objects whose numbers were drawn, for frames that are there. An object that is there still is counted for the
--- frame that it stands in; so no two frames share one. A commit's number is at most that of its frame's last save, and below
--- it while that one isn't counted; so each commit of a frame has a greater number than those before it.
+-- Commits of objects whose numbers were drawn, for frames that are there. An object that is there still is counted for
+-- the frame that it stands in; so no two frames share one. A commit's number is at most that of its frame's last save,
+-- and below it while that one isn't counted; so each commit of a frame has a greater number than those before it.
 pub record CommitsBounded (frames : List Frame) (ids : List Id) (last_object : ℕ) (commits : List Commit) : Type 0 where
   pub drawn : (c : Commit) (p : Part) → Among commits c → Among c.parts p → p.object ≤ last_object
-  pub owned : (x : Id) (c : Commit) (p : Part) → Among ids x → Among commits c → Among c.parts p → p.object ≡ x.number → x.frame ≡ c.frame
+  pub owned : (x : Id) (c : Commit) (p : Part) → Among ids x → Among commits c → Among c.parts p
+      → p.object ≡ x.number → x.frame ≡ c.frame
   pub placed : (c : Commit) → Among commits c → (frame : Frame) × (nth frames c.frame ≡ Some frame)
   pub below : (c : Commit) (frame : Frame) → Among commits c → nth frames c.frame ≡ Some frame → IsBelow frame c.k
   pub in_turn : AreInTurn commits
@@ -89,7 +94,8 @@ pub record IsOfCommit (file : File) (commits : List Commit) : Type 0 where
   pub holds : DocOf (document_tree (saved_in commit)) (saves.document (saved_in commit))
 
 -- what was counted, commit by commit, and that all files are of these commits
-pub record HasCommits (frames : List Frame) (ids : List Id) (last_object : ℕ) (files : List File) (counted : List (Option Document)) (dones : List Done) : Type 0 where
+pub record HasCommits (frames : List Frame) (ids : List Id) (last_object : ℕ) (files : List File)
+    (counted : List (Option Document)) (dones : List Done) : Type 0 where
   pub commits : List Commit
   pub entries : dones ≡ flat_map entries_of commits
   pub last : (f : ℕ) → document_in (nth counted f) ≡ last_commit f commits
@@ -110,7 +116,8 @@ pub record IsSameFrame (old new : Frame) : Type 0 where
 
 pub record AreSameFrames (old new : List Frame) : Type 0 where
   pub many : length new ≡ length old
-  pub from : (f : ℕ) (frame : Frame) → nth new f ≡ Some frame → (before : Frame) × (nth old f ≡ Some before) × IsSameFrame before frame
+  pub from : (f : ℕ) (frame : Frame) → nth new f ≡ Some frame → (before : Frame) × (nth old f ≡ Some before)
+      × IsSameFrame before frame
 
 -- Of a commit that is done, or was kept after all, the bytes denote the frame's document; other events make no file.
 abbrev pub MakesImage : World → Choice → Event → Type 0

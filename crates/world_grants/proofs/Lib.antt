@@ -13,3 +13,8 @@ pub mod Answering
 pub mod Ending
 pub mod Taking
 pub mod Handing
+pub mod Serving
+pub mod Speaking
+pub mod Pending
+pub mod Asked
+pub mod Joining

@@ -1,25 +1,25 @@
--- The facts about who has a frame's menus and border: what an activation has, what its object's frame names, and what was
--- answered to it.
+-- The facts about who has a frame's menus and border: what an activation has, what its object's frame names, and what
+-- was answered to it.
 use Rattle.std.specs.Prelude.{◌≡◌, ◌⊎◌, ℕ, List, Option, Some, None}
-use Rattle.wire_msgs.specs.Found.{find, nth}
-use Rattle.wire_msgs.specs.declared.message.Said.{Said}
-use Rattle.wire_msgs.specs.declared.message.Said.TheVariants.{Call, Reply}
-use Rattle.wire_msgs.specs.declared.operation.Operation.{Operation}
-use Rattle.wire_msgs.specs.declared.operation.Operation.TheVariants.{UiActivate, UiDeactivate}
-use Rattle.wire_msgs.specs.declared.answer.Answer.{Answer}
-use Rattle.wire_msgs.specs.declared.answer.Answer.TheVariants as told
+use Rattle.message_values.specs.Found.{find, nth}
+use Rattle.message_values.specs.declared.message.Said.{Said}
+use Rattle.message_values.specs.declared.message.Said.TheVariants.{Call, Reply}
+use Rattle.message_values.specs.declared.operation.Operation.{Operation}
+use Rattle.message_values.specs.declared.operation.Operation.TheVariants.{UiActivate, UiDeactivate}
+use Rattle.message_values.specs.declared.answer.Answer.{Answer}
+use Rattle.message_values.specs.declared.answer.Answer.TheVariants as told
 use Rattle.object_state.specs.declared.object_states.ObjectState.TheVariants.{UiActive}
-use Rattle.grant_core.specs.declared.grant_states.Claim.{Claim}
-use Rattle.grant_core.specs.declared.grant_states.Tools.{Tools}
-use Rattle.grant_core.specs.declared.grant_states.GrantState.{GrantState}
-use Rattle.grant_core.specs.declared.grant_states.GrantState.TheVariants.{Held}
-use Rattle.grant_core.specs.Grants.{who}
+use Rattle.object_state.specs.declared.grant_states.Claim.{Claim}
+use Rattle.object_state.specs.declared.grant_states.Tools.{Tools}
+use Rattle.object_state.specs.declared.grant_states.GrantState.{GrantState}
+use Rattle.object_state.specs.declared.grant_states.GrantState.TheVariants.{Held}
+use Rattle.object_state.specs.Grants.{who}
 use Rattle.server_model.specs.Server.{Activation}
 use Rattle.container_model.specs.declared.record.Link.{Link}
 use Rattle.container_model.specs.declared.record.Object.{Object}
 use Rattle.container_model.specs.declared.record.Frame.{Frame}
 use Rattle.container_model.specs.Record.{Record, is_object}
-use Rattle.container_steady.specs.Roles.{Role, Other, Getting, Holding, Giving, Waiting, role_in}
+use Rattle.container_queues.specs.Roles.{Role, Other, Getting, Holding, Giving, Waiting, role_in}
 use Rattle.world_model.specs.World.{server_of}
 use Rattle.world_model.specs.Safe.{Among}
 use Rattle.world_facts.specs.Words.{Links, Acts, IsHonest, IsOpen}
@@ -61,11 +61,14 @@ pub record Grants (hostile : List ℕ) (links : Links) (roles : Roles) (acts : A
   -- an activation that has a grant is open, with its menus and border
   pub g_is_ui : (inc act g : ℕ) (a : Activation) → IsHonest hostile inc → acts inc act ≡ Some a → a.g ≡ Some g → IsUi a
   -- and its frame names it
-  pub holder_named : (o g : ℕ) (l : Link) (a : Activation) → links o ≡ Some l → IsHonest hostile l.inc → acts l.inc l.act ≡ Some a → a.g ≡ Some g → Names (roles o) g
+  pub holder_named : (o g : ℕ) (l : Link) (a : Activation) → links o ≡ Some l → IsHonest hostile l.inc
+      → acts l.inc l.act ≡ Some a → a.g ≡ Some g → Names (roles o) g
   -- what was replied was called, at a hostile server too; so whatever is pending was sent once it is answered
-  pub replied_called : (inc act n : ℕ) (r : Answer) → Among sent (Reply inc act n r) → (op : Operation) × Among sent (Call inc act n op)
+  pub replied_called : (inc act n : ℕ) (r : Answer) → Among sent (Reply inc act n r) → (op : Operation)
+      × Among sent (Call inc act n op)
   -- whoever holds its frame answered the tools that it holds it with
-  pub held_told : (o g : ℕ) (tools : Tools) (l : Link) → links o ≡ Some l → IsHonest hostile l.inc → roles o ≡ Holding g tools → WasTold sent l.inc l.act g tools
+  pub held_told : (o g : ℕ) (tools : Tools) (l : Link) → links o ≡ Some l → IsHonest hostile l.inc
+      → roles o ≡ Holding g tools → WasTold sent l.inc l.act g tools
 
 -- a grant is asked of whoever is to get its frame; and only linked objects hold one
 pub record IsReadyFor (links : Links) (roles : Roles) : Type 0 where
@@ -74,7 +77,8 @@ pub record IsReadyFor (links : Links) (roles : Roles) : Type 0 where
 
 -- each link is of an activation that was linked to the same object before
 abbrev pub Follows : Links → Links → Type 0
-Follows links after = (o : ℕ) (m : Link) → after o ≡ Some m → (l : Link) × (links o ≡ Some l) × (m.inc ≡ l.inc) × (m.act ≡ l.act)
+Follows links after = (o : ℕ) (m : Link) → after o ≡ Some m → (l : Link) × (links o ≡ Some l) × (m.inc ≡ l.inc)
+    × (m.act ≡ l.act)
 
 -- What a step took of honest servers was sent. Of hostile ones it takes what was forged.
 abbrev pub AreSent : List ℕ → List Said → List Said → Type 0
@@ -97,10 +101,11 @@ pub record GotTools (links : Links) (taken : List Said) (o g : ℕ) (tools : Too
 -- holds a frame that didn't, until it has answered its tools.
 pub record RolesMove (links after : Links) (roles now : Roles) (taken : List Said) : Type 0 where
   pub named : (o g : ℕ) (m : Link) → after o ≡ Some m → Names (roles o) g → Names (now o) g ⊎ GaveUp links taken o
-  pub held : (o g : ℕ) (tools : Tools) (m : Link) → after o ≡ Some m → now o ≡ Holding g tools → (roles o ≡ Holding g tools) ⊎ GotTools links taken o g tools
+  pub held : (o g : ℕ) (tools : Tools) (m : Link) → after o ≡ Some m → now o ≡ Holding g tools
+      → (roles o ≡ Holding g tools) ⊎ GotTools links taken o g tools
 
--- The same of a frame's state: who has it stays so, but for claims that are lost, and nobody holds it newly, but by claims
--- that are new.
+-- The same of a frame's state: who has it stays so, but for claims that are lost, and nobody holds it newly, but by
+-- claims that are new.
 pub record Moves (Gone : Claim → Type 0) (New : Claim → Tools → Type 0) (before after : GrantState) : Type 0 where
   pub kept : (c : Claim) → who before ≡ Some c → (who after ≡ Some c) ⊎ Gone c
   pub held : (c : Claim) (tools : Tools) → after ≡ Held c tools → (before ≡ Held c tools) ⊎ New c tools

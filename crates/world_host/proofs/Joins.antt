@@ -1,7 +1,8 @@
 -- What a step of the container gives, put together from its parts.
-use Rattle.std.proofs.Common.{◌≡◌, ℕ, zero, suc, ◌+◌, ◌≤◌, List, Option, [], ◌∷◌, ◌++◌, length, map, refl, ap, ◌∙◌, arith}
+use Rattle.std.proofs.Common.{◌≡◌, ℕ, zero, suc, ◌+◌, ◌≤◌, List, Option, [], ◌∷◌, ◌++◌, length, map, refl, ap, ◌∙◌}
+use Rattle.std.proofs.Common.{arith}
 use Rattle.std.specs.List.{range_with_len}
-use Rattle.wire_msgs.specs.Found.{nth}
+use Rattle.message_values.specs.Found.{nth}
 use Rattle.container_model.specs.declared.answer.Action.{Action}
 use Rattle.container_model.specs.declared.answer.Action.TheVariants.{Send, Start, End, Commit}
 use Rattle.container_model.specs.declared.answer.Answer.{Answer}
@@ -10,7 +11,8 @@ use Rattle.world_model.specs.declared.logs.Sent.{Sent}
 use Rattle.world_model.specs.declared.logs.Document.{Document}
 use Rattle.world_model.specs.declared.logs.EventAnswer.{EventAnswer}
 use Rattle.world_model.specs.declared.logs.EventAnswer.TheVariants as told
-use Rattle.world_model.specs.World.{World, Instance, joined, started_by, ended_by, ended_at, messages_of, commits_of, of_container, uncounted, fresh}
+use Rattle.world_model.specs.World.{World, Instance, joined, started_by, ended_by, ended_at, messages_of, commits_of}
+use Rattle.world_model.specs.World.{of_container, uncounted, fresh}
 use Rattle.world_host.specs.Servers.{starts_of, ends_of, ends_by}
 use Rattle.world_host.specs.View.{started}
 
@@ -48,12 +50,25 @@ none_ended (Start inc ∷ rest) = none_ended rest
 none_ended (End inc ∷ rest) = ap (ended_by rest) (none_at inc) ∙ none_ended rest
 none_ended (Commit f ∷ rest) = none_ended rest
 
-pub joins : (w : World) (a : Answer) (sent : List Sent) (starts places commits : List ℕ) (answers : List EventAnswer) (counted : List (Option Document))
+pub joins : (w : World) (a : Answer) (sent : List Sent) (starts places commits : List ℕ)
+    (answers : List EventAnswer) (counted : List (Option Document))
     → sent ≡ w.sent ++ map of_container (messages_of a.actions)
     → starts ≡ starts_of a.actions
     → places ≡ range_with_len (length w.sent + 1) (length (messages_of a.actions))
     → commits ≡ commits_of a.actions
-    → answers ≡ w.answers ++ told.Took (record { frame = a.frame; objects = a.objects; server = a.server; taken = a.taken; refused = a.refused; no_tools = a.no_tools; sent = places; commits = commits }) ∷ []
+    → answers ≡ w.answers ++ told.Took
+    (record {
+      frame = a.frame;
+      objects = a.objects;
+      server = a.server;
+      taken = a.taken;
+      refused = a.refused;
+      no_tools = a.no_tools;
+      sent = places;
+      commits = commits;
+    }) ∷ []
     → counted ≡ w.counted ++ uncounted a.frame
-    → joined (record w { instances = [] }) (counts_none w.rec a) ≡ started (record w { sent = sent; answers = answers; counted = counted }) starts
-joins w a sent starts places commits answers counted es et ep ec ea en = rw (none_ended a.actions, started_starts w.rec.session w.rec.numbers a.actions, es, ea, et, ep, ec, en) refl
+    → joined (record w { instances = [] }) (counts_none w.rec a)
+    ≡ started (record w { sent = sent; answers = answers; counted = counted }) starts
+joins w a sent starts places commits answers counted es et ep ec ea en =
+    rw (none_ended a.actions, started_starts w.rec.session w.rec.numbers a.actions, es, ea, et, ep, ec, en) refl

@@ -1,6 +1,6 @@
 -- Where a file stands.
 use Rattle.std.specs.Prelude.{◌≡◌, ℕ, Bool, false, List, ◌∷◌, [], ◌++◌, Option, Some, None, slice_get, slice_set}
-use Rattle.wire_msgs.specs.Found.{find}
+use Rattle.message_values.specs.Found.{find}
 use Rattle.container_model.specs.declared.record.Frame.{Frame}
 use Rattle.container_model.specs.Record.{is_doubtful}
 use Rattle.container_model.specs.Saves.{is_committing}

@@ -1,10 +1,10 @@
 -- What is logged of the contents that a container takes.
 use Rattle.std.specs.Prelude.{ℕ, Bool, List, [], ◌∷◌, ◌++◌, Option, Some, None, Result, Ok, Err, if◌then◌else◌}
-use Rattle.wire_msgs.specs.Found.{find}
-use Rattle.wire_msgs.specs.declared.message.Message.{Message}
-use Rattle.wire_msgs.specs.declared.message.Said.{Said}
+use Rattle.message_values.specs.Found.{find}
+use Rattle.message_values.specs.declared.message.Message.{Message}
+use Rattle.message_values.specs.declared.message.Said.{Said}
 use Rattle.container_model.specs.declared.server_link.ServerLink.{ServerLink}
-use Rattle.wire_msgs.specs.declared.message.Said.TheVariants.{Call, Reply, Write, Ask}
+use Rattle.message_values.specs.declared.message.Said.TheVariants.{Call, Reply, Write, Ask}
 use Rattle.container_model.specs.Messages.{on_message}
 use Rattle.container_model.specs.Record.{Took, is_linked}
 use Rattle.container_model.specs.declared.fault.ContainerFault.{ContainerFault}

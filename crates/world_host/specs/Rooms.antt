@@ -1,8 +1,9 @@
 -- Room that is taken before a step changes anything.
-use Rattle.std.specs.Prelude.{◌≡◌, ◌+◌, ◌≤◌, ◌<◌, ◌^◌, ℕ, Bool, true, false, Option, [], ◌∷◌, ◌++◌, length, vec_len, vec_capacity}
+use Rattle.std.specs.Prelude.{◌≡◌, ◌+◌, ◌≤◌, ◌<◌, ◌^◌, ℕ, Bool, true, false, Option, [], ◌∷◌, ◌++◌, length, vec_len}
+use Rattle.std.specs.Prelude.{vec_capacity}
 use Rattle.container_model.specs.Record.{Record}
 use Rattle.server_model.specs.declared.counted.Counted.{Counted}
-use Rattle.wire_msgs.specs.declared.message.Message.{Message}
+use Rattle.message_values.specs.declared.message.Message.{Message}
 use Rattle.world_model.specs.declared.event.Stop.{Stop}
 use Rattle.world_model.specs.declared.event.Stop.TheVariants.{NotEnabled, OutOfStock, EventLimit, NoMemory}
 use Rattle.world_model.specs.declared.logs.View.{View}

@@ -1,6 +1,6 @@
 -- The servers that a step of the container ends, and those that it starts.
 use Rattle.std.specs.Prelude.{ℕ, List, [], ◌∷◌, Result, Ok, Err}
-use Rattle.wire_msgs.specs.Found.{nth}
+use Rattle.message_values.specs.Found.{nth}
 use Rattle.container_model.specs.Record.{Took}
 use Rattle.container_model.specs.declared.answer.Action.{Action}
 use Rattle.container_model.specs.declared.answer.Action.TheVariants.{Send, Start, End, Commit}

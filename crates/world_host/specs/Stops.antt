@@ -1,6 +1,7 @@
 -- What a host makes and leaves where its container stops.
-use Rattle.std.specs.Prelude.{◌≡◌, ◌+◌, ◌&&◌, ℕ, Bool, true, false, not, List, [], ◌∷◌, Option, Some, None, is_some, Result, Ok, Err, if◌then◌else◌}
-use Rattle.wire_msgs.specs.Found.{nth}
+use Rattle.std.specs.Prelude.{◌≡◌, ◌+◌, ◌&&◌, ℕ, Bool, true, false, not, List, [], ◌∷◌, Option, Some, None, is_some}
+use Rattle.std.specs.Prelude.{Result, Ok, Err, if◌then◌else◌}
+use Rattle.message_values.specs.Found.{nth}
 use Rattle.container_model.specs.Record.{Record}
 use Rattle.container_model.specs.Saves.{image}
 use Rattle.container_model.specs.declared.record.Frame.{Frame}
@@ -8,7 +9,7 @@ use Rattle.world_model.specs.declared.event.Stop.{Stop}
 use Rattle.world_model.specs.declared.event.Stop.TheVariants.{NotEnabled, OutOfStock, EventLimit, NoMemory}
 use Rattle.world_model.specs.declared.logs.File.{File}
 use Rattle.world_model.specs.World.{IsImageOf, World, put_file}
-use Rattle.story_model.specs.Story.{has_image, is_among, made_name}
+use Rattle.world_model.specs.Story.{has_image, is_among, made_name}
 use Rattle.world_host.specs.declared.host.Host.{Host}
 use Rattle.world_host.specs.declared.stops.Left.{Left}
 
@@ -24,7 +25,8 @@ lacks_image r fs f = is_among fs f && not (has_image (image r f))
 -- the names of the files that are made of the frames among these, by rising number, the first of them of number f
 abbrev pub made_names : List ℕ → ℕ → List Frame → List (List ℕ)
 made_names fs f [] = []
-made_names fs f (frame ∷ frames) = if is_among fs f then made_name frame ∷ made_names fs (f + 1) frames else made_names fs (f + 1) frames
+made_names fs f (frame ∷ frames) = if is_among fs f then made_name frame ∷ made_names fs (f + 1) frames
+    else made_names fs (f + 1) frames
 
 -- the file that is made of a frame, none where it isn't among these
 abbrev pub IsMade : World → List ℕ → ℕ → Frame → Option File → Type 0

@@ -1,14 +1,17 @@
 //! What a commit that is done leaves in a world.
 
-ghost use Rattle.std.specs.Prelude.{◌++◌, ◌∷◌, [], ◌+◌, ◌<◌, ◌≤◌, ◌≡◌, IfOk, IfErr, IfSome, MatchOption, length, true, OnErr, OnOk, Ok, Some, None, List, ℕ, map, option_copied, vec_len, vec_capacity};
-ghost use Rattle.wire_msgs.specs.Found.{nth, set_nth, find};
+ghost use Rattle.std.specs.Prelude.{◌++◌, ◌∷◌, [], ◌+◌, ◌<◌, ◌≤◌, ◌≡◌, IfOk, IfErr, IfSome, MatchOption, length, true};
+ghost use Rattle.std.specs.Prelude.{OnErr, OnOk, Ok, Some, None, List, ℕ, map, option_copied, vec_len, vec_capacity};
+ghost use Rattle.message_values.specs.Found.{nth, set_nth, find};
 ghost use Rattle.container_model.specs.Record as container;
 ghost use Rattle.container_model.specs.Saves as saves;
-ghost use Rattle.container_model.specs.Saves.{commit_done, counted_of, document, done_entry, image, document_tree, name_after};
+ghost use Rattle.container_model.specs.Saves.{commit_done, counted_of, document, done_entry, image, document_tree};
+ghost use Rattle.container_model.specs.Saves.{name_after};
 ghost use Rattle.container_model.specs.declared.record.Phase.TheVariants as phase;
-ghost use Rattle.document_model.specs.DocOf.{DocOf};
-ghost use Rattle.file_model.specs.Denotes.{Denotes};
-ghost use Rattle.world_model.specs.World.{IsImage, Refuses, done, frame_file, is_file, kept_commit, limited, put_file, making};
+ghost use Rattle.ole_model.specs.DocOf.{DocOf};
+ghost use Rattle.cfb_file.specs.Denotes.{Denotes};
+ghost use Rattle.world_model.specs.World.{IsImage, Refuses, done, frame_file, is_file, kept_commit, limited, put_file};
+ghost use Rattle.world_model.specs.World.{making};
 ghost use Rattle.world_model.specs.declared.event.Event.TheVariants as event;
 ghost use Rattle.world_host.specs.Files.{IsFileAt, IsNoFile, is_committing_in};
 ghost use Rattle.world_host.specs.Rooms.{most};
@@ -20,9 +23,9 @@ use crate::opens::file_bytes;
 use container_model::answer::{Done, FrameDocument, Part};
 use container_model::fault::ContainerFault;
 use container_model::record::{Frame, Phase};
-use file_image::image::Image;
 use std::alloc::{AllocError, Global};
-use stored_values::bytes::Bytes;
+use store_images::image::Image;
+use tree_values::bytes::Bytes;
 use world_model::event::Stop;
 use world_model::logs::{Document, File};
 
@@ -134,8 +137,8 @@ impl Host {
         }
     }
 
-    // The document of a frame whose commit is asked for or in doubt, and the image of the file that is committed: of its clauses
-    // those that a world speaks of.
+    // The document of a frame whose commit is asked for or in doubt, and the image of the file that is committed: of
+    // its clauses those that a world speaks of.
     pub(crate) fn image(
         &self,
         alloc: Global,
@@ -207,13 +210,17 @@ impl Host {
     /// The commit of a frame's file is done: the file denotes its document. Gives the servers that are ended and
     /// started; for those that are started there is room or not.
     ///
-    /// Refused: `NotEnabled` where the commit isn't asked for; then `EventLimit`; then `NoMemory`. Then nothing changes.
+    /// Refused: `NotEnabled` where the commit isn't asked for; then `EventLimit`; then `NoMemory`. Then nothing
+    /// changes.
     pub fn done(&mut self, alloc: Global, f: u32, room: bool) -> Result<Servers, Stop>
         ensures room { OnOk result (room ≡ true) }
-        ensures taken { IfOk result (λ s. (bytes : List ℕ) × IsImage (bare self.old) (making bytes) (event.Done f) × (limited (bare self.old) (done (bare self.old) f bytes) ≡ Ok (started (bare self.new) s.starts.items))) }
+        ensures taken { IfOk result (λ s. (bytes : List ℕ) × IsImage (bare self.old) (making bytes) (event.Done f)
+            × (limited (bare self.old) (done (bare self.old) f bytes)
+            ≡ Ok (started (bare self.new) s.starts.items))) }
         ensures ends { IfOk result (λ s. s.ends.items ≡ ends_in (commit_done self.old.core f)) }
         ensures few { IfOk result (λ s. vec_len s.starts ≤ most self.old.core) }
-        ensures refused { IfErr result (λ stop. (bytes : List ℕ) → Refuses (limited (bare self.old) (done (bare self.old) f bytes)) stop) }
+        ensures refused { IfErr result (λ stop. (bytes : List ℕ)
+            → Refuses (limited (bare self.old) (done (bare self.old) f bytes)) stop) }
         ensures kept { OnErr result (bare self.new ≡ bare self.old) }
     {
         if !self.is_committing(f) {

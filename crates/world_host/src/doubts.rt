@@ -1,7 +1,7 @@
 //! What a commit that fails leaves in a world, and one in doubt that is resolved.
 
 ghost use Rattle.std.specs.Prelude.{◌≡◌, ◌≤◌, IfErr, IfOk, List, Ok, OnErr, OnOk, false, length, true, vec_len, ℕ};
-ghost use Rattle.wire_msgs.specs.Found.{nth};
+ghost use Rattle.message_values.specs.Found.{nth};
 ghost use Rattle.container_model.specs.Saves as saves;
 ghost use Rattle.container_model.specs.Saves.{commit_failed, resolve};
 ghost use Rattle.world_model.specs.World.{IsImage, Refuses, limited, making, only_taken, resolved};
@@ -16,9 +16,9 @@ use crate::host::{Host, Servers, add_all};
 use container_model::answer::FrameDocument;
 use container_model::fault::ContainerFault;
 use container_model::record::Phase;
-use file_image::image::Image;
 use std::alloc::{AllocError, Global};
-use stored_values::bytes::Bytes;
+use store_images::image::Image;
+use tree_values::bytes::Bytes;
 use world_model::event::Stop;
 
 impl Host {
@@ -38,7 +38,8 @@ impl Host {
     // What a commit that fails leaves.
     fn doubt(&mut self, alloc: Global, f: u32) -> Result<Servers, AllocError>
         requires { is_committing_in (nth self.old.core.frames f) ≡ true }
-        ensures taken { IfOk result (λ s. only_taken (bare self.old) (commit_failed self.old.core f) ≡ Ok (started (bare self.new) s.starts.items)) }
+        ensures taken { IfOk result (λ s. only_taken (bare self.old) (commit_failed self.old.core f)
+            ≡ Ok (started (bare self.new) s.starts.items)) }
         ensures ends { IfOk result (λ s. s.ends.items ≡ ends_in (commit_failed self.old.core f)) }
         ensures few { IfOk result (λ s. vec_len s.starts ≤ most self.old.core) }
         ensures kept { OnErr result (bare self.new ≡ bare self.old) }
@@ -53,7 +54,8 @@ impl Host {
     // What a commit leaves that is lost.
     fn lose(&mut self, alloc: Global, f: u32) -> Result<Servers, AllocError>
         requires { is_doubtful_in (nth self.old.core.frames f) ≡ true }
-        ensures taken { IfOk result (λ s. only_taken (bare self.old) (resolve self.old.core f false) ≡ Ok (started (bare self.new) s.starts.items)) }
+        ensures taken { IfOk result (λ s. only_taken (bare self.old) (resolve self.old.core f false)
+            ≡ Ok (started (bare self.new) s.starts.items)) }
         ensures ends { IfOk result (λ s. s.ends.items ≡ ends_in (resolve self.old.core f false)) }
         ensures few { IfOk result (λ s. vec_len s.starts ≤ most self.old.core) }
         ensures kept { OnErr result (bare self.new ≡ bare self.old) }
@@ -75,7 +77,8 @@ impl Host {
     ) -> Result<Servers, AllocError>
         requires saved { saves.image self.old.core f ≡ Ok saved }
         requires doubtful { is_doubtful_in (nth self.old.core.frames f) ≡ true }
-        ensures taken { IfOk result (λ s. resolved (bare self.old) f true image ≡ Ok (started (bare self.new) s.starts.items)) }
+        ensures taken { IfOk result (λ s. resolved (bare self.old) f true image
+            ≡ Ok (started (bare self.new) s.starts.items)) }
         ensures ends { IfOk result (λ s. s.ends.items ≡ ends_in (resolve self.old.core f true)) }
         ensures few { IfOk result (λ s. vec_len s.starts ≤ most self.old.core) }
         ensures kept { OnErr result (bare self.new ≡ bare self.old) }
@@ -101,16 +104,20 @@ impl Host {
         }
     }
 
-    /// The commit of a frame's file fails. Gives the servers that are ended and started; for those that are started there is
-    /// room or not.
+    /// The commit of a frame's file fails. Gives the servers that are ended and started; for those that are started
+    /// there is room or not.
     ///
-    /// Refused: `NotEnabled` where the commit isn't asked for; then `EventLimit`; then `NoMemory`. Then nothing changes.
+    /// Refused: `NotEnabled` where the commit isn't asked for; then `EventLimit`; then `NoMemory`. Then nothing
+    /// changes.
     pub fn fail(&mut self, alloc: Global, f: u32, room: bool) -> Result<Servers, Stop>
         ensures room { OnOk result (room ≡ true) }
-        ensures taken { IfOk result (λ s. limited (bare self.old) (only_taken (bare self.old) (commit_failed self.old.core f)) ≡ Ok (started (bare self.new) s.starts.items)) }
+        ensures taken { IfOk result
+            (λ s. limited (bare self.old) (only_taken (bare self.old) (commit_failed self.old.core f))
+            ≡ Ok (started (bare self.new) s.starts.items)) }
         ensures ends { IfOk result (λ s. s.ends.items ≡ ends_in (commit_failed self.old.core f)) }
         ensures few { IfOk result (λ s. vec_len s.starts ≤ most self.old.core) }
-        ensures refused { IfErr result (Refuses (limited (bare self.old) (only_taken (bare self.old) (commit_failed self.old.core f)))) }
+        ensures refused { IfErr result
+            (Refuses (limited (bare self.old) (only_taken (bare self.old) (commit_failed self.old.core f)))) }
         ensures kept { OnErr result (bare self.new ≡ bare self.old) }
     {
         if !self.is_committing(f) {
@@ -128,16 +135,20 @@ impl Host {
         }
     }
 
-    /// A commit in doubt is lost. Gives the servers that are ended and started; for those that are started there is room or
-    /// not.
+    /// A commit in doubt is lost. Gives the servers that are ended and started; for those that are started there is
+    /// room or not.
     ///
-    /// Refused: `NotEnabled` where no commit of the frame is in doubt; then `EventLimit`; then `NoMemory`. Then nothing changes.
+    /// Refused: `NotEnabled` where no commit of the frame is in doubt; then `EventLimit`; then `NoMemory`. Then nothing
+    /// changes.
     pub fn resolve_lost(&mut self, alloc: Global, f: u32, room: bool) -> Result<Servers, Stop>
         ensures room { OnOk result (room ≡ true) }
-        ensures taken { IfOk result (λ s. limited (bare self.old) (only_taken (bare self.old) (resolve self.old.core f false)) ≡ Ok (started (bare self.new) s.starts.items)) }
+        ensures taken { IfOk result
+            (λ s. limited (bare self.old) (only_taken (bare self.old) (resolve self.old.core f false))
+            ≡ Ok (started (bare self.new) s.starts.items)) }
         ensures ends { IfOk result (λ s. s.ends.items ≡ ends_in (resolve self.old.core f false)) }
         ensures few { IfOk result (λ s. vec_len s.starts ≤ most self.old.core) }
-        ensures refused { IfErr result (Refuses (limited (bare self.old) (only_taken (bare self.old) (resolve self.old.core f false)))) }
+        ensures refused { IfErr result
+            (Refuses (limited (bare self.old) (only_taken (bare self.old) (resolve self.old.core f false)))) }
         ensures kept { OnErr result (bare self.new ≡ bare self.old) }
     {
         if !self.is_doubtful(f) {
@@ -155,16 +166,20 @@ impl Host {
         }
     }
 
-    /// A commit in doubt was kept: the file denotes its document. Gives the servers that are ended and started; for those that
-    /// are started there is room or not.
+    /// A commit in doubt was kept: the file denotes its document. Gives the servers that are ended and started; for
+    /// those that are started there is room or not.
     ///
-    /// Refused: `NotEnabled` where no commit of the frame is in doubt; then `EventLimit`; then `NoMemory`. Then nothing changes.
+    /// Refused: `NotEnabled` where no commit of the frame is in doubt; then `EventLimit`; then `NoMemory`. Then nothing
+    /// changes.
     pub fn resolve_kept(&mut self, alloc: Global, f: u32, room: bool) -> Result<Servers, Stop>
         ensures room { OnOk result (room ≡ true) }
-        ensures taken { IfOk result (λ s. (bytes : List ℕ) × IsImage (bare self.old) (making bytes) (event.Resolve f true) × (limited (bare self.old) (resolved (bare self.old) f true bytes) ≡ Ok (started (bare self.new) s.starts.items))) }
+        ensures taken { IfOk result (λ s. (bytes : List ℕ) × IsImage (bare self.old) (making bytes)
+            (event.Resolve f true) × (limited (bare self.old) (resolved (bare self.old) f true bytes)
+            ≡ Ok (started (bare self.new) s.starts.items))) }
         ensures ends { IfOk result (λ s. s.ends.items ≡ ends_in (resolve self.old.core f true)) }
         ensures few { IfOk result (λ s. vec_len s.starts ≤ most self.old.core) }
-        ensures refused { IfErr result (λ stop. (bytes : List ℕ) → Refuses (limited (bare self.old) (resolved (bare self.old) f true bytes)) stop) }
+        ensures refused { IfErr result (λ stop. (bytes : List ℕ)
+            → Refuses (limited (bare self.old) (resolved (bare self.old) f true bytes)) stop) }
         ensures kept { OnErr result (bare self.new ≡ bare self.old) }
     {
         if !self.is_doubtful(f) {

@@ -1,11 +1,13 @@
 //! The host of a container: what a world keeps besides its servers and its stock.
 
-ghost use Rattle.std.specs.Prelude.{Some, [], ◌∷◌, ◌++◌, ◌+◌, ◌≤◌, ◌<◌, ◌^◌, ◌≡◌, IfErr, IfOk, OnErr, OnOk, Ok, length, map, nat_le, false, vec_len, vec_capacity};
+ghost use Rattle.std.specs.Prelude.{Some, [], ◌∷◌, ◌++◌, ◌+◌, ◌≤◌, ◌<◌, ◌^◌, ◌≡◌, IfErr, IfOk, OnErr, OnOk, Ok, length};
+ghost use Rattle.std.specs.Prelude.{map, nat_le, false, vec_len, vec_capacity};
 ghost use Rattle.std.specs.List.{range_with_len};
 ghost use Rattle.container_model.specs.Commands.{on_command};
 ghost use Rattle.container_model.specs.Messages.{on_message, on_reap};
 ghost use Rattle.container_model.specs.Record.{counts_none};
-ghost use Rattle.world_model.specs.World.{messages_of, commits_of, of_container, joined, uncounted, took, commanded, owners_by, empty_world, MOST_EVENTS};
+ghost use Rattle.world_model.specs.World.{messages_of, commits_of, of_container, joined, uncounted, took, commanded};
+ghost use Rattle.world_model.specs.World.{owners_by, empty_world, MOST_EVENTS};
 ghost use Rattle.world_model.specs.declared.logs.EventAnswer.TheVariants as told;
 ghost use Rattle.world_host.specs.Logging.{forged, heard};
 ghost use Rattle.world_host.specs.Servers.{ends_in, ends_of, starts_of};
@@ -18,15 +20,15 @@ use container_model::answer::{Action, Answer, Done};
 use container_model::command::Command;
 use container_model::fault::ContainerFault;
 use container_model::server_link::ServerLink;
+use message_values::items::Items;
+use message_values::message::Message;
 use std::alloc::{AllocError, Global};
 use std::mem::replace;
-use wire_msgs::items::Items;
-use wire_msgs::message::Message;
 use world_model::event::{Stop, copy_command};
 use world_model::logs::{Document, EventAnswer, File, Outcome, Sent, ServerDone, Taken};
 
-/// The host of a world's container: what the world keeps besides its servers and its stock, the container, the files and the
-/// logs.
+/// The host of a world's container: what the world keeps besides its servers and its stock, the container, the files
+/// and the logs.
 #[derive(Drop)]
 pub struct Host {
     /// The container.
@@ -173,8 +175,8 @@ fn emptied(mut items: Vec<u32>, count: usize) -> Result<Vec<u32>, AllocError>
     Ok(items)
 }
 
-// What stands in a list, without the room behind it, which the list keeps for the next step. Where memory for that is wanting,
-// the room goes along.
+// What stands in a list, without the room behind it, which the list keeps for the next step. Where memory for that is
+// wanting, the room goes along.
 fn taken_from(alloc: Global, items: &mut Vec<u32>) -> Vec<u32>
     ensures { result.items ≡ items.old.items }
 {
@@ -283,7 +285,8 @@ impl Host {
     pub(crate) fn join(&mut self, alloc: Global, answer: Answer, room: Room) -> Servers
         requires logs { HasLogRoom (length answer.actions) self.old }
         requires room { IsRoom (length answer.actions) room }
-        ensures joined { joined (bare self.old) (counts_none self.old.core answer) ≡ started (bare self.new) result.starts.items }
+        ensures joined { joined (bare self.old) (counts_none self.old.core answer)
+            ≡ started (bare self.new) result.starts.items }
         ensures ends { result.ends.items ≡ ends_of answer.actions }
         ensures few { length result.starts.items ≤ length answer.actions }
     {
@@ -340,7 +343,10 @@ impl Host {
     // Keeps why the container refused an event; no server ends or starts.
     pub(crate) fn refuse(&mut self, fault: ContainerFault, room: Room) -> Servers
         requires { vec_len self.old.answers < vec_capacity self.old.answers }
-        ensures kept { bare self.new ≡ record (bare self.old) { answers = self.old.answers.items ++ told.Refused fault ∷ [] } }
+        ensures kept { bare self.new ≡ record (bare self.old) {
+          answers = self.old.answers.items
+              ++ told.Refused fault ∷ [];
+        } }
         ensures none { result ≡ room.servers }
     {
         add(&mut self.answers, EventAnswer::Refused(fault));
@@ -351,7 +357,8 @@ impl Host {
     ///
     /// Refused for want of memory alone. Then nothing changes.
     pub fn command(&mut self, alloc: Global, command: &Command) -> Result<Servers, AllocError>
-        ensures taken { IfOk result (λ s. commanded (bare self.old) command.now (on_command self.old.core command.now) ≡ started (bare self.new) s.starts.items) }
+        ensures taken { IfOk result (λ s. commanded (bare self.old) command.now
+            (on_command self.old.core command.now) ≡ started (bare self.new) s.starts.items) }
         ensures ends { IfOk result (λ s. s.ends.items ≡ ends_in (on_command self.old.core command.now)) }
         ensures few { IfOk result (λ s. vec_len s.starts ≤ most self.old.core) }
         ensures kept { OnErr result (bare self.new ≡ bare self.old) }
@@ -368,8 +375,9 @@ impl Host {
         }
     }
 
-    /// A message comes to the container from its place among those that were sent. A content of it that is taken is logged,
-    /// with what the container's record held of its object just before. Gives the servers that are ended and started.
+    /// A message comes to the container from its place among those that were sent. A content of it that is taken is
+    /// logged, with what the container's record held of its object just before. Gives the servers that are ended and
+    /// started.
     ///
     /// Refused for want of memory alone. Then nothing changes.
     pub fn tell(
@@ -379,7 +387,8 @@ impl Host {
         link: ServerLink,
         message: Message,
     ) -> Result<Servers, AllocError>
-        ensures taken { IfOk result (λ s. heard (bare self.old) (Some place) link message ≡ started (bare self.new) s.starts.items) }
+        ensures taken { IfOk result (λ s. heard (bare self.old) (Some place) link message
+            ≡ started (bare self.new) s.starts.items) }
         ensures ends { IfOk result (λ s. s.ends.items ≡ ends_in (on_message self.old.core link message)) }
         ensures few { IfOk result (λ s. vec_len s.starts ≤ most self.old.core) }
         ensures kept { OnErr result (bare self.new ≡ bare self.old) }
@@ -397,8 +406,8 @@ impl Host {
         }
     }
 
-    /// A message comes to the container on the link of a server that needn't have sent it, and so is hostile from now on. A
-    /// content of it that is taken is logged, without a place. Gives the servers that are ended and started.
+    /// A message comes to the container on the link of a server that needn't have sent it, and so is hostile from now
+    /// on. A content of it that is taken is logged, without a place. Gives the servers that are ended and started.
     ///
     /// Refused for want of memory alone. Then nothing changes.
     pub fn forge(
@@ -408,7 +417,9 @@ impl Host {
         message: Message,
     ) -> Result<Servers, AllocError>
         ensures taken { IfOk result (λ s. forged (bare self.old) inc message ≡ started (bare self.new) s.starts.items) }
-        ensures ends { IfOk result (λ s. s.ends.items ≡ ends_in (on_message self.old.core (record { session = self.old.core.session; inc = inc }) message)) }
+        ensures ends { IfOk result
+            (λ s. s.ends.items ≡ ends_in
+            (on_message self.old.core (record { session = self.old.core.session; inc = inc }) message)) }
         ensures few { IfOk result (λ s. vec_len s.starts ≤ most self.old.core) }
         ensures kept { OnErr result (bare self.new ≡ bare self.old) }
     {
@@ -438,7 +449,8 @@ impl Host {
     ///
     /// Refused for want of memory alone. Then nothing changes.
     pub fn reap(&mut self, alloc: Global, inc: u32) -> Result<Servers, AllocError>
-        ensures taken { IfOk result (λ s. took (bare self.old) (on_reap self.old.core inc) ≡ started (bare self.new) s.starts.items) }
+        ensures taken { IfOk result (λ s. took (bare self.old) (on_reap self.old.core inc)
+            ≡ started (bare self.new) s.starts.items) }
         ensures ends { IfOk result (λ s. s.ends.items ≡ ends_in (on_reap self.old.core inc)) }
         ensures few { IfOk result (λ s. vec_len s.starts ≤ most self.old.core) }
         ensures kept { OnErr result (bare self.new ≡ bare self.old) }

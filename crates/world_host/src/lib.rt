@@ -8,6 +8,3 @@ mod opens;
 mod replying;
 pub mod stops;
 mod taking;
-
-pub use container_checks::lookups;
-pub use container_core::container;

@@ -1,7 +1,7 @@
 //! What a file that is opened leaves in a world.
 
 ghost use Rattle.std.specs.Prelude.{◌≡◌, ◌≤◌, [], IfOk, OnErr, option_copied, vec_len};
-ghost use Rattle.wire_msgs.specs.Found.{find};
+ghost use Rattle.message_values.specs.Found.{find};
 ghost use Rattle.container_model.specs.Opens.{Given, opened};
 ghost use Rattle.world_model.specs.World.{IsImage, file_bytes, giving, is_file, took};
 ghost use Rattle.world_model.specs.declared.event.Event.TheVariants as event;
@@ -12,7 +12,7 @@ use crate::commits::file_place;
 use crate::host::{Host, Servers};
 use container_model::fault::ContainerFault;
 use std::alloc::{AllocError, Global};
-use stored_values::bytes::Bytes;
+use tree_values::bytes::Bytes;
 use world_model::logs::File;
 
 // The bytes of the file of this name.
@@ -26,8 +26,8 @@ pub(crate) fn file_bytes<'a>(files: &'a [File], name: &[u8]) -> Option<&'a [u8]>
 }
 
 impl Host {
-    /// A file is opened as a frame, so many columns wide and so many lines high; where it isn't, that is the answer. Gives the
-    /// servers that are ended and started, which are none.
+    /// A file is opened as a frame, so many columns wide and so many lines high; where it isn't, that is the answer.
+    /// Gives the servers that are ended and started, which are none.
     ///
     /// Refused for want of memory alone. Then nothing changes.
     pub fn open_file(
@@ -37,7 +37,10 @@ impl Host {
         width: u16,
         height: u16,
     ) -> Result<Servers, AllocError>
-        ensures taken { IfOk result (λ s. (given : Given) × IsImage (bare self.old) (giving given) (event.Open name.now width height) × (took (bare self.old) (opened self.old.core name.now width height given) ≡ started (bare self.new) s.starts.items)) }
+        ensures taken { IfOk result (λ s. (given : Given) × IsImage (bare self.old) (giving given)
+            (event.Open name.now width height)
+            × (took (bare self.old) (opened self.old.core name.now width height given)
+            ≡ started (bare self.new) s.starts.items)) }
         ensures ends { IfOk result (λ s. s.ends.items ≡ []) }
         ensures few { IfOk result (λ s. vec_len s.starts ≤ most self.old.core) }
         ensures kept { OnErr result (bare self.new ≡ bare self.old) }

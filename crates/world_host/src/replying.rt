@@ -7,18 +7,21 @@ ghost use Rattle.world_host.specs.Rooms.{HasReplyRoom, replied};
 ghost use Rattle.world_host.specs.View.{bare};
 
 use crate::host::{Host, add, number};
+use message_values::items::Items;
+use message_values::message::Message;
 use server_model::counted::Counted;
 use server_model::fault::ServerFault;
 use std::alloc::{AllocError, Global};
-use wire_msgs::items::Items;
-use wire_msgs::message::Message;
 use world_model::logs::{EventAnswer, Outcome, Sent, ServerDone, View};
 
 impl Host {
     /// An event that led to nothing.
     pub fn quiet(&mut self, alloc: Global)
         requires { vec_len self.old.answers < vec_capacity self.old.answers }
-        ensures { bare self.new ≡ record (bare self.old) { answers = self.old.answers.items ++ told.Took quiet_outcome ∷ [] } }
+        ensures { bare self.new ≡ record (bare self.old) {
+          answers = self.old.answers.items
+              ++ told.Took quiet_outcome ∷ [];
+        } }
     {
         add(&mut self.answers, EventAnswer::Took(Outcome::quiet(alloc)));
     }
@@ -26,7 +29,10 @@ impl Host {
     /// A message that a server did nothing with.
     pub fn dropped(&mut self, fault: ServerFault)
         requires { vec_len self.old.answers < vec_capacity self.old.answers }
-        ensures { bare self.new ≡ record (bare self.old) { answers = self.old.answers.items ++ told.Dropped fault ∷ [] } }
+        ensures { bare self.new ≡ record (bare self.old) {
+          answers = self.old.answers.items ++ told.Dropped fault
+              ∷ [];
+        } }
     {
         add(&mut self.answers, EventAnswer::Dropped(fault));
     }
@@ -51,7 +57,8 @@ impl Host {
         ensures place { IfOk result (λ v. v.items ≡ []) }
         ensures place_room { IfOk result (λ v. 1 ≤ vec_capacity v) }
         ensures room { OnOk result (HasReplyRoom self.new) }
-        ensures answers { vec_len self.old.answers < vec_capacity self.old.answers → vec_len self.new.answers < vec_capacity self.new.answers }
+        ensures answers { vec_len self.old.answers < vec_capacity self.old.answers
+            → vec_len self.new.answers < vec_capacity self.new.answers }
         ensures kept { bare self.new ≡ bare self.old }
     {
         let place = Vec::with_capacity(alloc, 1)?;
@@ -66,7 +73,10 @@ impl Host {
     // What a server counted.
     fn count(&mut self, inc: u32, counted: Option<Counted>)
         requires { vec_len self.old.server_done < vec_capacity self.old.server_done }
-        ensures { bare self.new ≡ record (bare self.old) { server_done = self.old.server_done.items ++ counted_by (bare self.old) inc counted } }
+        ensures { bare self.new ≡ record (bare self.old) {
+          server_done = self.old.server_done.items
+              ++ counted_by (bare self.old) inc counted;
+        } }
     {
         match counted {
             Some(counted) => {

@@ -1,14 +1,16 @@
 //! A container that stops, and begins anew.
 
 ghost use Rattle.std.specs.List.{flat_map};
-ghost use Rattle.std.specs.Prelude.{◌≡◌, ◌≤◌, ◌<◌, ◌+◌, ◌++◌, ◌∷◌, [], IfOk, List, OnErr, OnOk, is_some, length, nat_le, true, vec_capacity, vec_len, ℕ};
-ghost use Rattle.wire_msgs.specs.Found.{nth};
+ghost use Rattle.std.specs.Prelude.{◌≡◌, ◌≤◌, ◌<◌, ◌+◌, ◌++◌, ◌∷◌, [], IfOk, List, OnErr, OnOk, is_some, length};
+ghost use Rattle.std.specs.Prelude.{nat_le, true, vec_capacity, vec_len, ℕ};
+ghost use Rattle.message_values.specs.Found.{nth};
 ghost use Rattle.container_model.specs.Record.{empty};
 ghost use Rattle.container_model.specs.Saves.{image};
 ghost use Rattle.world_model.specs.World.{IsImageOf, MOST_EVENTS, quiet_outcome};
 ghost use Rattle.world_model.specs.declared.logs.EventAnswer.TheVariants as told;
-ghost use Rattle.story_model.specs.Story.{begun, has_image, is_among, may_stop, rested};
-ghost use Rattle.world_host.specs.Stops.{AreMade, IsLeft, IsMade, MayGive, are_there, lacks_image, made_names, named, put_each, put_made};
+ghost use Rattle.world_model.specs.Story.{begun, has_image, is_among, may_stop, rested};
+ghost use Rattle.world_host.specs.Stops.{AreMade, IsLeft, IsMade, MayGive, are_there, lacks_image, made_names, named};
+ghost use Rattle.world_host.specs.Stops.{put_each, put_made};
 ghost use Rattle.world_host.specs.View.{bare};
 
 use crate::commits::{name_after, put_file};
@@ -19,11 +21,12 @@ use container_model::fault::ContainerFault;
 use container_model::record::Frame;
 use std::alloc::{AllocError, Global};
 use std::mem::replace;
-use stored_values::bytes::Bytes;
+use tree_values::bytes::Bytes;
 use world_model::event::Stop;
 use world_model::logs::{Document, EventAnswer, File, Outcome, ServerDone, Taken};
 
-/// What a host leaves where its container stops: the session, the logs, and the names of the files that the disk has kept.
+/// What a host leaves where its container stops: the session, the logs, and the names of the files that the disk has
+/// kept.
 #[derive(Drop)]
 pub struct Left {
     /// The session.
@@ -156,7 +159,8 @@ impl Host {
         is_among(frames, f) && !self.has_image(alloc, f)
     }
 
-    // Whether the disk can have kept a commit of each of these frames. Each frame is looked at once, however long the list is.
+    // Whether the disk can have kept a commit of each of these frames. Each frame is looked at once, however long the
+    // list is.
     fn may_stop(&self, alloc: Global, frames: &[u32]) -> bool
         requires { length self.now.core.frames ≤ 1000000 }
         ensures { result ≡ may_stop self.now.core frames.now }
@@ -228,7 +232,12 @@ impl Host {
         requires fresh { core ≡ empty self.old.core.numbers }
         requires files { vec_len self.old.files + vec_len made ≤ vec_capacity self.old.files }
         requires answers { vec_len self.old.answers < vec_capacity self.old.answers }
-        ensures begun { bare self.new ≡ record (begun (bare self.old)) { files = put_each made.items self.old.files.items; answers = self.old.answers.items ++ told.Took quiet_outcome ∷ [] } }
+        ensures begun { bare self.new ≡ record (begun (bare self.old)) {
+          files =
+              put_each made.items self.old.files.items;
+          answers = self.old.answers.items ++ told.Took quiet_outcome
+              ∷ [];
+        } }
         ensures left { IsLeft self.old names.items result }
     {
         put_all(&mut self.files, made);
@@ -256,7 +265,9 @@ impl Host {
     ) -> Result<Left, AllocError>
         requires few { length self.old.core.frames ≤ 1000000 }
         requires fresh { core ≡ empty self.old.core.numbers }
-        ensures stopped { OnOk result ((images : ℕ → List ℕ) × ((f : ℕ) → is_among frames.now f ≡ true → IsImageOf (bare self.old) f (images f)) × (bare self.new ≡ rested (bare self.old) images frames.now)) }
+        ensures stopped { OnOk result ((images : ℕ → List ℕ)
+            × ((f : ℕ) → is_among frames.now f ≡ true → IsImageOf (bare self.old) f (images f))
+            × (bare self.new ≡ rested (bare self.old) images frames.now)) }
         ensures left { IfOk result (IsLeft self.old (made_names frames.now 1 self.old.core.frames)) }
         ensures kept { OnErr result (bare self.new ≡ bare self.old) }
     {
@@ -266,12 +277,12 @@ impl Host {
         Ok(self.begin_anew(alloc, core, made, names))
     }
 
-    /// The container stops, and `core` begins anew in its place. Of these frames the disk has kept the commit that is asked or in
-    /// doubt: its file is made. The messages, the answers and the other files stay. Gives what is left, for which there is room or
-    /// not.
+    /// The container stops, and `core` begins anew in its place. Of these frames the disk has kept the commit that is
+    /// asked or in doubt: its file is made. The messages, the answers and the other files stay. Gives what is left, for
+    /// which there is room or not.
     ///
-    /// Refused: `NotEnabled` where one of these frames has no such commit; then `EventLimit`; then `NoMemory`. Then nothing
-    /// changes.
+    /// Refused: `NotEnabled` where one of these frames has no such commit; then `EventLimit`; then `NoMemory`. Then
+    /// nothing changes.
     pub fn stop(
         &mut self,
         alloc: Global,
@@ -281,9 +292,12 @@ impl Host {
     ) -> Result<Left, Stop>
         requires fresh { core ≡ empty self.old.core.numbers }
         ensures room { OnOk result (room ≡ true) }
-        ensures stopped { OnOk result ((images : ℕ → List ℕ) × ((f : ℕ) → is_among frames.now f ≡ true → IsImageOf (bare self.old) f (images f)) × (bare self.new ≡ rested (bare self.old) images frames.now)) }
+        ensures stopped { OnOk result ((images : ℕ → List ℕ)
+            × ((f : ℕ) → is_among frames.now f ≡ true → IsImageOf (bare self.old) f (images f))
+            × (bare self.new ≡ rested (bare self.old) images frames.now)) }
         ensures left { IfOk result (IsLeft self.old (made_names frames.now 1 self.old.core.frames)) }
-        ensures may { MayGive (may_stop self.old.core frames.now) (nat_le MOST_EVENTS (length self.old.answers.items)) result }
+        ensures may { MayGive (may_stop self.old.core frames.now)
+            (nat_le MOST_EVENTS (length self.old.answers.items)) result }
         ensures kept { OnErr result (bare self.new ≡ bare self.old) }
     {
         self.few_frames();

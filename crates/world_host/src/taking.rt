@@ -1,7 +1,7 @@
 //! The log of the contents that a container took.
 
 ghost use Rattle.std.specs.Prelude.{◌≡◌, ◌++◌, ◌<◌, MatchOption, None, Some, slice_get, vec_len, vec_capacity};
-ghost use Rattle.wire_msgs.specs.Found.{find, IsPlace};
+ghost use Rattle.message_values.specs.Found.{find, IsPlace};
 ghost use Rattle.container_model.specs.Record.{is_linked};
 ghost use Rattle.world_model.specs.World.{taken_link, taken_of};
 ghost use Rattle.world_host.specs.Logging.{brought, if_taken, listed};
@@ -10,7 +10,7 @@ use crate::host::add;
 use container_checks::lookups::place_linked;
 use container_links::writes::awaits_save;
 use container_model::record::Object;
-use wire_msgs::message::{Message, Said};
+use message_values::message::{Message, Said};
 use world_model::logs::Taken;
 
 // What is held of an object that isn't passive.
@@ -41,7 +41,8 @@ fn held_of(place: Option<u32>, inc: u32, act: u32, objects: &[Object]) -> Option
     }
 }
 
-// The entry of a message at this place, or of one that is forged, where a content of it is taken: what is held of its object now.
+// The entry of a message at this place, or of one that is forged, where a content of it is taken: what is held of its
+// object now.
 pub(crate) fn entry(place: Option<u32>, message: &Message, objects: &[Object]) -> Option<Taken>
     ensures { listed result ≡ brought place objects.now message.now.said }
 {

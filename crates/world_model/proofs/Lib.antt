@@ -4,3 +4,4 @@ pub mod Granted
 pub mod Opened
 pub mod Renamed
 pub mod InRun
+pub mod ComputedStories

@@ -12,11 +12,24 @@ is_opened_beside = record { answers = refl; session = refl; told = refl; run = r
 
 pub is_unopened : IsUnopened
 unfolding picture_of
-is_unopened = record { borne = refl; no_size = refl; missing = refl; broken = refl; too_many = refl; frames = refl; two_frames = refl; three_objects = refl }
+is_unopened = record {
+  borne = refl;
+  no_size = refl;
+  missing = refl;
+  broken = refl;
+  too_many = refl;
+  frames = refl;
+  two_frames = refl;
+  three_objects = refl;
+}
 
 pub is_raised_further : IsRaisedFurther
 unfolding digits by_index frame_line object_line done_line session_line picture_of
 is_raised_further = record { session = refl; told = refl; spent = refl }
 
 pub is_opened : IsOpened
-is_opened = record { is_opened_beside = is_opened_beside; is_unopened = is_unopened; is_raised_further = is_raised_further }
+is_opened = record {
+  is_opened_beside = is_opened_beside;
+  is_unopened = is_unopened;
+  is_raised_further = is_raised_further;
+}

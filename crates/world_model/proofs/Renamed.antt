@@ -7,7 +7,8 @@ use Rattle.container_model.specs.declared.fault.ContainerFault.TheVariants.{Busy
 use Rattle.world_model.specs.declared.logs.EventAnswer.TheVariants.{Refused}
 use Rattle.world_model.specs.OpenRuns.{stored_note}
 use Rattle.world_model.specs.Report.{frame_line, object_line, done_line, session_line}
-use Rattle.world_model.specs.RenameRuns.{AreRenamed, IsNamed, IsRenamed, IsRenamedPassive, IsReopened, IsUnrenamed, opened_again, opened_as, renamed_answers}
+use Rattle.world_model.specs.RenameRuns.{AreRenamed, IsNamed, IsRenamed, IsRenamedPassive, IsReopened, IsUnrenamed}
+use Rattle.world_model.specs.RenameRuns.{opened_again, opened_as, renamed_answers}
 
 pub is_renamed : IsRenamed
 unfolding digits frame_line object_line done_line session_line picture_of
@@ -17,7 +18,8 @@ borne : opened_as (codes "b") Given.Missing ≡ renamed_answers ++ Refused Busy 
 unfolding picture_of
 borne = refl
 
-old : opened_as (codes "a") (Given.Holding (record { session = 0; objects = stored_note ∷ [] })) ≡ renamed_answers ++ opened_again ∷ []
+old : opened_as (codes "a") (Given.Holding (record { session = 0; objects = stored_note ∷ [] }))
+    ≡ renamed_answers ++ opened_again ∷ []
 unfolding picture_of
 old = refl
 
@@ -42,4 +44,10 @@ unfolding picture_of
 is_named = record { busy = refl; asked = refl }
 
 pub are_renamed : AreRenamed
-are_renamed = record { is_renamed = is_renamed; is_reopened = is_reopened; is_renamed_passive = is_renamed_passive; is_unrenamed = is_unrenamed; is_named = is_named }
+are_renamed = record {
+  is_renamed = is_renamed;
+  is_reopened = is_reopened;
+  is_renamed_passive = is_renamed_passive;
+  is_unrenamed = is_unrenamed;
+  is_named = is_named;
+}

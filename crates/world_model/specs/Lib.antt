@@ -6,3 +6,6 @@ pub mod StopNames
 pub mod Report
 pub mod OpenRuns
 pub mod RenameRuns
+pub mod Story
+pub mod SafeStory
+pub mod StopRuns

@@ -1,21 +1,23 @@
 -- Worked runs: files that are opened.
 use Rattle.std.specs.Prelude.{◌≡◌, ◌++◌, ℕ, List, [], ◌∷◌, map, Some, Result, Ok, Err, codes}
 use Rattle.std.specs.List.{range_with_len}
-use Rattle.embed_core.specs.Kinds.{Note, class_of, class_with}
-use Rattle.stored_streams.specs.declared.stored.Stored.{Stored}
-use Rattle.document_model.specs.Documents.{no_objects}
-use Rattle.document_model.specs.declared.object.DocObject.{DocObject}
+use Rattle.object_core.specs.Kinds.{Note, class_of, class_with}
+use Rattle.tree_streams.specs.declared.stored.Stored.{Stored}
+use Rattle.ole_model.specs.Documents.{no_objects}
+use Rattle.ole_model.specs.declared.object.DocObject.{DocObject}
 use Rattle.container_model.specs.Opens.{Given}
 use Rattle.container_model.specs.declared.record.Frame.{Frame}
 use Rattle.container_model.specs.declared.command.Command.TheVariants.{Run, Session}
-use Rattle.container_model.specs.declared.fault.ContainerFault.TheVariants.{BadFile, Busy, Full, NoSuch, NumbersSpent, UnknownClass, WrongState}
+use Rattle.container_model.specs.declared.fault.ContainerFault.TheVariants.{BadFile, Busy, Full, NoSuch, NumbersSpent}
+use Rattle.container_model.specs.declared.fault.ContainerFault.TheVariants.{UnknownClass, WrongState}
 use Rattle.world_model.specs.declared.event.Event.{Event}
 use Rattle.world_model.specs.declared.event.Event.TheVariants.{Command, Deliver, Done, Open}
 use Rattle.world_model.specs.declared.event.Stop.{Stop}
 use Rattle.world_model.specs.declared.logs.EventAnswer.{EventAnswer}
 use Rattle.world_model.specs.declared.logs.EventAnswer.TheVariants.{Took, Refused}
 use Rattle.world_model.specs.World.{World, giving, quiet_outcome, step}
-use Rattle.world_model.specs.Runs.{answered, edited, frame, frame_named, from_two, lines, new_note, numbered, object, ok, ran, reported, sent, stream, whole}
+use Rattle.world_model.specs.Runs.{answered, edited, frame, frame_named, from_two, lines, new_note, numbered, object}
+use Rattle.world_model.specs.Runs.{ok, ran, reported, sent, stream, whole}
 
 -- a file of this name is opened, and gives this
 abbrev pub opens : List ℕ → ℕ → ℕ → Given → Result World Stop → Result World Stop
@@ -26,7 +28,8 @@ abbrev pub stored_object : List ℕ → List ℕ → Stored → DocObject
 stored_object class user_type stored = record { class = class; user_type = user_type; area = whole; stored = stored }
 
 abbrev pub stored_note : DocObject
-stored_note = stored_object (class_of Note) (codes "Note") (record { streams = stream (codes "Text") (codes "ab") ∷ []; picture = [] })
+stored_note = stored_object (class_of Note) (codes "Note")
+    (record { streams = stream (codes "Text") (codes "ab") ∷ []; picture = [] })
 
 -- one of a class that no server has
 abbrev pub stranger : DocObject
@@ -38,10 +41,9 @@ both = Given.Holding (record { session = 7; objects = stored_note ∷ stranger �
 abbrev pub nothing_held : Given
 nothing_held = Given.Holding (no_objects 0)
 
--- Beside a note that runs, a file of session 7 with a note and an object of another class is opened as frame 2, which holds the
--- session: its objects are passive,
--- with the next numbers. The note runs with what the file holds of it; the other one doesn't. Objects that are made
--- afterwards have the numbers behind.
+-- Beside a note that runs, a file of session 7 with a note and an object of another class is opened as frame 2, which
+-- holds the session: its objects are passive, with the next numbers. The note runs with what the file holds of it; the
+-- other one doesn't. Objects that are made afterwards have the numbers behind.
 abbrev pub opened_beside : Result World Stop
 opened_beside = opens (codes "b") 40 10 both (from_two edited)
 
@@ -67,7 +69,8 @@ pub record IsOpenedBeside : Type 0 where
       ∷ codes "object 2 frame 2 Note Passive Text=6162"
       ∷ codes "object 3 frame 2 6f1d2a09-3c4b-4e5f-8a9b-0c1d2e3f4051 Passive -"
       ∷ [])
-  pub run : answered (ran opened_beside run_then) ≡ answered opened_beside ++ Refused UnknownClass ∷ sent 5 ∷ sent 6 ∷ ok ∷ object 4 ∷ []
+  pub run : answered (ran opened_beside run_then) ≡ answered opened_beside ++ Refused UnknownClass ∷ sent 5 ∷ sent 6
+      ∷ ok ∷ object 4 ∷ []
   pub run_told : reported (ran opened_beside run_then) ≡ lines (
       codes "session 1"
       ∷ codes "frame 1 a Free k 1 stored"
@@ -78,8 +81,9 @@ pub record IsOpenedBeside : Type 0 where
       ∷ codes "object 4 frame 1 Note Passive -"
       ∷ [])
 
--- What isn't opened: a name that a frame bears and a size that no frame has, before the file is looked at; no file, and one
--- without a document; a ninth frame; and where the numbers don't suffice, of frames or of objects. Each is an answer.
+-- What isn't opened: a name that a frame bears and a size that no frame has, before the file is looked at; no file, and
+-- one without a document; a ninth frame; and where the numbers don't suffice, of frames or of objects. Each is an
+-- answer.
 abbrev pub refused_with : List EventAnswer → EventAnswer → Type 0
 refused_with answers told = answers ≡ answered (from_two edited) ++ told ∷ []
 
@@ -91,10 +95,17 @@ pub record IsUnopened : Type 0 where
   pub no_size : refused_with (opened_as (codes "b") 0 Given.Missing) (Refused WrongState)
   pub missing : refused_with (opened_as (codes "b") 40 Given.Missing) (Refused NoSuch)
   pub broken : refused_with (opened_as (codes "b") 40 Given.Broken) (Refused BadFile)
-  pub too_many : refused_with (opened_as (codes "b") 40 (Given.Holding (record { session = 0; objects = map (λ (i : ℕ). stranger) (range_with_len 1 65) }))) (Refused BadFile)
-  pub frames : answered (opens (codes "i") 40 10 nothing_held (ran (from_two []) (map frame_named (range_with_len 97 8)))) ≡ map frame (range_with_len 1 8) ++ Refused Full ∷ []
-  pub two_frames : answered (opens (codes "b") 40 10 nothing_held (numbered 1 (frame_named 97 ∷ []))) ≡ frame 1 ∷ Refused NumbersSpent ∷ []
-  pub three_objects : answered (opens (codes "b") 40 10 both (numbered 2 (frame_named 97 ∷ new_note ∷ []))) ≡ frame 1 ∷ object 1 ∷ Refused NumbersSpent ∷ []
+  pub too_many : refused_with
+      (opened_as (codes "b") 40
+      (Given.Holding (record { session = 0; objects = map (λ (i : ℕ). stranger) (range_with_len 1 65) })))
+      (Refused BadFile)
+  pub frames : answered (opens (codes "i") 40 10 nothing_held
+      (ran (from_two []) (map frame_named (range_with_len 97 8)))) ≡ map frame (range_with_len 1 8) ++ Refused Full
+      ∷ []
+  pub two_frames : answered (opens (codes "b") 40 10 nothing_held (numbered 1 (frame_named 97 ∷ [])))
+      ≡ frame 1 ∷ Refused NumbersSpent ∷ []
+  pub three_objects : answered (opens (codes "b") 40 10 both (numbered 2 (frame_named 97 ∷ new_note ∷ [])))
+      ≡ frame 1 ∷ object 1 ∷ Refused NumbersSpent ∷ []
 
 -- A container whose first frame is that file gets the next session, unless no number is left.
 abbrev pub opened_first : ℕ → Result World Stop
@@ -113,7 +124,8 @@ pub record IsRaisedFurther : Type 0 where
       ∷ codes "done container 1 1"
       ∷ codes "done container 2 1"
       ∷ [])
-  pub spent : answered (ran (opened_first 7) (Command Session ∷ [])) ≡ answered (opened_first 7) ++ Refused NumbersSpent ∷ []
+  pub spent : answered (ran (opened_first 7) (Command Session ∷ [])) ≡ answered (opened_first 7)
+      ++ Refused NumbersSpent ∷ []
 
 pub record IsOpened : Type 0 where
   pub is_opened_beside : IsOpenedBeside

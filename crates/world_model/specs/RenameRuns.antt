@@ -9,7 +9,8 @@ use Rattle.world_model.specs.declared.event.Stop.TheVariants.{NotEnabled}
 use Rattle.world_model.specs.declared.logs.EventAnswer.{EventAnswer}
 use Rattle.world_model.specs.declared.logs.EventAnswer.TheVariants.{Took, Refused}
 use Rattle.world_model.specs.World.{quiet_outcome}
-use Rattle.world_model.specs.Runs.{answered, begun_answers, commit, completed, crashed_late, frame, frame_named, from_start, lines, object, ok, ran, server, reported, sent}
+use Rattle.world_model.specs.Runs.{answered, begun_answers, commit, completed, crashed_late, frame, frame_named}
+use Rattle.world_model.specs.Runs.{from_start, lines, object, ok, ran, server, reported, sent}
 use Rattle.world_model.specs.OpenRuns.{opens, stored_note}
 
 abbrev pub renaming : Event
@@ -31,7 +32,9 @@ abbrev pub opened_again : EventAnswer
 opened_again = Took (record quiet_outcome { frame = Some 2; objects = 2 ∷ [] })
 
 abbrev pub renamed_answers : List EventAnswer
-renamed_answers = begun_answers ++ object 1 ∷ server 1 ∷ sent 1 ∷ sent 2 ∷ ok ∷ sent 3 ∷ sent 4 ∷ ok ∷ sent 5 ∷ sent 6 ∷ commit 1 ∷ sent 7 ∷ sent 8 ∷ ok ∷ sent 9 ∷ sent 10 ∷ sent 11 ∷ sent 12 ∷ commit 1 ∷ sent 13 ∷ sent 14 ∷ ok ∷ []
+renamed_answers = begun_answers ++ object 1 ∷ server 1 ∷ sent 1 ∷ sent 2 ∷ ok ∷ sent 3 ∷ sent 4 ∷ ok ∷ sent 5
+    ∷ sent 6 ∷ commit 1 ∷ sent 7 ∷ sent 8 ∷ ok ∷ sent 9 ∷ sent 10 ∷ sent 11 ∷ sent 12 ∷ commit 1 ∷ sent 13 ∷ sent 14
+    ∷ ok ∷ []
 
 pub record IsRenamed : Type 0 where
   pub answers : answered (from_start renamed) ≡ renamed_answers
@@ -58,12 +61,13 @@ opened_as name given = answered (opens name 40 10 given (from_start renamed))
 
 pub record IsReopened : Type 0 where
   pub borne : opened_as (codes "b") Given.Missing ≡ renamed_answers ++ Refused Busy ∷ []
-  pub old : opened_as (codes "a") (Given.Holding (record { session = 0; objects = stored_note ∷ [] })) ≡ renamed_answers ++ opened_again ∷ []
+  pub old : opened_as (codes "a") (Given.Holding (record { session = 0; objects = stored_note ∷ [] }))
+      ≡ renamed_answers ++ opened_again ∷ []
   pub missing : opened_as (codes "c") Given.Missing ≡ renamed_answers ++ Refused NoSuch ∷ []
   pub undelivered : ran (from_start renamed) (Deliver 99 ∷ []) ≡ Err NotEnabled
 
--- A server that ends while storages are given away: what its note answered is saved, under the other name. So is a frame
--- whose objects are all passive, at once.
+-- A server that ends while storages are given away: what its note answered is saved, under the other name. So is a
+-- frame whose objects are all passive, at once.
 abbrev pub crashed_away : List Event
 crashed_away = asked_away ++ Crash 1 1 ∷ Reap 1 ∷ Done 1 ∷ []
 
@@ -94,7 +98,8 @@ abbrev pub unrenamed : List Event
 unrenamed = handed_off ++ Fail 1 ∷ renaming ∷ Resolve 1 false ∷ Deliver 13 ∷ Deliver 14 ∷ []
 
 pub record IsUnrenamed : Type 0 where
-  pub answers : answered (from_start unrenamed) ≡ answered (from_start handed_off) ++ ok ∷ Refused InDoubt ∷ sent 13 ∷ sent 14 ∷ ok ∷ []
+  pub answers : answered (from_start unrenamed) ≡ answered (from_start handed_off) ++ ok ∷ Refused InDoubt ∷ sent 13
+      ∷ sent 14 ∷ ok ∷ []
   pub told : reported (from_start unrenamed) ≡ lines (
       codes "session 1"
       ∷ codes "frame 1 a Free k 3 stored"
@@ -103,17 +108,21 @@ pub record IsUnrenamed : Type 0 where
       ∷ codes "done server 1 2"
       ∷ [])
 
--- Names: another frame's, and one that another frame asked for, are busy; its own isn't another. While the frame is saved
--- under a name, neither is free.
+-- Names: another frame's, and one that another frame asked for, are busy; its own isn't another. While the frame is
+-- saved under a name, neither is free.
 abbrev pub named : List Event
-named = completed ++ frame_named 99 ∷ Command (SaveAs 1 (codes "c")) ∷ Command (SaveAs 1 (codes "a")) ∷ Command (SaveAs 9 (codes "b")) ∷ []
+named = completed ++ frame_named 99 ∷ Command (SaveAs 1 (codes "c")) ∷ Command (SaveAs 1 (codes "a"))
+    ∷ Command (SaveAs 9 (codes "b")) ∷ []
 
 abbrev pub named_away : List Event
-named_away = asked_away ++ frame_named 98 ∷ frame_named 97 ∷ frame_named 99 ∷ Command (SaveAs 2 (codes "b")) ∷ Command (SaveAs 2 (codes "a")) ∷ renaming ∷ Command (Save 1) ∷ []
+named_away = asked_away ++ frame_named 98 ∷ frame_named 97 ∷ frame_named 99 ∷ Command (SaveAs 2 (codes "b"))
+    ∷ Command (SaveAs 2 (codes "a")) ∷ renaming ∷ Command (Save 1) ∷ []
 
 pub record IsNamed : Type 0 where
-  pub busy : answered (from_start named) ≡ answered (from_start completed) ++ frame 2 ∷ Refused Busy ∷ Refused WrongState ∷ Refused NoSuch ∷ []
-  pub asked : answered (from_start named_away) ≡ answered (from_start asked_away) ++ Refused Busy ∷ Refused Busy ∷ frame 2 ∷ Refused Busy ∷ Refused Busy ∷ Refused Busy ∷ Refused Busy ∷ []
+  pub busy : answered (from_start named) ≡ answered (from_start completed) ++ frame 2 ∷ Refused Busy
+      ∷ Refused WrongState ∷ Refused NoSuch ∷ []
+  pub asked : answered (from_start named_away) ≡ answered (from_start asked_away) ++ Refused Busy ∷ Refused Busy
+      ∷ frame 2 ∷ Refused Busy ∷ Refused Busy ∷ Refused Busy ∷ Refused Busy ∷ []
 
 pub record AreRenamed : Type 0 where
   pub is_renamed : IsRenamed

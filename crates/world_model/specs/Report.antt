@@ -1,17 +1,18 @@
--- The report of a world, as bytes: a line for the container's session, for each frame, for each object, for each activation that
--- has a frame's grant, and for each content that was counted.
+-- The report of a world, as bytes: a line for the container's session, for each frame, for each object, for each
+-- activation that has a frame's grant, and for each content that was counted.
 use Rattle.std.specs.Prelude.{◌+◌, ◌++◌, ℕ, List, [], ◌∷◌, map, Option, Some, None, if◌then◌else◌, codes}
 use Rattle.std.specs.List.{flat_map}
 use Rattle.std.specs.Fmt.{decimal}
 use Rattle.std.specs.Str.{bytes_eq}
 use Rattle.object_state.specs.declared.object_states.ObjectState.{ObjectState}
-use Rattle.object_state.specs.declared.object_states.ObjectState.TheVariants.{Passive, Loaded, Running, InPlaceActive, UiActive, Open}
+use Rattle.object_state.specs.declared.object_states.ObjectState.TheVariants.{Passive, Loaded, Running, InPlaceActive}
+use Rattle.object_state.specs.declared.object_states.ObjectState.TheVariants.{UiActive, Open}
 use Rattle.object_state.specs.declared.persist_states.PersistState.{PersistState}
 use Rattle.object_state.specs.declared.persist_states.PersistState.TheVariants.{Unset, Normal, NoScribble, HandsOff}
-use Rattle.grant_core.specs.declared.grant_states.GrantState.{GrantState}
-use Rattle.grant_core.specs.declared.grant_states.GrantState.TheVariants.{Free, Granting, Held, Revoking}
-use Rattle.embed_core.specs.Kinds.{Note, Table, Drawing, class_of}
-use Rattle.stored_streams.specs.declared.streams.NamedStream.{NamedStream}
+use Rattle.object_state.specs.declared.grant_states.GrantState.{GrantState}
+use Rattle.object_state.specs.declared.grant_states.GrantState.TheVariants.{Free, Granting, Held, Revoking}
+use Rattle.object_core.specs.Kinds.{Note, Table, Drawing, class_of}
+use Rattle.tree_streams.specs.declared.streams.NamedStream.{NamedStream}
 use Rattle.container_model.specs.Record.{is_doubtful}
 use Rattle.container_model.specs.Commands.{user_type}
 use Rattle.container_model.specs.declared.record.Frame.{Frame}
@@ -19,7 +20,7 @@ use Rattle.container_model.specs.declared.record.Object.{Object}
 use Rattle.container_model.specs.declared.record.Link.{Link}
 use Rattle.container_model.specs.declared.answer.Done.{Done}
 use Rattle.world_model.specs.declared.logs.ServerDone.{ServerDone}
-use Rattle.text_model.specs.Spelled.{line, hex, name_text, class_text}
+use Rattle.text_words.specs.Spelled.{line, hex, name_text, class_text}
 use Rattle.server_model.specs.Server.{Activation, holds_of}
 use Rattle.server_model.specs.declared.hold.Hold.{Hold}
 use Rattle.world_model.specs.declared.life.Life.{Life}
@@ -30,7 +31,8 @@ use Rattle.world_model.specs.World.{Instance, World}
 unfoldable pub session_line : ℕ → List ℕ
 session_line s = line (codes "session" ∷ decimal s ∷ [])
 
--- Frames, by their numbers: who has the frame or is to get it, the number of the last save, and whether there is a file.
+-- Frames, by their numbers: who has the frame or is to get it, the number of the last save, and whether there is a
+-- file.
 abbrev pub grant_text : GrantState → List ℕ
 grant_text Free = codes "Free"
 grant_text (Granting claim) = codes "Granting " ++ decimal claim.object
@@ -38,10 +40,12 @@ grant_text (Held holder tools) = codes "Held " ++ decimal holder.object
 grant_text (Revoking holder next) = codes "Revoking " ++ decimal holder.object
 
 abbrev pub file_word : Frame → List ℕ
-file_word frame = if is_doubtful frame.phase then codes "doubt" else if frame.stored then codes "stored" else codes "none"
+file_word frame = if is_doubtful frame.phase then codes "doubt" else if frame.stored then codes "stored"
+    else codes "none"
 
 unfoldable pub frame_line : ℕ → Frame → List ℕ
-frame_line f frame = line (codes "frame" ∷ decimal f ∷ name_text frame.name ∷ grant_text frame.ui.state ∷ codes "k" ∷ decimal frame.k ∷ file_word frame ∷ [])
+frame_line f frame = line (codes "frame" ∷ decimal f ∷ name_text frame.name ∷ grant_text frame.ui.state ∷ codes "k"
+    ∷ decimal frame.k ∷ file_word frame ∷ [])
 
 -- the first of them has number f
 abbrev pub frame_lines : ℕ → List Frame → List ℕ
@@ -52,7 +56,8 @@ frame_lines f (frame ∷ frames) = frame_line f frame ++ frame_lines (f + 1) fra
 -- activation and its storage grant.
 abbrev pub type_text : List ℕ → List ℕ
 type_text class =
-    if bytes_eq class (class_of Note) then user_type Note else if bytes_eq class (class_of Table) then user_type Table else if bytes_eq class (class_of Drawing) then user_type Drawing else class_text class
+    if bytes_eq class (class_of Note) then user_type Note else if bytes_eq class (class_of Table)
+    then user_type Table else if bytes_eq class (class_of Drawing) then user_type Drawing else class_text class
 
 abbrev pub object_state_name : ObjectState → List ℕ
 object_state_name Passive = codes "Passive"
@@ -69,7 +74,8 @@ persist_state_name NoScribble = codes "NoScribble"
 persist_state_name HandsOff = codes "HandsOff"
 
 abbrev pub linked_text : Link → List ℕ
-linked_text l = object_state_name l.states.object ++ 32 ∷ persist_state_name l.states.persist.state ++ codes " act " ++ decimal l.act ++ codes " s " ++ decimal l.s
+linked_text l = object_state_name l.states.object ++ 32 ∷ persist_state_name l.states.persist.state ++ codes " act "
+    ++ decimal l.act ++ codes " s " ++ decimal l.s
 
 abbrev pub state_text : Option Link → List ℕ
 state_text None = codes "Passive"
@@ -87,7 +93,8 @@ content_text [] = codes "-"
 content_text (s ∷ ss) = stream_text s ++ flat_map further_text ss
 
 unfoldable pub object_line : Object → List ℕ
-object_line o = line (codes "object" ∷ decimal o.number ∷ codes "frame" ∷ decimal o.frame ∷ type_text o.class ∷ state_text o.link ∷ content_text o.work.streams ∷ [])
+object_line o = line (codes "object" ∷ decimal o.number ∷ codes "frame" ∷ decimal o.frame ∷ type_text o.class
+    ∷ state_text o.link ∷ content_text o.work.streams ∷ [])
 
 -- What was counted: the object and the number of the save.
 unfoldable pub done_line : List ℕ → ℕ → ℕ → List ℕ
@@ -99,9 +106,11 @@ container_line d = done_line (codes "container") d.object d.k
 abbrev pub server_line : ServerDone → List ℕ
 server_line d = done_line (codes "server") d.object d.k
 
--- Who holds a frame's menus and border: the activations of servers that run which have a grant, by server, then by number.
+-- Who holds a frame's menus and border: the activations of servers that run which have a grant, by server, then by
+-- number.
 unfoldable pub hold_line : ℕ → Hold → List ℕ
-hold_line inc h = line (codes "holds" ∷ codes "server" ∷ decimal inc ∷ codes "act" ∷ decimal h.act ∷ codes "grant" ∷ decimal h.g ∷ [])
+hold_line inc h = line (codes "holds" ∷ codes "server" ∷ decimal inc ∷ codes "act" ∷ decimal h.act ∷ codes "grant"
+    ∷ decimal h.g ∷ [])
 
 abbrev pub holds_while : Life → List Activation → List Hold
 holds_while life.Running acts = holds_of acts
@@ -119,7 +128,8 @@ hold_lines inc (holds ∷ rest) = flat_map (hold_line inc) holds ++ hold_lines (
 -- the report of a container's session, frames and objects, of who holds frames, by server, and of both logs
 abbrev pub report_of : ℕ → List Frame → List Object → List (List Hold) → List Done → List ServerDone → List ℕ
 report_of session frames objects holds container_done server_done =
-    session_line session ++ frame_lines 1 frames ++ flat_map object_line objects ++ hold_lines 1 holds ++ flat_map container_line container_done ++ flat_map server_line server_done
+    session_line session ++ frame_lines 1 frames ++ flat_map object_line objects ++ hold_lines 1 holds
+    ++ flat_map container_line container_done ++ flat_map server_line server_done
 
 abbrev pub report : World → List ℕ
 report w = report_of w.rec.session w.rec.frames w.rec.objects (map held_by w.instances) w.container_done w.server_done

@@ -1,24 +1,27 @@
--- Worked runs: a container gets its session; a note that is made, edited and saved, and what becomes of it where its server
--- crashes.
+-- Worked runs: a container gets its session; a note that is made, edited and saved, and what becomes of it where its
+-- server crashes.
 use Rattle.std.specs.Prelude.{◌≡◌, ◌++◌, ℕ, Bool, true, false, List, [], ◌∷◌, map, Some, None, Result, Ok, Err, codes}
 use Rattle.std.specs.List.{flat_map, range_with_len}
 use Rattle.object_state.specs.declared.operations.CloseOption.TheVariants.{SaveIfDirty}
 use Rattle.server_model.specs.declared.fault.ServerFault.TheVariants.{Ignored}
-use Rattle.embed_core.specs.Kinds.{Note}
-use Rattle.stored_streams.specs.declared.streams.NamedStream.{NamedStream}
-use Rattle.grant_core.specs.declared.grant_states.GrantState.TheVariants.{Granting}
-use Rattle.object_parts.specs.declared.area.Area.{Area}
+use Rattle.object_core.specs.Kinds.{Note}
+use Rattle.tree_streams.specs.declared.streams.NamedStream.{NamedStream}
+use Rattle.object_state.specs.declared.grant_states.GrantState.TheVariants.{Granting}
+use Rattle.tree_streams.specs.declared.area.Area.{Area}
 use Rattle.container_model.specs.declared.record.Frame.{Frame}
 use Rattle.container_model.specs.declared.record.Phase.TheVariants.{Idle, InDoubt}
-use Rattle.container_model.specs.declared.command.Command.TheVariants.{New, Insert, Session, Start, Run, Edit, Save, SaveAs, Delete, Kill, Close}
+use Rattle.container_model.specs.declared.command.Command.TheVariants.{New, Insert, Session, Start, Run, Edit, Save}
+use Rattle.container_model.specs.declared.command.Command.TheVariants.{SaveAs, Delete, Kill, Close}
 use Rattle.container_model.specs.declared.command.ObjectKind.TheVariants as chosen
-use Rattle.container_model.specs.declared.fault.ContainerFault.TheVariants.{NoSuch, Busy, Full, InDoubt as Doubtful, NumbersSpent, Stale, WrongState}
+use Rattle.container_model.specs.declared.fault.ContainerFault.TheVariants.{NoSuch, Busy, Full, InDoubt as Doubtful}
+use Rattle.container_model.specs.declared.fault.ContainerFault.TheVariants.{NumbersSpent, Stale, WrongState}
 use Rattle.world_model.specs.declared.event.Event.{Event}
-use Rattle.world_model.specs.declared.event.Event.TheVariants.{Command, Deliver, Crash, Reap, Done, Fail, Resolve, Scribble}
+use Rattle.world_model.specs.declared.event.Event.TheVariants.{Command, Deliver, Crash, Reap, Done, Fail, Resolve}
+use Rattle.world_model.specs.declared.event.Event.TheVariants.{Scribble}
 use Rattle.world_model.specs.declared.event.Stop.{Stop}
 use Rattle.world_model.specs.declared.event.Stop.TheVariants.{NotEnabled, OutOfStock}
 use Rattle.world_model.specs.declared.logs.EventAnswer.{EventAnswer}
-use Rattle.wire_msgs.specs.declared.refusal.Refusal.TheVariants.{BadEdit}
+use Rattle.message_values.specs.declared.refusal.Refusal.TheVariants.{BadEdit}
 use Rattle.world_model.specs.declared.logs.EventAnswer.TheVariants.{Took, Refused, Dropped}
 use Rattle.world_model.specs.StopNames.{stop_name}
 use Rattle.world_model.specs.World.{World, empty_world, frame_file_in, quiet_outcome, step, no_choice}
@@ -86,7 +89,8 @@ begun_answers = frame 1 ∷ commit 1 ∷ ok ∷ []
 
 -- the note is made, started and edited
 abbrev pub edited : List Event
-edited = begun ++ new_note ∷ Command Start ∷ Command (Run 1 1) ∷ Deliver 1 ∷ Deliver 2 ∷ typing ∷ Deliver 3 ∷ Deliver 4 ∷ []
+edited = begun ++ new_note ∷ Command Start ∷ Command (Run 1 1) ∷ Deliver 1 ∷ Deliver 2 ∷ typing ∷ Deliver 3
+    ∷ Deliver 4 ∷ []
 
 -- then saved, up to its commit
 abbrev pub saved : List Event
@@ -101,7 +105,8 @@ from_start es = ran (Ok (empty_world 1000 (Note ∷ []))) es
 
 -- What each event of the whole run is answered, and what is reported then.
 pub record IsSaved : Type 0 where
-  pub answers : answered (from_start completed) ≡ begun_answers ++ object 1 ∷ server 1 ∷ sent 1 ∷ sent 2 ∷ ok ∷ sent 3 ∷ sent 4 ∷ ok ∷ sent 5 ∷ sent 6 ∷ commit 1 ∷ sent 7 ∷ sent 8 ∷ ok ∷ []
+  pub answers : answered (from_start completed) ≡ begun_answers ++ object 1 ∷ server 1 ∷ sent 1 ∷ sent 2 ∷ ok
+      ∷ sent 3 ∷ sent 4 ∷ ok ∷ sent 5 ∷ sent 6 ∷ commit 1 ∷ sent 7 ∷ sent 8 ∷ ok ∷ []
   pub told : reported (from_start completed) ≡ lines (
       codes "session 1"
       ∷ codes "frame 1 a Free k 2 stored"
@@ -135,8 +140,8 @@ pub record IsKept : Type 0 where
       ∷ codes "done container 1 2"
       ∷ [])
 
--- A commit that fails: its frame is in doubt, and takes no edit, until it is resolved. Kept, it is as one that was done. Lost,
--- nothing is counted, the note is as it was when it was made, and its server may write again.
+-- A commit that fails: its frame is in doubt, and takes no edit, until it is resolved. Kept, it is as one that was
+-- done. Lost, nothing is counted, the note is as it was when it was made, and its server may write again.
 abbrev pub typing_more : Event
 typing_more = Command (Edit 1 (codes "i 0 x"))
 
@@ -169,7 +174,8 @@ abbrev pub repeated : List Event
 repeated = completed ++ Deliver 7 ∷ Deliver 9 ∷ Deliver 8 ∷ Deliver 6 ∷ []
 
 pub record IsRepeated : Type 0 where
-  pub answers : answered (from_start repeated) ≡ answered (from_start completed) ++ sent 9 ∷ Refused Stale ∷ Refused Stale ∷ Refused Stale ∷ []
+  pub answers : answered (from_start repeated) ≡ answered (from_start completed) ++ sent 9 ∷ Refused Stale
+      ∷ Refused Stale ∷ Refused Stale ∷ []
   pub told : reported (from_start repeated) ≡ reported (from_start completed)
 
 -- A saved note that lost its server is loaded by another one, with another object out of stock.
@@ -191,21 +197,23 @@ pub record IsReloaded : Type 0 where
 
 -- A note that is asked is busy until it has answered, and one that refuses an edit stays as it was.
 abbrev pub misedited : List Event
-misedited = begun ++ new_note ∷ Command Start ∷ Command (Run 1 1) ∷ typing ∷ Deliver 1 ∷ Deliver 2 ∷ Command (Edit 1 (codes "ab")) ∷ Command (Save 1) ∷ Deliver 3 ∷ Deliver 4 ∷ []
+misedited = begun ++ new_note ∷ Command Start ∷ Command (Run 1 1) ∷ typing ∷ Deliver 1 ∷ Deliver 2
+    ∷ Command (Edit 1 (codes "ab")) ∷ Command (Save 1) ∷ Deliver 3 ∷ Deliver 4 ∷ []
 
 abbrev pub refused : EventAnswer
 refused = Took (record quiet_outcome { refused = Some BadEdit })
 
 pub record IsMisedited : Type 0 where
-  pub answers : answered (from_start misedited) ≡ begun_answers ++ object 1 ∷ server 1 ∷ sent 1 ∷ Refused Busy ∷ sent 2 ∷ ok ∷ sent 3 ∷ Refused Busy ∷ sent 4 ∷ refused ∷ []
+  pub answers : answered (from_start misedited) ≡ begun_answers ++ object 1 ∷ server 1 ∷ sent 1 ∷ Refused Busy
+      ∷ sent 2 ∷ ok ∷ sent 3 ∷ Refused Busy ∷ sent 4 ∷ refused ∷ []
   pub told : reported (from_start misedited) ≡ lines (
       codes "session 1"
       ∷ codes "frame 1 a Free k 1 stored"
       ∷ codes "object 1 frame 1 Note Running Normal act 1 s 1 -"
       ∷ [])
 
--- Eight frames, 64 objects in a frame, eight servers that aren't reaped, and numbers up to the limit; and a message that
--- was never sent can't be delivered.
+-- Eight frames, 64 objects in a frame, eight servers that aren't reaped, and numbers up to the limit; and a message
+-- that was never sent can't be delivered.
 abbrev pub times : ℕ → Event → List Event
 times n e = map (λ (i : ℕ). e) (range_with_len 1 n)
 
@@ -216,55 +224,67 @@ abbrev pub numbered : ℕ → List Event → Result World Stop
 numbered numbers es = ran (Ok (empty_world numbers [])) es
 
 pub record IsLimited : Type 0 where
-  pub frames : answered (from_start (map frame_named (range_with_len 97 9) ++ new_frame ∷ [])) ≡ map frame (range_with_len 1 8) ++ Refused Full ∷ Refused Busy ∷ []
-  pub objects : answered (from_start (new_frame ∷ times 65 new_note)) ≡ frame 1 ∷ map object (range_with_len 1 64) ++ Refused Full ∷ []
-  pub servers : answered (from_start (begun ++ times 9 (Command Start) ++ Crash 1 1 ∷ Command Start ∷ Reap 1 ∷ Command Start ∷ [])) ≡ begun_answers ++ map server (range_with_len 1 8) ++ Refused Full ∷ ok ∷ Refused Full ∷ ok ∷ server 9 ∷ []
-  pub three_numbers : answered (numbered 3 (begun ++ times 4 (Command Start))) ≡ begun_answers ++ server 1 ∷ server 2 ∷ server 3 ∷ Refused NumbersSpent ∷ []
+  pub frames : answered (from_start (map frame_named (range_with_len 97 9) ++ new_frame ∷ []))
+      ≡ map frame (range_with_len 1 8) ++ Refused Full ∷ Refused Busy ∷ []
+  pub objects : answered (from_start (new_frame ∷ times 65 new_note)) ≡ frame 1 ∷ map object (range_with_len 1 64)
+      ++ Refused Full ∷ []
+  pub servers : answered
+      (from_start (begun ++ times 9 (Command Start) ++ Crash 1 1 ∷ Command Start ∷ Reap 1 ∷ Command Start ∷ []))
+      ≡ begun_answers ++ map server (range_with_len 1 8) ++ Refused Full ∷ ok ∷ Refused Full ∷ ok ∷ server 9 ∷ []
+  pub three_numbers : answered (numbered 3 (begun ++ times 4 (Command Start))) ≡ begun_answers ++ server 1
+      ∷ server 2 ∷ server 3 ∷ Refused NumbersSpent ∷ []
   pub one_number : answered (numbered 1 (begun ++ frame_named 98 ∷ [])) ≡ begun_answers ++ Refused NumbersSpent ∷ []
   pub undelivered : from_start (edited ++ Deliver 99 ∷ []) ≡ Err NotEnabled
 
 -- A server that is killed has ended at once, and is killed again until it is reaped. Its note is passive then, and is
 -- deleted; a running one isn't.
 abbrev pub deleted : List Event
-deleted = edited ++ Command (Delete 1) ∷ Command (Kill 1) ∷ Deliver 3 ∷ Command (Kill 1) ∷ Reap 1 ∷ Command (Kill 1) ∷ Command (Delete 1) ∷ Command (Delete 1) ∷ new_note ∷ []
+deleted = edited ++ Command (Delete 1) ∷ Command (Kill 1) ∷ Deliver 3 ∷ Command (Kill 1) ∷ Reap 1 ∷ Command (Kill 1)
+    ∷ Command (Delete 1) ∷ Command (Delete 1) ∷ new_note ∷ []
 
 pub record IsDeleted : Type 0 where
-  pub answers : answered (from_start deleted) ≡ answered (from_start edited) ++ Refused WrongState ∷ ok ∷ ok ∷ ok ∷ ok ∷ Refused NoSuch ∷ ok ∷ Refused NoSuch ∷ object 2 ∷ []
+  pub answers : answered (from_start deleted) ≡ answered (from_start edited) ++ Refused WrongState ∷ ok ∷ ok ∷ ok
+      ∷ ok ∷ Refused NoSuch ∷ ok ∷ Refused NoSuch ∷ object 2 ∷ []
   pub told : reported (from_start deleted) ≡ lines (
       codes "session 1"
       ∷ codes "frame 1 a Free k 1 stored"
       ∷ codes "object 2 frame 1 Note Passive -"
       ∷ [])
 
--- A write that comes while a save is asked is stale, and still is once the save is over, as the storage grant is another
--- one then; a write under the new grant is taken once.
+-- A write that comes while a save is asked is stale, and still is once the save is over, as the storage grant is
+-- another one then; a write under the new grant is taken once.
 abbrev pub taken : EventAnswer
 taken = Took (record quiet_outcome { taken = true })
 
 abbrev pub written : List Event
-written = edited ++ Scribble 1 1 1 ∷ Command (Save 1) ∷ Deliver 6 ∷ Deliver 5 ∷ Deliver 7 ∷ Done 1 ∷ Deliver 8 ∷ Deliver 9 ∷ Deliver 5 ∷ Scribble 1 1 1 ∷ Deliver 10 ∷ Deliver 10 ∷ []
+written = edited ++ Scribble 1 1 1 ∷ Command (Save 1) ∷ Deliver 6 ∷ Deliver 5 ∷ Deliver 7 ∷ Done 1 ∷ Deliver 8
+    ∷ Deliver 9 ∷ Deliver 5 ∷ Scribble 1 1 1 ∷ Deliver 10 ∷ Deliver 10 ∷ []
 
 pub record IsWritten : Type 0 where
-  pub answers : answered (from_start written) ≡ answered (from_start edited) ++ sent 5 ∷ sent 6 ∷ sent 7 ∷ Refused Stale ∷ commit 1 ∷ sent 8 ∷ sent 9 ∷ ok ∷ Refused Stale ∷ sent 10 ∷ taken ∷ Refused Stale ∷ []
+  pub answers : answered (from_start written) ≡ answered (from_start edited) ++ sent 5 ∷ sent 6 ∷ sent 7
+      ∷ Refused Stale ∷ commit 1 ∷ sent 8 ∷ sent 9 ∷ ok ∷ Refused Stale ∷ sent 10 ∷ taken ∷ Refused Stale ∷ []
   pub told : reported (from_start written) ≡ reported (from_start completed)
 
 -- A note that is closed gives its content; its activation stays closed, whatever is delivered again, and it runs again
 -- under another one.
 abbrev pub closed : List Event
-closed = edited ++ Command (Close 1 SaveIfDirty) ∷ Deliver 5 ∷ Deliver 6 ∷ Deliver 1 ∷ Deliver 5 ∷ Deliver 7 ∷ Command (Run 1 1) ∷ Deliver 8 ∷ Deliver 9 ∷ []
+closed = edited ++ Command (Close 1 SaveIfDirty) ∷ Deliver 5 ∷ Deliver 6 ∷ Deliver 1 ∷ Deliver 5 ∷ Deliver 7
+    ∷ Command (Run 1 1) ∷ Deliver 8 ∷ Deliver 9 ∷ []
 
 pub record IsClosed : Type 0 where
-  pub answers : answered (from_two closed) ≡ answered (from_two edited) ++ sent 5 ∷ sent 6 ∷ taken ∷ Dropped Ignored ∷ sent 7 ∷ Refused Stale ∷ sent 8 ∷ sent 9 ∷ ok ∷ []
+  pub answers : answered (from_two closed) ≡ answered (from_two edited) ++ sent 5 ∷ sent 6 ∷ taken ∷ Dropped Ignored
+      ∷ sent 7 ∷ Refused Stale ∷ sent 8 ∷ sent 9 ∷ ok ∷ []
   pub told : reported (from_two closed) ≡ lines (
       codes "session 1"
       ∷ codes "frame 1 a Free k 1 stored"
       ∷ codes "object 1 frame 1 Note Running Normal act 2 s 1 Text=6162"
       ∷ [])
 
--- A session that is asked once more while its commit is, and while it is in doubt. Lost, it may be tried again, and until one is
--- counted no server starts and nothing else is saved. Once it is there it stays.
+-- A session that is asked once more while its commit is, and while it is in doubt. Lost, it may be tried again, and
+-- until one is counted no server starts and nothing else is saved. Once it is there it stays.
 abbrev pub raised_late : List Event
-raised_late = new_frame ∷ Command Session ∷ Command Session ∷ Fail 1 ∷ Command Session ∷ Command Start ∷ Resolve 1 false ∷ Command (Save 1) ∷ Command (SaveAs 1 (codes "b"))
+raised_late = new_frame ∷ Command Session ∷ Command Session ∷ Fail 1 ∷ Command Session ∷ Command Start
+    ∷ Resolve 1 false ∷ Command (Save 1) ∷ Command (SaveAs 1 (codes "b"))
     ∷ Command Session ∷ Done 1 ∷ Command Session ∷ Command Start ∷ []
 
 -- a commit in doubt is resolved as kept: that counts the session too
@@ -280,27 +300,40 @@ abbrev pub raised_spent : List Event
 raised_spent = new_frame ∷ Command Session ∷ Fail 1 ∷ Resolve 1 false ∷ Command Session ∷ []
 
 pub record IsRaised : Type 0 where
-  pub answers : answered (from_start raised_late) ≡ frame 1 ∷ commit 1 ∷ Refused Busy ∷ ok ∷ Refused Doubtful ∷ Refused WrongState ∷ ok ∷ Refused WrongState ∷ Refused WrongState
+  pub answers : answered (from_start raised_late) ≡ frame 1 ∷ commit 1 ∷ Refused Busy ∷ ok ∷ Refused Doubtful
+      ∷ Refused WrongState ∷ ok ∷ Refused WrongState ∷ Refused WrongState
       ∷ commit 1 ∷ ok ∷ Refused WrongState ∷ server 1 ∷ []
   pub told : reported (from_start raised_late) ≡ lines (codes "session 1" ∷ codes "frame 1 a Free k 2 stored" ∷ [])
   pub kept_answers : answered (from_start raised_kept) ≡ frame 1 ∷ commit 1 ∷ ok ∷ ok ∷ server 1 ∷ []
   pub kept_told : reported (from_start raised_kept) ≡ lines (codes "session 1" ∷ codes "frame 1 a Free k 1 stored" ∷ [])
-  pub frameless_answers : answered (from_start frameless) ≡ Refused NoSuch ∷ Refused WrongState ∷ Refused NoSuch ∷ Refused NoSuch ∷ []
+  pub frameless_answers : answered (from_start frameless) ≡ Refused NoSuch ∷ Refused WrongState ∷ Refused NoSuch
+      ∷ Refused NoSuch ∷ []
   pub frameless_told : reported (from_start frameless) ≡ lines (codes "session 0" ∷ [])
   pub spent_answers : answered (numbered 1 raised_spent) ≡ frame 1 ∷ commit 1 ∷ ok ∷ ok ∷ Refused NumbersSpent ∷ []
   pub spent_told : reported (numbered 1 raised_spent) ≡ lines (codes "session 0" ∷ codes "frame 1 a Free k 1 none" ∷ [])
 
--- What a report says of frames and contents that no run reaches yet: a frame in doubt, asked for its menus and border, with
--- a space in its name; streams with a hidden character in their name, without bytes, with bytes that are no characters.
+-- What a report says of frames and contents that no run reaches yet: a frame in doubt, asked for its menus and border,
+-- with a space in its name; streams with a hidden character in their name, without bytes, with bytes that are no
+-- characters.
 abbrev pub granting : Frame
-granting = record { name = codes "b c"; asked = None; k = 12; ui = record { width = 40; height = 10; state = Granting (record { object = 3; act = 1; g = 1 }) }; stored = true; session = 0; raised = None; phase = InDoubt }
+granting = record {
+  name = codes "b c";
+  asked = None;
+  k = 12;
+  ui = record { width = 40; height = 10; state = Granting (record { object = 3; act = 1; g = 1 }) };
+  stored = true;
+  session = 0;
+  raised = None;
+  phase = InDoubt;
+}
 
 abbrev pub stream : List ℕ → List ℕ → NamedStream
 stream name bytes = record { name = name; bytes = bytes }
 
 pub record IsSpelled : Type 0 where
   pub in_doubt : frame_line 2 granting ≡ codes "frame 2 b" ++ 92 ∷ ended (codes "20c Granting 3 k 12 doubt")
-  pub streams : content_text (stream (1 ∷ 65 ∷ []) [] ∷ stream (codes "Cells") (195 ∷ 191 ∷ 48 ∷ []) ∷ []) ≡ 92 ∷ codes "01A= Cells=c3bf30"
+  pub streams : content_text (stream (1 ∷ 65 ∷ []) [] ∷ stream (codes "Cells") (195 ∷ 191 ∷ 48 ∷ []) ∷ [])
+      ≡ 92 ∷ codes "01A= Cells=c3bf30"
   pub empty : content_text [] ≡ codes "-"
 
 -- A stored frame has its file, and none while it is in doubt whether its last commit was done.

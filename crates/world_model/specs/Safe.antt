@@ -1,23 +1,25 @@
 -- What holds of every world, whatever happened in it.
-use Rattle.std.specs.Prelude.{◌≡◌, ◌≢◌, ◌⊎◌, ◌<◌, ◌≤◌, ◌==◌, ℕ, Bool, true, false, List, [], ◌∷◌, map, Option, Some, None, Ok, if◌then◌else◌, ⊤}
+use Rattle.std.specs.Prelude.{◌≡◌, ◌≢◌, ◌⊎◌, ◌<◌, ◌≤◌, ◌==◌, ℕ, Bool, true, false, List, [], ◌∷◌, map, Option, Some}
+use Rattle.std.specs.Prelude.{None, Ok, if◌then◌else◌, ⊤}
 use Rattle.std.specs.List.{flat_map}
-use Rattle.wire_msgs.specs.Found.{find, nth}
-use Rattle.wire_msgs.specs.declared.message.Message.{Message}
-use Rattle.wire_msgs.specs.declared.message.Said.{Said}
-use Rattle.wire_msgs.specs.declared.message.Said.TheVariants.{Call, Reply, Write, Ask}
-use Rattle.wire_msgs.specs.declared.operation.Operation.{Operation}
-use Rattle.wire_msgs.specs.declared.operation.Operation.TheVariants.{UiActivate, Save, SaveCompleted, SaveDropped, Close}
-use Rattle.wire_msgs.specs.declared.answer.Answer.{Answer}
-use Rattle.wire_msgs.specs.declared.answer.Answer.TheVariants.{Content}
-use Rattle.wire_msgs.specs.declared.answer.Answer.TheVariants as answer
+use Rattle.message_values.specs.Found.{find, nth}
+use Rattle.message_values.specs.declared.message.Message.{Message}
+use Rattle.message_values.specs.declared.message.Said.{Said}
+use Rattle.message_values.specs.declared.message.Said.TheVariants.{Call, Reply, Write, Ask}
+use Rattle.message_values.specs.declared.operation.Operation.{Operation}
+use Rattle.message_values.specs.declared.operation.Operation.TheVariants.{UiActivate, Save, SaveCompleted, SaveDropped}
+use Rattle.message_values.specs.declared.operation.Operation.TheVariants.{Close}
+use Rattle.message_values.specs.declared.answer.Answer.{Answer}
+use Rattle.message_values.specs.declared.answer.Answer.TheVariants.{Content}
+use Rattle.message_values.specs.declared.answer.Answer.TheVariants as answer
 use Rattle.object_state.specs.declared.operations.CloseOption.TheVariants.{SaveIfDirty}
-use Rattle.grant_core.specs.declared.grant_states.Claim.{Claim}
-use Rattle.grant_core.specs.declared.grant_states.Tools.{Tools}
-use Rattle.grant_core.specs.declared.grant_states.GrantState.TheVariants.{Held}
-use Rattle.grant_core.specs.Grants.{waiting, who}
+use Rattle.object_state.specs.declared.grant_states.Claim.{Claim}
+use Rattle.object_state.specs.declared.grant_states.Tools.{Tools}
+use Rattle.object_state.specs.declared.grant_states.GrantState.TheVariants.{Held}
+use Rattle.object_state.specs.Grants.{waiting, who}
 use Rattle.object_state.specs.declared.persist_states.PersistState.TheVariants.{Normal}
-use Rattle.stored_streams.specs.declared.stored.Stored.{Stored}
-use Rattle.file_model.specs.Denotes.{Denotes}
+use Rattle.tree_streams.specs.declared.stored.Stored.{Stored}
+use Rattle.cfb_file.specs.Denotes.{Denotes}
 use Rattle.server_model.specs.Server.{Activation, is_act}
 use Rattle.container_model.specs.Record.{is_doubtful, is_object}
 use Rattle.container_model.specs.Opens.{Given, IsReadAs}
@@ -35,7 +37,8 @@ use Rattle.world_model.specs.declared.logs.View.{View}
 use Rattle.container_model.specs.declared.answer.Done.{Done}
 use Rattle.world_model.specs.declared.logs.ServerDone.{ServerDone}
 use Rattle.world_model.specs.declared.logs.Document.{Document}
-use Rattle.world_model.specs.World.{World, Instance, counted_document, delivered, done_entry, file_of, frame_file, in_session, owner}
+use Rattle.world_model.specs.World.{World, Instance, counted_document, delivered, done_entry, file_of, frame_file}
+use Rattle.world_model.specs.World.{in_session, owner}
 
 -- A server of which no message was forged: it sends what the server's step says, and nothing else.
 abbrev pub is_hostile : List ℕ → ℕ → Bool
@@ -87,8 +90,8 @@ CarriesWithin limit (SaveCompleted k storage) = k ≤ limit
 CarriesWithin limit (SaveDropped k) = k ≤ limit
 CarriesWithin limit op = ⊤
 
--- Every number of a message is at most the limit: those of the server, of the activation, of the call and of what it asks,
--- of the storage grant and of the write, of the grant. What answers and contents say isn't numbered.
+-- Every number of a message is at most the limit: those of the server, of the activation, of the call and of what it
+-- asks, of the storage grant and of the write, of the grant. What answers and contents say isn't numbered.
 abbrev pub IsSaidWithin : ℕ → Said → Type 0
 IsSaidWithin limit (Call inc act n op) = (inc ≤ limit) × (act ≤ limit) × (n ≤ limit) × CarriesWithin limit op
 IsSaidWithin limit (Reply inc act n answer) = (inc ≤ limit) × (act ≤ limit) × (n ≤ limit)
@@ -116,7 +119,8 @@ ServedOnce (d ∷ ds) = ((e : ServerDone) → Among ds e → IsOther d e) × Ser
 -- what brought a content, in a session: a write under this storage grant, or the answer to a close
 abbrev pub BringsBy : World → ℕ → Said → Taken → Type 0
 BringsBy w session (Call inc act n op) t = ⊥
-BringsBy w session (Reply inc act n (Content content)) t = (inc ≡ t.inc) × (act ≡ t.act) × WasSent w (in_session session (Call inc act n (Close SaveIfDirty)))
+BringsBy w session (Reply inc act n (Content content)) t = (inc ≡ t.inc) × (act ≡ t.act)
+    × WasSent w (in_session session (Call inc act n (Close SaveIfDirty)))
 BringsBy w session (Reply inc act n answer) t = ⊥
 BringsBy w session (Write inc act s number content) t = (inc ≡ t.inc) × (act ≡ t.act) × (s ≡ t.s)
 BringsBy w session (Ask inc act g) t = ⊥
@@ -125,15 +129,16 @@ abbrev pub Brings : World → Message → Taken → Type 0
 Brings w m t = BringsBy w m.session m.said t
 
 -- A content that was taken came with a message that its server sent while the activation was open, its storage open for
--- reading and writing, under this storage grant; and the container's record held the same grant open just before it took
--- it, with no save asked.
+-- reading and writing, under this storage grant; and the container's record held the same grant open just before it
+-- took it, with no save asked.
 pub record IsGranted (w : World) (t : Taken) : Type 0 where
   pub message : Message
   pub place : ℕ
   pub placed : t.place ≡ Some place
   pub delivered : nth (messages w.sent) place ≡ Some message
   pub brings : Brings w message t
-  pub sent : (view : View) × Among w.sent (record { message = message; view = Some view }) × (view.opened ≡ true) × (view.states.persist.state ≡ Normal) × (view.s ≡ t.s)
+  pub sent : (view : View) × Among w.sent (record { message = message; view = Some view }) × (view.opened ≡ true)
+      × (view.states.persist.state ≡ Normal) × (view.s ≡ t.s)
   pub held_open : t.persist ≡ Normal
   pub unasked : t.awaits_save ≡ false
 
@@ -155,8 +160,8 @@ pub record WasAnswered (w : World) (inc act g : ℕ) (tools : Tools) : Type 0 wh
   pub called : WasSaid w (Call inc act n (UiActivate g))
   pub replied : WasSaid w (Reply inc act n (answer.Tools tools.menus tools.border))
 
--- Its frame names it, as the one that has it or is to get it or to give it up, and not as the one that waits; and where the
--- frame is held, with the menus and the border that the activation answered to its grant.
+-- Its frame names it, as the one that has it or is to get it or to give it up, and not as the one that waits; and where
+-- the frame is held, with the menus and the border that the activation answered to its grant.
 pub record IsHolder (w : World) (inc act g f : ℕ) : Type 0 where
   pub frame : Frame
   pub there : nth w.rec.frames f ≡ Some frame
@@ -196,8 +201,8 @@ abbrev pub last_commit : ℕ → List Commit → Option Document
 last_commit f [] = None
 last_commit f (c ∷ cs) = or_else (last_commit f cs) (commit_of f c)
 
--- Of two commits the earlier and the later one: a frame's later commit has a greater number, and an object that stands in
--- both is counted for one frame.
+-- Of two commits the earlier and the later one: a frame's later commit has a greater number, and an object that stands
+-- in both is counted for one frame.
 pub record Precedes (c d : Commit) : Type 0 where
   pub rising : c.frame ≡ d.frame → c.k < d.k
   pub apart : (p q : Part) → Among c.parts p → Among d.parts q → p.object ≡ q.object → c.frame ≡ d.frame
@@ -207,18 +212,20 @@ AreInTurn [] = ⊤
 AreInTurn (c ∷ cs) = ((d : Commit) → Among cs d → Precedes c d) × AreInTurn cs
 
 -- The container counted these commits, one after the other: what it counted are just their entries, and the document
--- counted for a frame is that of its last commit. Each is of a frame that is there, whose last save has its number or a greater
--- one. A frame's numbers rise, so it has one commit of a number at most; and what is counted of an object is counted for one
--- frame, the one that it stands in as long as it is there.
+-- counted for a frame is that of its last commit. Each is of a frame that is there, whose last save has its number or a
+-- greater one. A frame's numbers rise, so it has one commit of a number at most; and what is counted of an object is
+-- counted for one frame, the one that it stands in as long as it is there.
 pub record IsCounted (w : World) (commits : List Commit) : Type 0 where
   pub entries : w.container_done ≡ flat_map entries_of commits
   pub last : (f : ℕ) → counted_document w f ≡ last_commit f commits
-  pub placed : (c : Commit) → Among commits c → (frame : Frame) × (nth w.rec.frames c.frame ≡ Some frame) × (c.k ≤ frame.k)
+  pub placed : (c : Commit) → Among commits c → (frame : Frame) × (nth w.rec.frames c.frame ≡ Some frame)
+      × (c.k ≤ frame.k)
   pub in_turn : AreInTurn commits
-  pub owned : (c : Commit) (p : Part) (o : Object) → Among commits c → Among c.parts p → find (is_object p.object) w.rec.objects ≡ Some o → o.frame ≡ c.frame
+  pub owned : (c : Commit) (p : Part) (o : Object) → Among commits c → Among c.parts p
+      → find (is_object p.object) w.rec.objects ≡ Some o → o.frame ≡ c.frame
 
--- The file of a frame holds the document of its last counted commit, whose contents are those counted with it. Where it is
--- opened it gives that commit's session and objects again, and nothing else.
+-- The file of a frame holds the document of its last counted commit, whose contents are those counted with it. Where it
+-- is opened it gives that commit's session and objects again, and nothing else.
 pub record IsKept (w : World) (f : ℕ) (document : Document) : Type 0 where
   pub bytes : List ℕ
   pub file : frame_file w f ≡ Some bytes
@@ -226,19 +233,22 @@ pub record IsKept (w : World) (f : ℕ) (document : Document) : Type 0 where
   pub counted : (p : Part) → Among document.parts p → Among w.container_done (done_entry document.k p)
   pub again : (given : Given) → IsReadAs (Some bytes) given → given ≡ Given.Holding (saves.document (saved_of document))
 
--- A save that a server counted as complete: it is counted in one of these commits, with the same content. Where that is the
--- last commit of its frame, which isn't in doubt, the frame's file has bytes that denote the tree of the commit's document.
+-- A save that a server counted as complete: it is counted in one of these commits, with the same content. Where that is
+-- the last commit of its frame, which isn't in doubt, the frame's file has bytes that denote the tree of the commit's
+-- document.
 pub record IsShared (w : World) (commits : List Commit) (e : ServerDone) : Type 0 where
   pub commit : Commit
   pub counted : Among commits commit
   pub part : Part
   pub holds : Among commit.parts part
   pub same : done_entry commit.k part ≡ record { object = e.object; k = e.k; content = e.content }
-  pub denoted : (frame : Frame) (document : Document) → nth w.rec.frames commit.frame ≡ Some frame → is_doubtful frame.phase ≡ false → nth w.counted commit.frame ≡ Some (Some document) → document.k ≡ e.k
-      → (bytes : List ℕ) × (frame_file w commit.frame ≡ Some bytes) × ∥ Denotes bytes (document_tree (saved_in commit)) ∥₁
+  pub denoted : (frame : Frame) (document : Document) → nth w.rec.frames commit.frame ≡ Some frame
+      → is_doubtful frame.phase ≡ false → nth w.counted commit.frame ≡ Some (Some document) → document.k ≡ e.k
+      → (bytes : List ℕ) × (frame_file w commit.frame ≡ Some bytes)
+      × ∥ Denotes bytes (document_tree (saved_in commit)) ∥₁
 
--- What a file gives where it is opened: the session and the objects of one of these commits, all of them and nothing else. It is never a bad
--- one.
+-- What a file gives where it is opened: the session and the objects of one of these commits, all of them and nothing
+-- else. It is never a bad one.
 abbrev pub GivesCommit : List Commit → Given → Type 0
 GivesCommit commits Given.Missing = ⊤
 GivesCommit commits Given.Broken = ⊥
@@ -246,27 +256,35 @@ GivesCommit commits (Given.Holding d) = (c : Commit) × Among commits c × (d �
 
 pub record Safe (w : World) : Type 0 where
   -- a call acts at most once: delivered again once it is answered, it leaves every server as it is and counts nothing
-  pub acts_once : (s inc act n : ℕ) (op : Operation) (r : Answer) (next : World) → WasSent w (in_session s (Reply inc act n r)) → delivered w (in_session s (Call inc act n op)) ≡ Ok next
+  pub acts_once : (s inc act n : ℕ) (op : Operation) (r : Answer) (next : World)
+      → WasSent w (in_session s (Reply inc act n r)) → delivered w (in_session s (Call inc act n op)) ≡ Ok next
       → (next.instances ≡ w.instances) × (next.server_done ≡ w.server_done)
   -- and it has one answer, however often it is delivered
-  pub one_reply : (s inc act n : ℕ) (r q : Answer) → WasSent w (in_session s (Reply inc act n r)) → WasSent w (in_session s (Reply inc act n q)) → r ≡ q
+  pub one_reply : (s inc act n : ℕ) (r q : Answer) → WasSent w (in_session s (Reply inc act n r))
+      → WasSent w (in_session s (Reply inc act n q)) → r ≡ q
   -- the reply that an activation keeps is the reply to the call of that number
-  pub kept_reply : (inc act : ℕ) (a : Activation) (r : Answer) → acts_of w.instances inc act ≡ Some a → WasSaid w (Reply inc act a.last r) → r ≡ a.reply
+  pub kept_reply : (inc act : ℕ) (a : Activation) (r : Answer) → acts_of w.instances inc act ≡ Some a
+      → WasSaid w (Reply inc act a.last r) → r ≡ a.reply
   -- the content that an object's save was answered by an honest server is the one that its activation keeps for it
-  pub answered : (n : ℕ) (l : Link) (content : Stored) → links_of w.rec.objects n ≡ Some l → IsHonest w.hostile l.inc → l.saved ≡ Some content
+  pub answered : (n : ℕ) (l : Link) (content : Stored) → links_of w.rec.objects n ≡ Some l
+      → IsHonest w.hostile l.inc → l.saved ≡ Some content
       → (a : Activation) × (acts_of w.instances l.inc l.act ≡ Some a) × (a.saved ≡ Some content)
   -- at most one activation of honest servers that run holds a frame, and the frame names it
-  pub one_holder : (f inc act g inc' act' g' : ℕ) → IsHonest w.hostile inc → IsHonest w.hostile inc' → HoldsFrame w inc act g f → HoldsFrame w inc' act' g' f → (inc ≡ inc') × (act ≡ act') × (g ≡ g')
+  pub one_holder : (f inc act g inc' act' g' : ℕ) → IsHonest w.hostile inc → IsHonest w.hostile inc'
+      → HoldsFrame w inc act g f → HoldsFrame w inc' act' g' f → (inc ≡ inc') × (act ≡ act') × (g ≡ g')
   pub holder : (f inc act g : ℕ) → IsHonest w.hostile inc → HoldsFrame w inc act g f → IsHolder w inc act g f
   -- every content that was taken of an honest server was sent under the storage grant that the record then held open
   pub writes : (t : Taken) → Among w.taken t → IsHonest w.hostile t.inc → IsGranted w t
   -- no save is counted twice, and what an honest server counts the container has counted, with the same content
   pub container_once : CountedOnce w.container_done
   pub server_once : ServedOnce w.server_done
-  pub agreed : (e : ServerDone) → Among w.server_done e → IsHonest w.hostile e.inc → Among w.container_done (record { object = e.object; k = e.k; content = e.content })
-  -- every message is in the session of the container, and so is every server; before it has one nothing is sent, and none started
+  pub agreed : (e : ServerDone) → Among w.server_done e → IsHonest w.hostile e.inc
+      → Among w.container_done (record { object = e.object; k = e.k; content = e.content })
+  -- every message is in the session of the container, and so is every server; before it has one nothing is sent, and
+  -- none started
   pub of_session : (m : Message) → WasSent w m → (m.session ≡ w.rec.session) × (1 ≤ m.session)
-  pub servers : (inc : ℕ) (i : Instance) → nth w.instances inc ≡ Some i → (i.core.session ≡ w.rec.session) × (1 ≤ i.core.session)
+  pub servers : (inc : ℕ) (i : Instance) → nth w.instances inc ≡ Some i → (i.core.session ≡ w.rec.session)
+      × (1 ≤ i.core.session)
   -- every number of a message is at most the limit of the world's numbers
   pub numbered : (m : Message) → WasSent w m → IsWithin w.rec.numbers m
   -- the container counts by commits alone
@@ -275,6 +293,7 @@ pub record Safe (w : World) : Type 0 where
   -- and whenever both sides count a save, they name one content, which the committed file's bytes denote
   pub shared : (e : ServerDone) → Among w.server_done e → IsHonest w.hostile e.inc → IsShared w commits e
   -- the file of each frame with a counted commit, unless it is in doubt whether a later one was done
-  pub files : (f : ℕ) (frame : Frame) (document : Document) → nth w.rec.frames f ≡ Some frame → is_doubtful frame.phase ≡ false → nth w.counted f ≡ Some (Some document) → IsKept w f document
+  pub files : (f : ℕ) (frame : Frame) (document : Document) → nth w.rec.frames f ≡ Some frame
+      → is_doubtful frame.phase ≡ false → nth w.counted f ≡ Some (Some document) → IsKept w f document
   -- and any file of the world, also one that is no frame's any more
   pub opened : (name : List ℕ) (given : Given) → IsReadAs (file_of w name) given → GivesCommit commits given

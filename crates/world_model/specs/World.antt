@@ -1,15 +1,16 @@
 -- A world: a container, its servers, the messages between them, the files; and what happens in it.
-use Rattle.std.specs.Prelude.{◌≡◌, ◌+◌, ◌++◌, ℕ, Bool, true, false, List, [], ◌∷◌, length, map, Option, Some, None, option_map, is_some, Result, Ok, Err, IsOk, if◌then◌else◌, nat_le, ⊤, ◌==◌}
+use Rattle.std.specs.Prelude.{◌≡◌, ◌+◌, ◌++◌, ℕ, Bool, true, false, List, [], ◌∷◌, length, map, Option, Some, None}
+use Rattle.std.specs.Prelude.{option_map, is_some, Result, Ok, Err, IsOk, if◌then◌else◌, nat_le, ⊤, ◌==◌}
 use Rattle.std.specs.Str.{bytes_eq}
 use Rattle.std.specs.List.{range_with_len}
-use Rattle.wire_msgs.specs.Found.{find, nth, set_nth}
-use Rattle.wire_msgs.specs.declared.message.Message.{Message}
-use Rattle.wire_msgs.specs.declared.message.Said.{Said}
-use Rattle.wire_msgs.specs.declared.message.Said.TheVariants.{Call, Reply, Write, Ask}
-use Rattle.wire_msgs.specs.declared.operation.Operation.{Operation}
-use Rattle.file_model.specs.Denotes.{Denotes}
-use Rattle.document_model.specs.DocOf.{DocOf}
-use Rattle.embed_core.specs.Kinds.{Kind, class_of}
+use Rattle.message_values.specs.Found.{find, nth, set_nth}
+use Rattle.message_values.specs.declared.message.Message.{Message}
+use Rattle.message_values.specs.declared.message.Said.{Said}
+use Rattle.message_values.specs.declared.message.Said.TheVariants.{Call, Reply, Write, Ask}
+use Rattle.message_values.specs.declared.operation.Operation.{Operation}
+use Rattle.cfb_file.specs.Denotes.{Denotes}
+use Rattle.ole_model.specs.DocOf.{DocOf}
+use Rattle.object_core.specs.Kinds.{Kind, class_of}
 use Rattle.server_model.specs.Server.{Server, Activation, Served, Told, on_call, wanted, is_act}
 use Rattle.server_model.specs.Server as server
 use Rattle.server_model.specs.declared.counted.Counted.{Counted}
@@ -53,11 +54,11 @@ pub record Instance : Type 0 where
   pub life : Life
   pub core : Server
 
--- A world. Servers stand by their incarnations, from 1, and stay after their end. The kinds of the objects in stock. All
--- messages that were ever sent, by their places, from 1. The object of each activation that was ever made, by its
+-- A world. Servers stand by their incarnations, from 1, and stay after their end. The kinds of the objects in stock.
+-- All messages that were ever sent, by their places, from 1. The object of each activation that was ever made, by its
 -- number, from 1. What each event was answered. The contents that the container took as work contents. What each side
--- counted; and of each frame the document of its last counted commit. The servers, by their incarnations, of which messages
--- were forged.
+-- counted; and of each frame the document of its last counted commit. The servers, by their incarnations, of which
+-- messages were forged.
 pub record World : Type 0 where
   pub rec : Record
   pub instances : List Instance
@@ -73,7 +74,20 @@ pub record World : Type 0 where
   pub hostile : List ℕ
 
 abbrev pub empty_world : ℕ → List Kind → World
-empty_world numbers stock = record { rec = empty numbers; instances = []; files = []; stock = stock; sent = []; owners = []; answers = []; taken = []; container_done = []; server_done = []; counted = []; hostile = [] }
+empty_world numbers stock = record {
+  rec = empty numbers;
+  instances = [];
+  files = [];
+  stock = stock;
+  sent = [];
+  owners = [];
+  answers = [];
+  taken = [];
+  container_done = [];
+  server_done = [];
+  counted = [];
+  hostile = [];
+}
 
 -- What is asked of the world by an answer's actions.
 abbrev pub messages_of : List Action → List Message
@@ -85,7 +99,8 @@ messages_of (Commit f ∷ rest) = messages_of rest
 
 -- a server of a session, by its incarnation
 abbrev pub fresh : ℕ → ℕ → ℕ → Instance
-fresh session numbers inc = record { life = Running; core = record { session = session; inc = inc; numbers = numbers; acts = [] } }
+fresh session numbers inc =
+    record { life = Running; core = record { session = session; inc = inc; numbers = numbers; acts = [] } }
 
 abbrev pub started_by : ℕ → ℕ → List Action → List Instance
 started_by session numbers [] = []
@@ -123,7 +138,16 @@ abbrev pub places : List Sent → ℕ → List ℕ
 places sent count = range_with_len (length sent + 1) count
 
 abbrev pub outcome_of : List Sent → Answer → Outcome
-outcome_of sent a = record { frame = a.frame; objects = a.objects; server = a.server; taken = a.taken; refused = a.refused; no_tools = a.no_tools; sent = places sent (length (messages_of a.actions)); commits = commits_of a.actions }
+outcome_of sent a = record {
+  frame = a.frame;
+  objects = a.objects;
+  server = a.server;
+  taken = a.taken;
+  refused = a.refused;
+  no_tools = a.no_tools;
+  sent = places sent (length (messages_of a.actions));
+  commits = commits_of a.actions;
+}
 
 -- a message of the container's
 abbrev pub of_container : Message → Sent
@@ -193,7 +217,16 @@ counted_by w inc None = []
 counted_by w inc (Some c) = record { inc = inc; object = owner w c.act; k = c.k; content = c.content } ∷ []
 
 abbrev pub quiet_outcome : Outcome
-quiet_outcome = record { frame = None; objects = []; server = None; taken = false; refused = None; no_tools = false; sent = []; commits = [] }
+quiet_outcome = record {
+  frame = None;
+  objects = [];
+  server = None;
+  taken = false;
+  refused = None;
+  no_tools = false;
+  sent = [];
+  commits = [];
+}
 
 abbrev pub served : World → ℕ → ℕ → ℕ → ℕ → Instance → List Kind → Result Served ServerFault → World
 served w s inc act n i stock (Err fault) = record w { answers = w.answers ++ told.Dropped fault ∷ [] }
@@ -211,15 +244,19 @@ is_of class kind = bytes_eq (class_of kind) class
 
 abbrev pub stocked : World → ℕ → ℕ → ℕ → ℕ → Operation → Instance → List ℕ → Option Kind → Result World Stop
 stocked w s inc act n op i class None = Err OutOfStock
-stocked w s inc act n op i class (Some kind) = Ok (served w s inc act n i (without_first (is_of class) w.stock) (on_call i.core (in_session s (Call inc act n op)) (Some kind)))
+stocked w s inc act n op i class (Some kind) =
+    Ok (served w s inc act n i (without_first (is_of class) w.stock)
+    (on_call i.core (in_session s (Call inc act n op)) (Some kind)))
 
 -- a call that makes an activation takes an object out of stock for it
 abbrev pub called_wanting : World → ℕ → ℕ → ℕ → ℕ → Operation → Instance → Option (List ℕ) → Result World Stop
-called_wanting w s inc act n op i None = Ok (served w s inc act n i w.stock (on_call i.core (in_session s (Call inc act n op)) None))
+called_wanting w s inc act n op i None =
+    Ok (served w s inc act n i w.stock (on_call i.core (in_session s (Call inc act n op)) None))
 called_wanting w s inc act n op i (Some class) = stocked w s inc act n op i class (find (is_of class) w.stock)
 
 abbrev pub called_in : World → ℕ → ℕ → ℕ → ℕ → Operation → Instance → Life → Result World Stop
-called_in w s inc act n op i Running = called_wanting w s inc act n op i (wanted i.core (in_session s (Call inc act n op)))
+called_in w s inc act n op i Running = called_wanting w s inc act n op i
+    (wanted i.core (in_session s (Call inc act n op)))
 called_in w s inc act n op i Ended = Ok (record w { answers = w.answers ++ told.Took quiet_outcome ∷ [] })
 called_in w s inc act n op i Reaped = Ok (record w { answers = w.answers ++ told.Took quiet_outcome ∷ [] })
 
@@ -251,7 +288,15 @@ delivered w m = delivered_said w m m.said
 -- what the container's record holds of an object just before it takes a content of it
 abbrev pub taken_link : Option ℕ → ℕ → Option Link → List Taken
 taken_link p o None = []
-taken_link p o (Some l) = record { place = p; object = o; inc = l.inc; act = l.act; persist = l.states.persist.state; s = l.s; awaits_save = awaits_save l } ∷ []
+taken_link p o (Some l) = record {
+  place = p;
+  object = o;
+  inc = l.inc;
+  act = l.act;
+  persist = l.states.persist.state;
+  s = l.s;
+  awaits_save = awaits_save l;
+} ∷ []
 
 abbrev pub taken_of : Option ℕ → Option Object → List Taken
 taken_of p None = []
@@ -278,15 +323,20 @@ with_taken w more (Ok after) = Ok (record after { taken = w.taken ++ more })
 
 abbrev pub deliver : World → ℕ → Option Sent → Result World Stop
 deliver w p None = Err NotEnabled
-deliver w p (Some sent) = with_taken w (taken_at w.rec (Some p) (link_of sent.message) sent.message) (delivered w sent.message)
+deliver w p (Some sent) = with_taken w (taken_at w.rec (Some p) (link_of sent.message) sent.message)
+    (delivered w sent.message)
 
--- A forged message: any message at all, on the link of a server that was started and isn't reaped. The container takes it as
--- one that was delivered, and it isn't among those that were sent. From then on the server is hostile.
+-- A forged message: any message at all, on the link of a server that was started and isn't reaped. The container takes
+-- it as one that was delivered, and it isn't among those that were sent. From then on the server is hostile.
 abbrev pub link_to : World → ℕ → ServerLink
 link_to w inc = record { session = w.rec.session; inc = inc }
 
 abbrev pub forged_on : World → ℕ → Message → World
-forged_on w inc m = record (took w (on_message w.rec (link_to w inc) m)) { taken = w.taken ++ taken_at w.rec None (link_to w inc) m; hostile = w.hostile ++ inc ∷ [] }
+forged_on w inc m = record (took w (on_message w.rec (link_to w inc) m)) {
+  taken =
+      w.taken ++ taken_at w.rec None (link_to w inc) m;
+  hostile = w.hostile ++ inc ∷ [];
+}
 
 abbrev pub forged : World → ℕ → Message → Life → Result World Stop
 forged w inc m Running = Ok (forged_on w inc m)
@@ -321,7 +371,11 @@ ask w inc act (Some i) = spoken w inc act i i.life (server.ask_deactivate i.core
 
 -- A server that runs crashes.
 abbrev pub crashed : World → ℕ → Instance → Life → Result World Stop
-crashed w inc i Running = Ok (record w { instances = set_nth w.instances inc (record i { life = Ended }); answers = w.answers ++ told.Took quiet_outcome ∷ [] })
+crashed w inc i Running =
+    Ok (record w {
+      instances = set_nth w.instances inc (record i { life = Ended });
+      answers = w.answers ++ told.Took quiet_outcome ∷ [];
+    })
 crashed w inc i Ended = Err NotEnabled
 crashed w inc i Reaped = Err NotEnabled
 
@@ -332,7 +386,8 @@ crash w inc (Some i) = crashed w inc i i.life
 -- The end of a server is told, once it has ended.
 abbrev pub ended : World → ℕ → Instance → Life → Result World Stop
 ended w inc i Running = Err NotEnabled
-ended w inc i Ended = Ok (took (record w { instances = set_nth w.instances inc (record i { life = Reaped }) }) (on_reap w.rec inc))
+ended w inc i Ended = Ok (took (record w { instances = set_nth w.instances inc (record i { life = Reaped }) })
+    (on_reap w.rec inc))
 ended w inc i Reaped = Err NotEnabled
 
 abbrev pub reap : World → ℕ → Option Instance → Result World Stop
@@ -345,7 +400,8 @@ is_file name file = bytes_eq file.name name
 
 abbrev pub put_file : List ℕ → List ℕ → List File → List File
 put_file name bytes [] = record { name = name; bytes = bytes } ∷ []
-put_file name bytes (file ∷ files) = if is_file name file then record { name = name; bytes = bytes } ∷ files else file ∷ put_file name bytes files
+put_file name bytes (file ∷ files) = if is_file name file then record { name = name; bytes = bytes } ∷ files
+    else file ∷ put_file name bytes files
 
 abbrev pub kept_commit : World → ℕ → Frame → FrameDocument → List Done → List ℕ → World
 kept_commit w f frame saved done bytes = record w {
@@ -358,7 +414,8 @@ abbrev pub done_taken : World → ℕ → List ℕ → Frame → FrameDocument �
 done_taken w f bytes frame saved (Err fault) = Err NotEnabled
 done_taken w f bytes frame saved (Ok t) = Ok (joined (kept_commit w f frame saved t.counted bytes) t)
 
-abbrev pub done_imaged : World → ℕ → List ℕ → Frame → Result Took ContainerFault → Result FrameDocument ContainerFault → Result World Stop
+abbrev pub done_imaged : World → ℕ → List ℕ → Frame → Result Took ContainerFault
+    → Result FrameDocument ContainerFault → Result World Stop
 done_imaged w f bytes frame counted (Err fault) = Err NotEnabled
 done_imaged w f bytes frame counted (Ok saved) = done_taken w f bytes frame saved counted
 
@@ -369,8 +426,8 @@ done_in w f bytes counted (Some frame) = done_imaged w f bytes frame counted (im
 abbrev pub done : World → ℕ → List ℕ → Result World Stop
 done w f bytes = done_in w f bytes (commit_done w.rec f) (nth w.rec.frames f)
 
--- A step of the container that happens only where it is taken: a commit that fails, and one in doubt that is resolved as lost.
--- No file changes, and nothing is counted.
+-- A step of the container that happens only where it is taken: a commit that fails, and one in doubt that is resolved
+-- as lost. No file changes, and nothing is counted.
 abbrev pub only_taken : World → Result Took ContainerFault → Result World Stop
 only_taken w (Err fault) = Err NotEnabled
 only_taken w (Ok t) = Ok (joined w t)
@@ -384,8 +441,8 @@ resolved w f false bytes = only_taken w (resolve w.rec f false)
 abbrev pub in_run : World → ℕ → Result World Stop → Result World Stop
 in_run w s outcome = if s == w.rec.session then outcome else Err NotEnabled
 
--- What the definitions leave open in a step: of a commit that is done, or resolved as kept, the bytes that it makes the file;
--- of a file that is opened, what it gives.
+-- What the definitions leave open in a step: of a commit that is done, or resolved as kept, the bytes that it makes the
+-- file; of a file that is opened, what it gives.
 pub record Choice : Type 0 where
   pub file : List ℕ
   pub given : Given
@@ -433,10 +490,11 @@ file_bytes (Some file) = Some file.bytes
 abbrev pub file_of : World → List ℕ → Option (List ℕ)
 file_of w name = file_bytes (find (is_file name) w.files)
 
--- What may be chosen: the bytes that a commit makes the file denote the document, in a tree that holds it; a file gives what
--- it is read as, where it is looked at: its name is no frame's, and the size is one.
+-- What may be chosen: the bytes that a commit makes the file denote the document, in a tree that holds it; a file gives
+-- what it is read as, where it is looked at: its name is no frame's, and the size is one.
 abbrev pub IsImageOf : World → ℕ → List ℕ → Type 0
-IsImageOf w f bytes = (saved : FrameDocument) → image w.rec f ≡ Ok saved → ∥ Denotes bytes (document_tree saved) ∥₁ × DocOf (document_tree saved) (document saved)
+IsImageOf w f bytes = (saved : FrameDocument) → image w.rec f ≡ Ok saved → ∥ Denotes bytes (document_tree saved) ∥₁
+    × DocOf (document_tree saved) (document saved)
 
 abbrev pub IsImage : World → Choice → Event → Type 0
 IsImage w choice (event.Command c) = ⊤
@@ -450,12 +508,14 @@ IsImage w choice (event.Done f) = IsImageOf w f choice.file
 IsImage w choice (event.Fail f) = ⊤
 IsImage w choice (event.Resolve f true) = IsImageOf w f choice.file
 IsImage w choice (event.Resolve f false) = ⊤
-IsImage w choice (event.Open name width height) = is_named name w.rec.frames ≡ false → is_size width height ≡ true → IsReadAs (file_of w name) choice.given
+IsImage w choice (event.Open name width height) = is_named name w.rec.frames ≡ false → is_size width height ≡ true
+    → IsReadAs (file_of w name) choice.given
 
 -- The worlds that these events reach; they differ in the bytes of files alone.
 abbrev pub Run : World → List Event → World → Type 0
 Run w [] after = after ≡ w
-Run w (e ∷ es) after = (choice : Choice) × (next : World) × IsImage w choice e × (step w choice e ≡ Ok next) × Run next es after
+Run w (e ∷ es) after = (choice : Choice) × (next : World) × IsImage w choice e × (step w choice e ≡ Ok next)
+    × Run next es after
 
 -- A run stops before an event that can't be taken, or for want of memory before one that could.
 abbrev pub Refuses : Result World Stop → Stop → Type 0
@@ -468,7 +528,8 @@ StopsAt w e stop = (choice : Choice) → Refuses (step w choice e) stop
 -- The file of a frame, where it is known which: not while it is in doubt whether its last commit was done.
 abbrev pub frame_file_in : World → Option Frame → Option (List ℕ)
 frame_file_in w None = None
-frame_file_in w (Some frame) = if is_doubtful frame.phase then None else if frame.stored then file_of w frame.name else None
+frame_file_in w (Some frame) = if is_doubtful frame.phase then None else if frame.stored then file_of w frame.name
+    else None
 
 abbrev pub frame_file : World → ℕ → Option (List ℕ)
 frame_file w f = frame_file_in w (nth w.rec.frames f)

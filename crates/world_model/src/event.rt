@@ -3,9 +3,9 @@
 ghost use Rattle.std.specs.Prelude.{◌≡◌, IfOk};
 
 use container_model::command::Command;
+use message_values::message::Message;
 use std::alloc::{AllocError, Global};
-use stored_values::bytes::Bytes;
-use wire_msgs::message::Message;
+use tree_values::bytes::Bytes;
 
 /// What happens in a world.
 #[derive(Drop)]
@@ -28,10 +28,11 @@ pub enum Event {
     Resolve(u32, bool),
     /// The file of this name is opened as a frame, so many columns wide and so many lines high.
     Open(Bytes, u16, u16),
-    /// An activation writes the content that it has now: by the session and the incarnation of its server, and its number.
+    /// An activation writes the content that it has now: by the session and the incarnation of its server, and its
+    /// number.
     Scribble(u32, u32, u32),
-    /// An activation asks to be relieved of its frame's menus and border: by the session and the incarnation of its server, and
-    /// its number.
+    /// An activation asks to be relieved of its frame's menus and border: by the session and the incarnation of its
+    /// server, and its number.
     Ask(u32, u32, u32),
 }
 

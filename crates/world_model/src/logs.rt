@@ -5,14 +5,14 @@ ghost use Rattle.world_model.specs.World.{quiet_outcome};
 
 use container_model::answer::Part;
 use container_model::fault::ContainerFault;
+use message_values::items::Items;
+use message_values::message::Message;
+use message_values::refusal::Refusal;
 use object_state::{PersistState, States};
 use server_model::fault::ServerFault;
 use std::alloc::Global;
-use stored_streams::stored::Stored;
-use stored_values::bytes::Bytes;
-use wire_msgs::items::Items;
-use wire_msgs::message::Message;
-use wire_msgs::refusal::Refusal;
+use tree_streams::stored::Stored;
+use tree_values::bytes::Bytes;
 
 /// The state of an activation, as its server sees it.
 #[derive(Clone, Copy)]

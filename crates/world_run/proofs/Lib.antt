@@ -1,3 +1,4 @@
+pub mod Lines
 mod Results
 mod Names
 mod Alike

@@ -1,14 +1,14 @@
 -- What changes and what stays, with the objects in boxes by what they contain.
 use Rattle.std.specs.Prelude.{◌≡◌, ℕ, List, [], Ok, IfSome, slice_get}
-use Rattle.wire_msgs.specs.Found.{find}
-use Rattle.embed_core.specs.Content.{Content}
+use Rattle.message_values.specs.Found.{find}
+use Rattle.object_core.specs.Content.{Content}
 use Rattle.server_core.specs.declared.server.Seat.{Seat}
 use Rattle.world_host.specs.declared.stops.Left.{Left}
 use Rattle.world_model.specs.declared.event.Event.{Event}
 use Rattle.world_model.specs.declared.event.Stop.{Stop}
 use Rattle.world_model.specs.World.{Refuses, limited}
-use Rattle.story_model.specs.declared.moment.Moment.{Moment}
-use Rattle.story_model.specs.Story.{EndsAt, RefusesMoment, Tells, as_of, earlier, goes_on, is_session, within}
+use Rattle.world_model.specs.declared.moment.Moment.{Moment}
+use Rattle.world_model.specs.Story.{EndsAt, RefusesMoment, Tells, as_of, earlier, goes_on, is_session, within}
 use Rattle.world_run.specs.Passes.{Follows, HoldsBack, Passes, left_at, past_with, swapped}
 use Rattle.world_run.specs.Told.{left_epoch, seen_past, seen_pasts, told}
 use Rattle.world_run.specs.declared.past.Past.{Past}
@@ -48,7 +48,8 @@ module _ {X : Type 0} {V : X → Type 0} (content : Seat X V → Content) where
   IsMore old run new = seen_pasts content new ≡ past_with (seen_past content run) (seen_pasts content old)
 
   abbrev pub LeavesPast : Runs X V → Left → Runs X V → Type 0
-  LeavesPast old l new = seen_pasts content new.past.items ≡ past_with (left_epoch l (seen content old.state).instances) (seen_pasts content old.past.items)
+  LeavesPast old l new = seen_pasts content new.past.items
+      ≡ past_with (left_epoch l (seen content old.state).instances) (seen_pasts content old.past.items)
 
   -- ---- runs
   abbrev pub Stays : Runs X V → Runs X V → Type 0
@@ -72,10 +73,14 @@ module _ {X : Type 0} {V : X → Type 0} (content : Seat X V → Content) where
 
   -- and at a server of the first run of a session
   abbrev pub MovesThere : Runs X V → ℕ → Event → Runs X V → Type 0
-  MovesThere old n e new = within (told content old) (earlier (told content old) e (find (is_session n) (told content old).past)) ≡ Ok (told content new)
+  MovesThere old n e new = within (told content old)
+      (earlier (told content old) e (find (is_session n) (told content old).past)) ≡ Ok (told content new)
 
   abbrev pub EndsThere : Runs X V → ℕ → Event → Stop → Type 0
-  EndsThere old n e stop = RefusesMoment (within (told content old) (earlier (told content old) e (find (is_session n) (told content old).past))) stop
+  EndsThere old n e stop =
+      RefusesMoment
+      (within (told content old) (earlier (told content old) e (find (is_session n) (told content old).past))) stop
 
   abbrev pub Swaps : Runs X V → ℕ → Runs X V → Type 0
-  Swaps old i new = IfSome (slice_get (told content old).past i) (λ e. told content new ≡ swapped (told content old) e i)
+  Swaps old i new = IfSome (slice_get (told content old).past i)
+      (λ e. told content new ≡ swapped (told content old) e i)

@@ -2,12 +2,12 @@
 use Rattle.std.specs.Prelude.{ℕ, Bool, true, false, List, not, Option, Some, None, if◌then◌else◌, ◌||◌, ◌==◌}
 use Rattle.std.specs.List.{filter}
 use Rattle.std.specs.Str.{bytes_eq}
-use Rattle.wire_msgs.specs.Found.{nth}
+use Rattle.message_values.specs.Found.{nth}
 use Rattle.container_model.specs.Record.{Record}
 use Rattle.container_model.specs.declared.record.Frame.{Frame}
 use Rattle.world_model.specs.declared.event.Event.{Event}
 use Rattle.world_model.specs.declared.event.Event.TheVariants as event
-use Rattle.story_model.specs.Story.{is_among, made_name}
+use Rattle.world_model.specs.Story.{is_among, made_name}
 
 -- frame 1 bears the name of the session document, where there is such a frame
 abbrev pub borne_by : Option Frame → List ℕ → List ℕ

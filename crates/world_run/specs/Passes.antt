@@ -1,11 +1,13 @@
 -- What moments make of a story.
-use Rattle.std.specs.Prelude.{◌≡◌, ℕ, List, [], ◌∷◌, ◌++◌, Option, None, Ok, MatchOption, if◌then◌else◌, ◌==◌, slice_set}
-use Rattle.wire_msgs.specs.Found.{IsPlace, find}
+use Rattle.std.specs.Prelude.{◌≡◌, ℕ, List, [], ◌∷◌, ◌++◌, Option, None, Ok, MatchOption, if◌then◌else◌, ◌==◌}
+use Rattle.std.specs.Prelude.{slice_set}
+use Rattle.message_values.specs.Found.{IsPlace, find}
 use Rattle.world_model.specs.declared.event.Event.{Event}
 use Rattle.world_model.specs.declared.event.Stop.{Stop}
 use Rattle.world_model.specs.World.{Choice, IsImage, World}
-use Rattle.story_model.specs.declared.moment.Moment.{Moment}
-use Rattle.story_model.specs.Story.{AreImages, Chosen, Epoch, RefusesMoment, Story, as_of, epoch_of, is_session, pass, present, within}
+use Rattle.world_model.specs.declared.moment.Moment.{Moment}
+use Rattle.world_model.specs.Story.{AreImages, Chosen, Epoch, RefusesMoment, Story, as_of, epoch_of, is_session, pass}
+use Rattle.world_model.specs.Story.{present, within}
 
 -- a moment makes this of a story
 abbrev pub Passes : Story → Moment → Story → Type 0

@@ -1,7 +1,7 @@
 -- Worlds as they are shown: the objects in boxes by what they contain.
-use Rattle.embed_core.specs.Content.{Content}
+use Rattle.object_core.specs.Content.{Content}
 use Rattle.server_core.specs.declared.server.Seat.{Seat}
-use Rattle.story_model.specs.Story.{Story}
+use Rattle.world_model.specs.Story.{Story}
 use Rattle.world_run.specs.declared.world.World as held
 use Rattle.world_run.specs.Told.{told}
 

@@ -1,8 +1,8 @@
 -- Runs as a story, with the objects in boxes by what they contain.
 use Rattle.std.specs.Prelude.{List, map, reverse}
-use Rattle.embed_core.specs.Content.{Content}
+use Rattle.object_core.specs.Content.{Content}
 use Rattle.server_core.specs.declared.server.Seat.{Seat}
-use Rattle.story_model.specs.Story.{Epoch, Story}
+use Rattle.world_model.specs.Story.{Epoch, Story}
 use Rattle.world_host.specs.declared.stops.Left.{Left}
 use Rattle.world_model.specs.World.{Instance}
 use Rattle.world_run.specs.Names.{document_of}

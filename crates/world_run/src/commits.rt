@@ -1,11 +1,11 @@
 //! What a commit that is counted leaves of the names of files.
 
 ghost use Rattle.std.specs.Prelude.{◌≡◌, ◌==◌, ◌||◌};
-ghost use Rattle.wire_msgs.specs.Found.{nth};
+ghost use Rattle.message_values.specs.Found.{nth};
 ghost use Rattle.world_run.specs.Names.{struck, struck_by, has_after, kept_after};
 
 use crate::runs::Runs;
-use stored_values::bytes::Bytes;
+use tree_values::bytes::Bytes;
 use world_model::event::Event;
 
 // A file that is counted isn't one that only a stop has kept.

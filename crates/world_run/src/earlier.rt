@@ -1,13 +1,14 @@
 //! Events at servers of earlier runs.
 
 ghost use Rattle.std.specs.Prelude.{◌≡◌, ◌≢◌, ◌<◌, IfErr, OnErr, OnOk, length};
-ghost use Rattle.story_model.specs.Story.{session_of};
+ghost use Rattle.world_model.specs.Story.{session_of};
 ghost use Rattle.world_host.specs.View.{bare};
-ghost use Rattle.world_run.specs.Changes.{EndsThere, GoesOn, MakesPlace, MovesThere, RefusesOn, StateStays, Stays, Swaps, TakesPlace};
+ghost use Rattle.world_run.specs.Changes.{EndsThere, GoesOn, MakesPlace, MovesThere, RefusesOn, StateStays, Stays};
+ghost use Rattle.world_run.specs.Changes.{Swaps, TakesPlace};
 
 use crate::past::{Past, place_of};
 use crate::runs::Runs;
-use embed_core::embedded::Embedded;
+use object_core::embedded::Embedded;
 use std::alloc::Global;
 use std::mem::swap;
 use world_model::event::{Event, Stop};
@@ -15,8 +16,10 @@ use world_state::state::State;
 
 // Puts the servers and the logs of one run into the place of another's.
 fn exchange(state: &mut State, past: &mut Past)
-    ensures state { TakesPlace (λ s. (⟦<dyn Embedded as Embedded>⟧ s.boxed.vtable).content s.boxed.value) state.old past.old state.new }
-    ensures past { MakesPlace (λ s. (⟦<dyn Embedded as Embedded>⟧ s.boxed.vtable).content s.boxed.value) state.old past.old past.new }
+    ensures state { TakesPlace (λ s. (⟦<dyn Embedded as Embedded>⟧ s.boxed.vtable).content s.boxed.value) state.old
+        past.old state.new }
+    ensures past { MakesPlace (λ s. (⟦<dyn Embedded as Embedded>⟧ s.boxed.vtable).content s.boxed.value) state.old
+        past.old past.new }
 {
     swap(&mut state.instances, &mut past.instances);
     swap(&mut state.host.owners, &mut past.owners);
@@ -30,9 +33,13 @@ fn exchange(state: &mut State, past: &mut Past)
 // An event at a server of these, which are of an earlier run.
 fn go_on(state: &mut State, alloc: Global, event: &Event) -> Result<(), Stop>
     requires { session_of (bare state.old.host) event.now ≢ state.old.host.core.session }
-    ensures taken { OnOk result (GoesOn (λ s. (⟦<dyn Embedded as Embedded>⟧ s.boxed.vtable).content s.boxed.value) state.old event.now state.new) }
-    ensures refused { IfErr result (RefusesOn (λ s. (⟦<dyn Embedded as Embedded>⟧ s.boxed.vtable).content s.boxed.value) state.old event.now) }
-    ensures kept { OnErr result (StateStays (λ s. (⟦<dyn Embedded as Embedded>⟧ s.boxed.vtable).content s.boxed.value) state.old state.new) }
+    ensures taken { OnOk result (GoesOn (λ s. (⟦<dyn Embedded as Embedded>⟧ s.boxed.vtable).content s.boxed.value)
+        state.old event.now state.new) }
+    ensures refused { IfErr result
+        (RefusesOn (λ s. (⟦<dyn Embedded as Embedded>⟧ s.boxed.vtable).content s.boxed.value) state.old event.now) }
+    ensures kept { OnErr result
+        (StateStays (λ s. (⟦<dyn Embedded as Embedded>⟧ s.boxed.vtable).content s.boxed.value) state.old
+        state.new) }
 {
     match event {
         // It isn't of the present session, so it is a call.
@@ -63,9 +70,14 @@ impl Runs {
     pub(crate) fn earlier(&mut self, alloc: Global, session: u32, event: &Event) -> Result<(), Stop>
         requires session { session ≡ session_of (bare self.old.state.host) event.now }
         requires earlier { session ≢ self.old.state.host.core.session }
-        ensures taken { OnOk result (MovesThere (λ s. (⟦<dyn Embedded as Embedded>⟧ s.boxed.vtable).content s.boxed.value) self.old session event.now self.new) }
-        ensures refused { IfErr result (EndsThere (λ s. (⟦<dyn Embedded as Embedded>⟧ s.boxed.vtable).content s.boxed.value) self.old session event.now) }
-        ensures kept { OnErr result (Stays (λ s. (⟦<dyn Embedded as Embedded>⟧ s.boxed.vtable).content s.boxed.value) self.old self.new) }
+        ensures taken { OnOk result
+            (MovesThere (λ s. (⟦<dyn Embedded as Embedded>⟧ s.boxed.vtable).content s.boxed.value) self.old session
+            event.now self.new) }
+        ensures refused { IfErr result
+            (EndsThere (λ s. (⟦<dyn Embedded as Embedded>⟧ s.boxed.vtable).content s.boxed.value) self.old session
+            event.now) }
+        ensures kept { OnErr result
+            (Stays (λ s. (⟦<dyn Embedded as Embedded>⟧ s.boxed.vtable).content s.boxed.value) self.old self.new) }
     {
         let Some(i) = place_of(&self.past, session) else {
             return Err(Stop::NotEnabled);

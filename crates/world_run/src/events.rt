@@ -1,21 +1,22 @@
 //! Events of the present run.
 
 ghost use Rattle.std.specs.Prelude.{◌≡◌, ◌≢◌, IfErr, OnErr, OnOk};
-ghost use Rattle.story_model.specs.Story.{is_it, may_begin, may_command, may_make, may_open, session_of};
+ghost use Rattle.world_model.specs.Story.{is_it, may_begin, may_command, may_make, may_open, session_of};
 ghost use Rattle.world_host.specs.View.{bare};
 ghost use Rattle.world_run.specs.Changes.{EndsHere, MovesHere, Stays};
 ghost use Rattle.world_run.specs.Told.{told};
 
 use crate::runs::Runs;
 use container_model::command::Command;
-use embed_core::embedded::Embedded;
+use object_core::embedded::Embedded;
 use std::alloc::Global;
 use world_model::event::{Event, Stop};
 
 impl Runs {
     // Whether a frame may be made so early in a run: where there is a session document, it is opened first.
     fn may_make(&self) -> bool
-        ensures { result ≡ may_make (told (λ s. (⟦<dyn Embedded as Embedded>⟧ s.boxed.vtable).content s.boxed.value) self.now) }
+        ensures { result ≡ may_make (told (λ s. (⟦<dyn Embedded as Embedded>⟧ s.boxed.vtable).content s.boxed.value)
+            self.now) }
     {
         match self.state.host.core.frame(1) {
             Some(_) => true,
@@ -28,7 +29,8 @@ impl Runs {
 
     // Whether this file may be opened so early.
     fn may_open(&self, name: &[u8]) -> bool
-        ensures { result ≡ may_open (told (λ s. (⟦<dyn Embedded as Embedded>⟧ s.boxed.vtable).content s.boxed.value) self.now) name.now }
+        ensures { result ≡ may_open (told (λ s. (⟦<dyn Embedded as Embedded>⟧ s.boxed.vtable).content s.boxed.value)
+            self.now) name.now }
     {
         match self.state.host.core.frame(1) {
             Some(_) => true,
@@ -41,7 +43,8 @@ impl Runs {
 
     // Whether this command may come so early.
     fn may_command(&self, command: &Command) -> bool
-        ensures { result ≡ may_command (told (λ s. (⟦<dyn Embedded as Embedded>⟧ s.boxed.vtable).content s.boxed.value) self.now) command.now }
+        ensures { result ≡ may_command
+            (told (λ s. (⟦<dyn Embedded as Embedded>⟧ s.boxed.vtable).content s.boxed.value) self.now) command.now }
     {
         match command {
             Command::New(_, _, _) => self.may_make(),
@@ -61,7 +64,8 @@ impl Runs {
 
     // Whether this event may happen so early.
     fn may_begin(&self, event: &Event) -> bool
-        ensures { result ≡ may_begin (told (λ s. (⟦<dyn Embedded as Embedded>⟧ s.boxed.vtable).content s.boxed.value) self.now) event.now }
+        ensures { result ≡ may_begin
+            (told (λ s. (⟦<dyn Embedded as Embedded>⟧ s.boxed.vtable).content s.boxed.value) self.now) event.now }
     {
         match event {
             Event::Command(command) => self.may_command(command),
@@ -81,9 +85,14 @@ impl Runs {
     // An event of the present run.
     pub(crate) fn present(&mut self, alloc: Global, event: &Event) -> Result<(), Stop>
         requires { session_of (bare self.old.state.host) event.now ≡ self.old.state.host.core.session }
-        ensures taken { OnOk result (MovesHere (λ s. (⟦<dyn Embedded as Embedded>⟧ s.boxed.vtable).content s.boxed.value) self.old event.now self.new) }
-        ensures refused { IfErr result (EndsHere (λ s. (⟦<dyn Embedded as Embedded>⟧ s.boxed.vtable).content s.boxed.value) self.old event.now) }
-        ensures kept { OnErr result (Stays (λ s. (⟦<dyn Embedded as Embedded>⟧ s.boxed.vtable).content s.boxed.value) self.old self.new) }
+        ensures taken { OnOk result
+            (MovesHere (λ s. (⟦<dyn Embedded as Embedded>⟧ s.boxed.vtable).content s.boxed.value) self.old event.now
+            self.new) }
+        ensures refused { IfErr result
+            (EndsHere (λ s. (⟦<dyn Embedded as Embedded>⟧ s.boxed.vtable).content s.boxed.value) self.old
+            event.now) }
+        ensures kept { OnErr result
+            (Stays (λ s. (⟦<dyn Embedded as Embedded>⟧ s.boxed.vtable).content s.boxed.value) self.old self.new) }
     {
         if !self.may_begin(event) {
             return Err(Stop::NotEnabled);

@@ -1,13 +1,13 @@
 //! The session in which an event happens.
 
 ghost use Rattle.std.specs.Prelude.{◌≡◌};
-ghost use Rattle.story_model.specs.Story.{session_at, session_of, session_of_call};
-ghost use Rattle.wire_msgs.specs.Found.{nth};
+ghost use Rattle.world_model.specs.Story.{session_at, session_of, session_of_call};
+ghost use Rattle.message_values.specs.Found.{nth};
 ghost use Rattle.world_host.specs.View.{bare};
 
-use wire_msgs::message::{Message, Said};
+use container_checks::lookups::place;
+use message_values::message::{Message, Said};
 use world_host::host::Host;
-use world_host::lookups::place;
 use world_model::event::Event;
 
 // The session of a message that is delivered: a call's own, as it may be to a server of an earlier run.

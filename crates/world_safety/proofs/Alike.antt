@@ -14,13 +14,17 @@ use Rattle.world_grants.specs.Grants.{roles_of}
 use Rattle.world_grants.proofs.Alike.{grants_alike}
 use Rattle.world_safety.specs.Holding.{Agrees}
 
-pub agrees_alike : (hostile : List ℕ) (rec : Record) (is js : List Instance) (sent : List Sent) (owners : List ℕ) (counted : List Done) (served : List ServerDone)
-    → length js ≡ length is → ((inc act : ℕ) → Alike (acts_of is inc act) (acts_of js inc act)) → ((inc : ℕ) → lives_of js inc ≡ lives_of is inc)
+pub agrees_alike : (hostile : List ℕ) (rec : Record) (is js : List Instance) (sent : List Sent) (owners : List ℕ)
+    (counted : List Done) (served : List ServerDone)
+    → length js ≡ length is → ((inc act : ℕ) → Alike (acts_of is inc act) (acts_of js inc act))
+    → ((inc : ℕ) → lives_of js inc ≡ lives_of is inc)
     → Agrees hostile rec is sent owners counted served → Agrees hostile rec js sent owners counted served
 agrees_alike hostile rec is js sent owners counted served many same still h = record {
   steady = h.steady;
   servers = h.servers ∙ sym many;
-  facts = facts_alike (links_of rec.objects) (acts_of is) (acts_of js) (lives_of is) (lives_of js) (sayings sent) owners rec.last_act counted served same still h.facts;
-  views = views_kept (links_of rec.objects) (links_of rec.objects) (acts_of is) (acts_of js) sent sent (tells_leave hostile (links_of rec.objects) (acts_of is) (acts_of js) same) (grows_none sent) h.views;
+  facts = facts_alike (links_of rec.objects) (acts_of is) (acts_of js) (lives_of is) (lives_of js) (sayings sent)
+      owners rec.last_act counted served same still h.facts;
+  views = views_kept (links_of rec.objects) (links_of rec.objects) (acts_of is) (acts_of js) sent sent
+      (tells_leave hostile (links_of rec.objects) (acts_of is) (acts_of js) same) (grows_none sent) h.views;
   grants = grants_alike (links_of rec.objects) (roles_of rec) (acts_of is) (acts_of js) (sayings sent) same h.grants;
 }

@@ -1,15 +1,16 @@
 -- Every world that a run reaches is safe.
-use Rattle.std.proofs.Common.{◌≡◌, ◌≢◌, ◌≤◌, ℕ, zero, suc, List, [], ◌∷◌, Option, Some, None, Ok, refl, sym, ap, ◌∙◌, subst, inl, inr, arith}
-use Rattle.embed_core.specs.Kinds.{Kind}
-use Rattle.stored_streams.specs.declared.stored.Stored.{Stored}
+use Rattle.std.proofs.Common.{◌≡◌, ◌≢◌, ◌≤◌, ℕ, zero, suc, List, [], ◌∷◌, Option, Some, None, Ok, refl, sym, ap, ◌∙◌}
+use Rattle.std.proofs.Common.{subst, inl, inr, arith}
+use Rattle.object_core.specs.Kinds.{Kind}
+use Rattle.tree_streams.specs.declared.stored.Stored.{Stored}
 use Rattle.server_model.specs.Server.{Activation}
 use Rattle.container_model.specs.declared.record.Link.{Link}
 use Rattle.container_steady.proofs.SteadyRecords.{empty_steady}
 use Rattle.world_model.specs.declared.event.Event.{Event}
 use Rattle.world_model.specs.World.{World, empty_world, happened, Run, Choice, in_session}
 use Rattle.world_model.specs.Safe.{Safe, acts_of, links_of, Among, WasSent, messages, sayings}
-use Rattle.wire_msgs.specs.declared.operation.Operation.{Operation}
-use Rattle.wire_msgs.specs.declared.operation.Operation.TheVariants.{SaveCompleted}
+use Rattle.message_values.specs.declared.operation.Operation.{Operation}
+use Rattle.message_values.specs.declared.operation.Operation.TheVariants.{SaveCompleted}
 use Rattle.world_facts.specs.Words.{Issued, called, waits}
 use Rattle.world_facts.specs.Facts.{HasSaved}
 use Rattle.world_files.proofs.Kept.{empty_files, files_happened, limited_ok, commits_kept, images_make}
@@ -23,9 +24,9 @@ use Rattle.world_safety.proofs.Numbering.{empty_numbers, numbers_happened}
 use Rattle.world_safety.proofs.Opened.{files_kept, files_opened_give, shared_kept}
 use Rattle.world_safety.proofs.Once.{once_answered}
 use Rattle.world_safety.proofs.Sessions.{empty_session, session_happened}
-use Rattle.wire_msgs.specs.declared.message.Message.{Message}
-use Rattle.wire_msgs.specs.declared.message.Said.{Said}
-use Rattle.wire_msgs.specs.declared.message.Said.TheVariants.{Reply}
+use Rattle.message_values.specs.declared.message.Message.{Message}
+use Rattle.message_values.specs.declared.message.Said.{Said}
+use Rattle.message_values.specs.declared.message.Said.TheVariants.{Reply}
 use Rattle.world_model.specs.declared.logs.Sent.{Sent}
 
 has_saved : (a : Option Activation) (c : Stored) → HasSaved c a → (b : Activation) × (a ≡ Some b) × (b.saved ≡ Some c)
@@ -49,12 +50,16 @@ all_in_session w h m g = (h.sent m g).0
 
 pub safe_held : (w : World) → Holds w → Safe w
 safe_held w h = (let f = h.agrees.facts in record {
-  acts_once = λ s inc act n op r next g e. once_answered w s inc act n op r h.agrees (said_of w s (Reply inc act n r) g) next e;
-  one_reply = λ s inc act n r q g k. f.replies.one_reply inc act n r q (said_of w s (Reply inc act n r) g) (said_of w s (Reply inc act n q) k);
-  kept_reply = λ inc act a r e g. (let k = f.replies.replies_kept inc act a.last r (said_of w w.rec.session (Reply inc act a.last r) g) in
+  acts_once = λ s inc act n op r next g e. once_answered w s inc act n op r h.agrees
+      (said_of w s (Reply inc act n r) g) next e;
+  one_reply = λ s inc act n r q g k. f.replies.one_reply inc act n r q (said_of w s (Reply inc act n r) g)
+      (said_of w s (Reply inc act n q) k);
+  kept_reply = λ inc act a r e g. (let k = f.replies.replies_kept inc act a.last r
+      (said_of w w.rec.session (Reply inc act a.last r) g) in
       let is : a ≡ k.0 = (let z : Some a ≡ Some k.0 = sym e ∙ k.1 in cc) in
       k.3 (ap (λ (x : Activation). x.last) is) ∙ ap (λ (x : Activation). x.reply) (sym is));
-  answered = λ n l content e honest s. has_saved (acts_of w.instances l.inc l.act) content (f.saved_same n l content e honest s);
+  answered = λ n l content e honest s. has_saved (acts_of w.instances l.inc l.act) content
+      (f.saved_same n l content e honest s);
   one_holder = one_holder w h.agrees;
   holder = holder w h.agrees (all_in_session w h.in_session);
   writes = h.taken_held;
@@ -103,8 +108,15 @@ empty_agrees numbers stock = record {
     calls = record { bounded = λ o inc n op l e h. absurd h; pending = λ o inc op asked l e q h. absurd h };
     in_step = λ o l e. absurd (no_link o l e);
     one_ahead = λ inc act n op honest h. absurd h;
-    unlinked = record { called = λ inc act n op honest runs h. absurd h; known = λ inc act a honest runs e. absurd (absent inc act a e) };
-    replies = record { reply_numbered = λ inc act a e. absurd (absent inc act a e); replies_kept = λ inc act n r h. absurd h; one_reply = λ inc act n r q h. absurd h };
+    unlinked = record {
+      called = λ inc act n op honest runs h. absurd h;
+      known = λ inc act a honest runs e. absurd (absent inc act a e);
+    };
+    replies = record {
+      reply_numbered = λ inc act a e. absurd (absent inc act a e);
+      replies_kept = λ inc act n r h. absurd h;
+      one_reply = λ inc act n r q h. absurd h;
+    };
     saved_same = λ o l c e. absurd (no_link o l e);
     counts = record {
       completed_counted = λ inc act n k s i. absurd (none_issued inc act n (SaveCompleted k s) i);
@@ -125,14 +137,28 @@ empty_agrees numbers stock = record {
 }
 
 pub empty_held : (numbers : ℕ) (stock : List Kind) → Holds (empty_world numbers stock)
-empty_held numbers stock = record { in_session = empty_session numbers stock; agrees = empty_agrees numbers stock; files = empty_files numbers stock; numbers = empty_numbers numbers stock; taken_held = λ t h. absurd h }
+empty_held numbers stock = record {
+  in_session = empty_session numbers stock;
+  agrees = empty_agrees numbers stock;
+  files = empty_files numbers stock;
+  numbers = empty_numbers numbers stock;
+  taken_held = λ t h. absurd h;
+}
 
-pub held_happened : (w : World) (choice : Choice) (e : Event) (v : World) → Holds w → MakesImage w choice e → happened w choice e ≡ Ok v → Holds v
+pub held_happened : (w : World) (choice : Choice) (e : Event) (v : World) → Holds w → MakesImage w choice e
+    → happened w choice e ≡ Ok v → Holds v
 held_happened w choice e v h im ok =
     let agrees = agrees_happened w choice e v h.files h.agrees ok in
     let files = files_happened w choice e v h.agrees.steady h.files im ok in
-    record { in_session = session_happened w choice e v h.in_session ok; agrees = agrees; files = files; numbers = numbers_happened w choice e v h.agrees h.files h.numbers agrees files ok; taken_held = granted_happened w choice e v h.agrees (all_in_session w h.in_session) h.taken_held ok }
+    record {
+      in_session = session_happened w choice e v h.in_session ok;
+      agrees = agrees;
+      files = files;
+      numbers = numbers_happened w choice e v h.agrees h.files h.numbers agrees files ok;
+      taken_held = granted_happened w choice e v h.agrees (all_in_session w h.in_session) h.taken_held ok;
+    }
 
 pub held_run : (w : World) (es : List Event) (after : World) → Holds w → Run w es after → Holds after
 held_run w [] after h r = subst Holds (sym r) h
-held_run w (e ∷ es) after h r = held_run r.1 es after (held_happened w r.0 e r.1 h (images_make w r.0 e r.2) (limited_ok w (happened w r.0 e) r.1 r.3)) r.4
+held_run w (e ∷ es) after h r = held_run r.1 es after
+    (held_happened w r.0 e r.1 h (images_make w r.0 e r.2) (limited_ok w (happened w r.0 e) r.1 r.3)) r.4

@@ -2,7 +2,7 @@
 use Rattle.std.specs.Prelude.{◌≡◌, ℕ, List, length, Some}
 use Rattle.container_model.specs.Record.{Record}
 use Rattle.container_model.specs.declared.answer.Done.{Done}
-use Rattle.container_steady.specs.Steady.{Steady}
+use Rattle.container_queues.specs.Steady.{Steady}
 use Rattle.world_model.specs.declared.logs.Sent.{Sent}
 use Rattle.world_model.specs.declared.logs.ServerDone.{ServerDone}
 use Rattle.world_model.specs.declared.logs.Taken.{Taken}
@@ -13,18 +13,20 @@ use Rattle.world_facts.specs.Facts.{Facts}
 use Rattle.world_facts.specs.Views.{Views}
 use Rattle.world_files.specs.Files.{Files}
 use Rattle.world_grants.specs.Grants.{Grants, roles_of}
-use Rattle.world_numbers.specs.Numbers.{Numbers}
-use Rattle.wire_msgs.specs.declared.message.Message.{Message}
-use Rattle.wire_msgs.specs.Found.{nth}
+use Rattle.world_grants.specs.Numbers.{Numbers}
+use Rattle.message_values.specs.declared.message.Message.{Message}
+use Rattle.message_values.specs.Found.{nth}
 use Rattle.container_numbers.specs.Sessions.{InSession}
 pub use Rattle.container_numbers.specs.Sessions.{IsOf}
 
 -- The container's record, the servers, the messages and the logs agree: the record is steady by itself, the servers are
 -- those that it started, and the facts hold of what is looked up, of what senders saw, and of who has frames.
-pub record Agrees (hostile : List ℕ) (rec : Record) (instances : List Instance) (sent : List Sent) (owners : List ℕ) (counted : List Done) (served : List ServerDone) : Type 0 where
+pub record Agrees (hostile : List ℕ) (rec : Record) (instances : List Instance) (sent : List Sent) (owners : List ℕ)
+    (counted : List Done) (served : List ServerDone) : Type 0 where
   pub steady : Steady rec
   pub servers : length rec.servers ≡ length instances
-  pub facts : Facts hostile (links_of rec.objects) (acts_of instances) (lives_of instances) (sayings sent) owners rec.last_act counted served
+  pub facts : Facts hostile (links_of rec.objects) (acts_of instances) (lives_of instances) (sayings sent) owners
+      rec.last_act counted served
   pub views : Views hostile (links_of rec.objects) (acts_of instances) sent
   pub grants : Grants hostile (links_of rec.objects) (roles_of rec) (acts_of instances) (sayings sent)
 

@@ -1,14 +1,16 @@
 -- What a call at a server makes of a world.
-use Rattle.std.proofs.Common.{◌≡◌, ℕ, ◌<◌, false, List, [], ◌∷◌, ◌++◌, Option, Some, Result, Ok, Err, length, get_or, refl, ap, sym, ◌∙◌, subst, rules}
+use Rattle.std.proofs.Common.{◌≡◌, ℕ, ◌<◌, false, List, [], ◌∷◌, ◌++◌, Option, Some, Result, Ok, Err, length, get_or}
+use Rattle.std.proofs.Common.{refl, ap, sym, ◌∙◌, subst, rules}
 use Rattle.std.specs.Prelude.{nat_le, IsOk, IfSome, slice_get}
 use Rattle.std.proofs.lemmas.Option.{slice_get-get_or}
-use Rattle.embed_core.specs.Kinds.{Kind}
-use Rattle.wire_msgs.specs.Found.{set_nth}
-use Rattle.wire_msgs.specs.declared.message.Message.{Message}
-use Rattle.wire_msgs.specs.declared.message.Said.TheVariants.{Call}
-use Rattle.wire_msgs.specs.declared.operation.Operation.{Operation}
+use Rattle.object_core.specs.Kinds.{Kind}
+use Rattle.message_values.specs.Found.{set_nth}
+use Rattle.message_values.specs.declared.message.Message.{Message}
+use Rattle.message_values.specs.declared.message.Said.TheVariants.{Call}
+use Rattle.message_values.specs.declared.operation.Operation.{Operation}
 use Rattle.server_model.specs.Server.{Server, Takes, Refuses, on_call}
-use Rattle.server_model.specs.declared.fault.ServerFault.TheVariants.{WrongIncarnation, Ignored, NumbersSpent, NeedObject, WrongClass, NoMemory}
+use Rattle.server_model.specs.declared.fault.ServerFault.TheVariants.{WrongIncarnation, Ignored, NumbersSpent}
+use Rattle.server_model.specs.declared.fault.ServerFault.TheVariants.{NeedObject, WrongClass, NoMemory}
 use Rattle.server_model.specs.declared.counted.Counted.{Counted}
 use Rattle.server_model.specs.declared.fault.ServerFault.{ServerFault}
 use Rattle.world_model.specs.declared.logs.View.{View}
@@ -27,17 +29,24 @@ stands xs i x lt e = slice_get-get_or xs i x lt ∙ ap Some (sym e)
 pub not_full : (w : World) (v : World) → nat_le MOST_EVENTS (length w.answers) ≡ false → limited w (Ok v) ≡ Ok v
 not_full w v e = rw e refl
 
-served_some : (w : World) (s inc act n : ℕ) (op : Operation) (stock : List Kind) (kind : Option Kind) (o : Option Instance) (z : Instance) → o ≡ Some z
+served_some : (w : World) (s inc act n : ℕ) (op : Operation) (stock : List Kind) (kind : Option Kind)
+    (o : Option Instance) (z : Instance) → o ≡ Some z
     → nat_le MOST_EVENTS (length w.answers) ≡ false
-    → limited w (serving w s inc act n op stock kind o) ≡ Ok (served w s inc act n z stock (on_call z.core (in_session s (Call inc act n op)) kind))
-served_some w s inc act n op stock kind o z e free = ap (λ x. limited w (serving w s inc act n op stock kind x)) e ∙ not_full w (served w s inc act n z stock (on_call z.core (in_session s (Call inc act n op)) kind)) free
+    → limited w (serving w s inc act n op stock kind o)
+    ≡ Ok (served w s inc act n z stock (on_call z.core (in_session s (Call inc act n op)) kind))
+served_some w s inc act n op stock kind o z e free = ap (λ x. limited w (serving w s inc act n op stock kind x)) e
+    ∙ not_full w (served w s inc act n z stock (on_call z.core (in_session s (Call inc act n op)) kind)) free
 
-pub serve_allowed : (w : World) (s inc act n : ℕ) (op : Operation) (stock : List Kind) (kind : Option Kind) (o : Option Instance) (z : Instance) → o ≡ Some z
+pub serve_allowed : (w : World) (s inc act n : ℕ) (op : Operation) (stock : List Kind) (kind : Option Kind)
+    (o : Option Instance) (z : Instance) → o ≡ Some z
     → nat_le MOST_EVENTS (length w.answers) ≡ false
     → IsOk (limited w (serving w s inc act n op stock kind o))
-serve_allowed w s inc act n op stock kind o z e free = rw (served_some w s inc act n op stock kind o z e free) (search rules)
+serve_allowed w s inc act n op stock kind o z e free = rw (served_some w s inc act n op stock kind o z e free)
+    (search rules)
 
-pub serve_taken : (w b : World) (s inc act n : ℕ) (op : Operation) (stock : List Kind) (kind : Option Kind) (o : Option Instance) (z : Instance) (is : List Instance) (back : List Kind) (box : Option Kind) (after : Server) (view : Option View) (reply : Message) (counted : Option Counted)
+pub serve_taken : (w b : World) (s inc act n : ℕ) (op : Operation) (stock : List Kind) (kind : Option Kind)
+    (o : Option Instance) (z : Instance) (is : List Instance) (back : List Kind) (box : Option Kind)
+    (after : Server) (view : Option View) (reply : Message) (counted : Option Counted)
     → o ≡ Some z
     → nat_le MOST_EVENTS (length w.answers) ≡ false
     → kind ≡ box
@@ -52,7 +61,9 @@ serve_taken w b s inc act n op stock kind o z is back box after view reply count
     ∙ (ap (λ r. Ok (served w s inc act n z stock r)) (ap (on_call z.core (in_session s (Call inc act n op))) ek ∙ t.1)
     ∙ rw (eb, ei, ev, t.2, es) refl)
 
-pub serve_dropped : (w b : World) (s inc act n : ℕ) (op : Operation) (stock : List Kind) (kind : Option Kind) (o : Option Instance) (z : Instance) (is : List Instance) (back : List Kind) (box : Option Kind) (fault : ServerFault)
+pub serve_dropped : (w b : World) (s inc act n : ℕ) (op : Operation) (stock : List Kind) (kind : Option Kind)
+    (o : Option Instance) (z : Instance) (is : List Instance) (back : List Kind) (box : Option Kind)
+    (fault : ServerFault)
     → o ≡ Some z
     → nat_le MOST_EVENTS (length w.answers) ≡ false
     → kind ≡ box
@@ -66,10 +77,12 @@ serve_dropped w b s inc act n op stock kind o z is back box fault e free ek t eb
     ∙ (ap (λ r. Ok (served w s inc act n z stock r)) (ap (on_call z.core (in_session s (Call inc act n op))) ek ∙ t)
     ∙ rw (eb, ei, es) refl)
 
-pub same_world : (b c : World) (is js : List Instance) (ss ts : List Kind) → b ≡ c → is ≡ js → ss ≡ ts → record b { instances = is; stock = ss } ≡ record c { instances = js; stock = ts }
+pub same_world : (b c : World) (is js : List Instance) (ss ts : List Kind) → b ≡ c → is ≡ js → ss ≡ ts
+    → record b { instances = is; stock = ss } ≡ record c { instances = js; stock = ts }
 same_world b c is js ss ts eb ei es = rw (eb, ei, es) refl
 
-pub refuses_told : {A : Type 0} (told : Result A ServerFault) (fault : ServerFault) → Refuses told fault → (fault ≡ NoMemory → ⊥) → told ≡ Err fault
+pub refuses_told : {A : Type 0} (told : Result A ServerFault) (fault : ServerFault) → Refuses told fault
+    → (fault ≡ NoMemory → ⊥) → told ≡ Err fault
 refuses_told told WrongIncarnation h n = h
 refuses_told told Ignored h n = h
 refuses_told told NumbersSpent h n = h

@@ -1,23 +1,23 @@
 -- What the delivery of a message comes to, before anything changes.
 use Rattle.std.specs.Prelude.{◌≡◌, ◌<◌, ◌++◌, ◌∷◌, [], ℕ, List, length, Option, Some, None, Result, Ok, Err, slice_get}
 use Rattle.std.specs.List.{insert, remove}
-use Rattle.wire_msgs.specs.declared.message.Message.{Message}
-use Rattle.wire_msgs.specs.declared.message.Said.{Said}
+use Rattle.message_values.specs.declared.message.Message.{Message}
+use Rattle.message_values.specs.declared.message.Said.{Said}
 use Rattle.container_model.specs.declared.server_link.ServerLink.{ServerLink}
-use Rattle.wire_msgs.specs.declared.message.Said.TheVariants.{Call, Reply, Write, Ask}
-use Rattle.wire_msgs.specs.declared.operation.Operation.{Operation}
-use Rattle.embed_core.specs.Kinds.{Kind}
-use Rattle.server_model.specs.Server.{on_call}
+use Rattle.message_values.specs.declared.message.Said.TheVariants.{Call, Reply, Write, Ask}
+use Rattle.message_values.specs.declared.operation.Operation.{Operation}
+use Rattle.object_core.specs.Kinds.{Kind}
+use Rattle.server_model.specs.Server.{on_call, Server, Told, ask_deactivate, scribble}
 use Rattle.container_model.specs.Messages.{on_message}
-use Rattle.wire_msgs.specs.Found.{find}
+use Rattle.message_values.specs.Found.{find}
 use Rattle.container_model.specs.Numbered.{IsNth}
 use Rattle.world_state.specs.declared.plan.Plan.{Plan}
 use Rattle.world_state.specs.declared.plan.Plan.TheVariants.{Quiet, Tell, Serve, Begin}
 use Rattle.world_model.specs.declared.logs.EventAnswer.TheVariants as told
 use Rattle.world_model.specs.declared.event.Stop.{Stop}
 use Rattle.world_model.specs.declared.event.Stop.TheVariants.{NotEnabled}
-use Rattle.world_model.specs.World.{World, Instance, forged_on, in_session, limited, link_of, served, spoken_by, took, quiet_outcome, is_of, without_first}
-use Rattle.server_model.specs.Server.{Server, Told, ask_deactivate, scribble}
+use Rattle.world_model.specs.World.{World, Instance, forged_on, in_session, limited, link_of, served, spoken_by, took}
+use Rattle.world_model.specs.World.{quiet_outcome, is_of, without_first}
 use Rattle.server_model.specs.declared.fault.ServerFault.{ServerFault}
 use Rattle.world_host.specs.Logging.{heard}
 
@@ -27,13 +27,15 @@ quiet w = record w { answers = w.answers ++ told.Took quiet_outcome ∷ [] }
 -- a call at a server, with an object of this kind or none, where this stock is left
 abbrev pub serving : World → ℕ → ℕ → ℕ → ℕ → Operation → List Kind → Option Kind → Option Instance → Result World Stop
 serving w s inc act n op stock kind None = Err NotEnabled
-serving w s inc act n op stock kind (Some i) = Ok (served w s inc act n i stock (on_call i.core (in_session s (Call inc act n op)) kind))
+serving w s inc act n op stock kind (Some i) =
+    Ok (served w s inc act n i stock (on_call i.core (in_session s (Call inc act n op)) kind))
 
 abbrev pub carried_call : World → ℕ → ℕ → ℕ → ℕ → Operation → Plan → Result World Stop
 carried_call w s inc act n op Quiet = Ok (quiet w)
 carried_call w s inc act n op (Tell link) = Err NotEnabled
 carried_call w s inc act n op (Serve i) = serving w s inc act n op w.stock None (slice_get w.instances i)
-carried_call w s inc act n op (Begin i at) = serving w s inc act n op (remove w.stock at) (slice_get w.stock at) (slice_get w.instances i)
+carried_call w s inc act n op (Begin i at) = serving w s inc act n op (remove w.stock at) (slice_get w.stock at)
+    (slice_get w.instances i)
 
 abbrev pub carried_said : World → Message → Said → Plan → Result World Stop
 carried_said w m (Call inc act n op) plan = carried_call w m.session inc act n op plan

@@ -1,7 +1,7 @@
 -- States of worlds as they are seen: the objects in boxes by what they contain.
 use Rattle.std.specs.Prelude.{map}
-use Rattle.embed_core.specs.Content.{Content}
-use Rattle.embed_core.specs.Kinds.{Kind, kind_of}
+use Rattle.object_core.specs.Content.{Content}
+use Rattle.object_core.specs.Kinds.{Kind, kind_of}
 use Rattle.server_core.specs.declared.server.Seat.{Seat}
 use Rattle.server_core.specs.View as server
 use Rattle.world_state.specs.declared.instance.Instance as code

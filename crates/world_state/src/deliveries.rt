@@ -1,8 +1,9 @@
 //! What the delivery of a message makes of a world.
 
-ghost use Rattle.std.specs.Prelude.{◌≡◌, ◌≤◌, ◌<◌, [], IfErr, IfOk, None, OnErr, OnOk, Ok, Err, Some, length, map, option_map, vec_len, vec_capacity};
+ghost use Rattle.std.specs.Prelude.{◌≡◌, ◌≤◌, ◌<◌, [], IfErr, IfOk, None, OnErr, OnOk, Ok, Err, Some, length, map};
+ghost use Rattle.std.specs.Prelude.{option_map, vec_len, vec_capacity};
 ghost use Rattle.container_model.specs.Numbered.{IsNth};
-ghost use Rattle.embed_core.specs.Kinds.{kind_of};
+ghost use Rattle.object_core.specs.Kinds.{kind_of};
 ghost use Rattle.world_state.specs.declared.plan.Plan.TheVariants as plan;
 ghost use Rattle.world_state.specs.Plans.{Fits, IsCallOf, carried, carry, carry_call, stock_with};
 ghost use Rattle.world_state.specs.View.{seen, seen_stocked};
@@ -12,14 +13,14 @@ ghost use Rattle.world_model.specs.declared.event.Event.TheVariants as event;
 use crate::instance::Stocked;
 use crate::plan::Plan;
 use crate::state::State;
+use container_checks::lookups::place;
 use container_model::server_link::ServerLink;
-use embed_core::embedded::Embedded;
+use message_values::message::{Message, Said};
+use message_values::operation::Operation;
+use object_core::embedded::Embedded;
 use server_core::refusal::Refusal;
 use server_model::fault::ServerFault;
 use std::alloc::Global;
-use wire_msgs::message::{Message, Said};
-use wire_msgs::operation::Operation;
-use world_host::lookups::place;
 use world_model::event::Stop;
 use world_model::life::Life;
 
@@ -36,8 +37,11 @@ impl State {
         operation: Operation,
     ) -> Result<(), Stop>
         requires { IsNth inc self.old.instances.items i }
-        ensures taken { OnOk result (carry_call (seen (λ s. content s.boxed) self.old) session inc act n operation (plan.Serve i) ≡ Ok (seen (λ s. content s.boxed) self.new)) }
-        ensures refused { IfErr result (Refuses (carry_call (seen (λ s. content s.boxed) self.old) session inc act n operation (plan.Serve i))) }
+        ensures taken { OnOk result (carry_call (seen (λ s. content s.boxed) self.old) session inc act n operation
+            (plan.Serve i) ≡ Ok (seen (λ s. content s.boxed) self.new)) }
+        ensures refused { IfErr result
+            (Refuses (carry_call (seen (λ s. content s.boxed) self.old) session inc act n operation
+            (plan.Serve i))) }
         ensures kept { OnErr result (seen (λ s. content s.boxed) self.new ≡ seen (λ s. content s.boxed) self.old) }
     {
         self.host.open()?;
@@ -75,7 +79,12 @@ impl State {
         requires place { at ≤ length self.old.stock.boxes.items }
         requires room { vec_len self.old.stock.boxes < vec_capacity self.old.stock.boxes }
         ensures host { self.new.host ≡ self.old.host }
-        ensures put { seen (λ s. content s.boxed) self.new ≡ record (seen (λ s. content s.boxed) self.old) { stock = stock_with (map (seen_stocked (λ s. content s.boxed)) self.old.stock.boxes.items) at (option_map (λ b. kind_of (content b)) back) } }
+        ensures put { seen (λ s. content s.boxed) self.new
+            ≡ record (seen (λ s. content s.boxed) self.old) {
+              stock =
+                  stock_with (map (seen_stocked (λ s. content s.boxed)) self.old.stock.boxes.items) at
+                  (option_map (λ b. kind_of (content b)) back);
+            } }
     {
         match back {
             Some(boxed) => match self.stock.boxes.insert(at, Stocked { boxed }) {
@@ -100,8 +109,11 @@ impl State {
     ) -> Result<(), Stop>
         requires place { IsNth inc self.old.instances.items i }
         requires stock { at < length self.old.stock.boxes.items }
-        ensures taken { OnOk result (carry_call (seen (λ s. content s.boxed) self.old) session inc act n operation (plan.Begin i at) ≡ Ok (seen (λ s. content s.boxed) self.new)) }
-        ensures refused { IfErr result (Refuses (carry_call (seen (λ s. content s.boxed) self.old) session inc act n operation (plan.Begin i at))) }
+        ensures taken { OnOk result (carry_call (seen (λ s. content s.boxed) self.old) session inc act n operation
+            (plan.Begin i at) ≡ Ok (seen (λ s. content s.boxed) self.new)) }
+        ensures refused { IfErr result
+            (Refuses (carry_call (seen (λ s. content s.boxed) self.old) session inc act n operation
+            (plan.Begin i at))) }
         ensures kept { OnErr result (seen (λ s. content s.boxed) self.new ≡ seen (λ s. content s.boxed) self.old) }
     {
         self.host.open()?;
@@ -142,7 +154,10 @@ impl State {
     // What a call at a server comes to.
     fn plan_call(&self, inc: u32, call: &Message) -> Result<Plan, Stop>
         requires { IsCallOf inc call.now.said }
-        ensures planned { IfOk result (λ p. (delivered (seen (λ s. content s.boxed) self.now) call.now ≡ carried (seen (λ s. content s.boxed) self.now) call.now p) × Fits (seen (λ s. content s.boxed) self.now) call.now p) }
+        ensures planned { IfOk result
+            (λ p. (delivered (seen (λ s. content s.boxed) self.now) call.now
+            ≡ carried (seen (λ s. content s.boxed) self.now) call.now p)
+            × Fits (seen (λ s. content s.boxed) self.now) call.now p) }
         ensures refused { IfErr result (λ stop. delivered (seen (λ s. content s.boxed) self.now) call.now ≡ Err stop) }
     {
         let Some((i, life)) = self.life(inc) else {
@@ -163,8 +178,12 @@ impl State {
 
     // What the delivery of a message comes to.
     fn plan(&self, message: &Message) -> Result<Plan, Stop>
-        ensures planned { IfOk result (λ p. (delivered (seen (λ s. content s.boxed) self.now) message.now ≡ carried (seen (λ s. content s.boxed) self.now) message.now p) × Fits (seen (λ s. content s.boxed) self.now) message.now p) }
-        ensures refused { IfErr result (λ stop. delivered (seen (λ s. content s.boxed) self.now) message.now ≡ Err stop) }
+        ensures planned { IfOk result
+            (λ p. (delivered (seen (λ s. content s.boxed) self.now) message.now
+            ≡ carried (seen (λ s. content s.boxed) self.now) message.now p)
+            × Fits (seen (λ s. content s.boxed) self.now) message.now p) }
+        ensures refused { IfErr result (λ stop. delivered (seen (λ s. content s.boxed) self.now) message.now
+            ≡ Err stop) }
     {
         match &message.said {
             Said::Call { inc, .. } => self.plan_call(*inc, message),
@@ -177,7 +196,8 @@ impl State {
     // What a plan says of the message at this place is done.
     fn carry_out(&mut self, alloc: Global, p: u32, plan: Plan, message: Message) -> Result<(), Stop>
         requires { Fits (seen (λ s. content s.boxed) self.old) message plan }
-        ensures taken { OnOk result (carry (seen (λ s. content s.boxed) self.old) p message plan ≡ Ok (seen (λ s. content s.boxed) self.new)) }
+        ensures taken { OnOk result (carry (seen (λ s. content s.boxed) self.old) p message plan
+            ≡ Ok (seen (λ s. content s.boxed) self.new)) }
         ensures refused { IfErr result (Refuses (carry (seen (λ s. content s.boxed) self.old) p message plan)) }
         ensures kept { OnErr result (seen (λ s. content s.boxed) self.new ≡ seen (λ s. content s.boxed) self.old) }
     {
@@ -252,10 +272,13 @@ impl State {
 
     /// A message that was sent is delivered, to the container or to a server of these.
     ///
-    /// Refused: `NotEnabled` where none has this place; `OutOfStock`; then `EventLimit`, then `NoMemory`. Then nothing changes.
+    /// Refused: `NotEnabled` where none has this place; `OutOfStock`; then `EventLimit`, then `NoMemory`. Then nothing
+    /// changes.
     pub fn deliver(&mut self, alloc: Global, p: u32) -> Result<(), Stop>
-        ensures taken { OnOk result (step (seen (λ s. content s.boxed) self.old) no_choice (event.Deliver p) ≡ Ok (seen (λ s. content s.boxed) self.new)) }
-        ensures refused { IfErr result (Refuses (step (seen (λ s. content s.boxed) self.old) no_choice (event.Deliver p))) }
+        ensures taken { OnOk result (step (seen (λ s. content s.boxed) self.old) no_choice (event.Deliver p)
+            ≡ Ok (seen (λ s. content s.boxed) self.new)) }
+        ensures refused { IfErr result
+            (Refuses (step (seen (λ s. content s.boxed) self.old) no_choice (event.Deliver p))) }
         ensures kept { OnErr result (seen (λ s. content s.boxed) self.new ≡ seen (λ s. content s.boxed) self.old) }
     {
         let Some(i) = place(&self.host.sent, p) else {

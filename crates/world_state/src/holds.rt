@@ -6,16 +6,18 @@ ghost use Rattle.world_state.specs.View.{seen, seen_instance};
 
 use crate::instance::Instance;
 use crate::state::State;
-use embed_core::embedded::Embedded;
+use message_values::items::Items;
+use object_core::embedded::Embedded;
 use server_model::hold::Hold;
 use std::alloc::{AllocError, Global};
-use wire_msgs::items::Items;
 use world_model::life::Life;
 
 impl Instance {
     // The activations that have a grant, each with it, none where the server doesn't run.
     fn holds(&self, alloc: Global) -> Result<Items<Hold>, AllocError>
-        ensures { IfOk result (λ holds. holds ≡ held_by (seen_instance (λ s. (⟦<dyn Embedded as Embedded>⟧ s.boxed.vtable).content s.boxed.value) self.now)) }
+        ensures { IfOk result
+            (λ holds. holds ≡ held_by
+            (seen_instance (λ s. (⟦<dyn Embedded as Embedded>⟧ s.boxed.vtable).content s.boxed.value) self.now)) }
     {
         match self.life {
             Life::Running => {

@@ -1,13 +1,13 @@
 //! Servers of a world.
 
 ghost use Rattle.std.specs.Prelude.{◌≡◌};
-ghost use Rattle.embed_core.specs.Kinds.{class_of};
+ghost use Rattle.object_core.specs.Kinds.{class_of};
 ghost use Rattle.world_model.specs.World.{end_of};
 ghost use Rattle.world_state.specs.View.{seen_stocked};
 
-use embed_core::embedded::Embedded;
+use object_core::embedded::Embedded;
 use server_core::server::ServerCore;
-use stored_values::class_id::ClassId;
+use tree_values::class_id::ClassId;
 use world_model::life::Life;
 
 /// A server of a world.

@@ -8,5 +8,3 @@ mod plan;
 mod speaking;
 pub mod state;
 pub mod stock;
-
-pub use world_host::container;

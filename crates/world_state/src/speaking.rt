@@ -2,14 +2,14 @@
 
 ghost use Rattle.std.specs.Prelude.{◌≡◌, [], IfErr, OnErr, OnOk, Ok, slice_get};
 ghost use Rattle.container_model.specs.Numbered.{IsNth};
-ghost use Rattle.wire_msgs.specs.Found.{nth};
+ghost use Rattle.message_values.specs.Found.{nth};
 ghost use Rattle.world_state.specs.Plans.{asking, scribbling};
 ghost use Rattle.world_state.specs.View.{seen};
 ghost use Rattle.world_model.specs.World.{Refuses, ask, limited, scribble, step, no_choice};
 ghost use Rattle.world_model.specs.declared.event.Event.TheVariants as event;
 
 use crate::state::State;
-use embed_core::embedded::Embedded;
+use object_core::embedded::Embedded;
 use server_model::fault::ServerFault;
 use std::alloc::Global;
 use world_model::event::Stop;
@@ -19,8 +19,14 @@ impl State {
     // The activation of a server that stands at i writes.
     fn scribble_at(&mut self, alloc: Global, i: usize, inc: u32, act: u32) -> Result<(), Stop>
         requires { IsNth inc self.old.instances.items i }
-        ensures taken { OnOk result (limited (seen (λ s. content s.boxed) self.old) (scribbling (seen (λ s. content s.boxed) self.old) inc act (slice_get (seen (λ s. content s.boxed) self.old).instances i)) ≡ Ok (seen (λ s. content s.boxed) self.new)) }
-        ensures refused { IfErr result (Refuses (limited (seen (λ s. content s.boxed) self.old) (scribbling (seen (λ s. content s.boxed) self.old) inc act (slice_get (seen (λ s. content s.boxed) self.old).instances i)))) }
+        ensures taken { OnOk result (limited (seen (λ s. content s.boxed) self.old)
+            (scribbling (seen (λ s. content s.boxed) self.old) inc act
+            (slice_get (seen (λ s. content s.boxed) self.old).instances i))
+            ≡ Ok (seen (λ s. content s.boxed) self.new)) }
+        ensures refused { IfErr result
+            (Refuses (limited (seen (λ s. content s.boxed) self.old)
+            (scribbling (seen (λ s. content s.boxed) self.old) inc act
+            (slice_get (seen (λ s. content s.boxed) self.old).instances i)))) }
         ensures kept { OnErr result (seen (λ s. content s.boxed) self.new ≡ seen (λ s. content s.boxed) self.old) }
     {
         self.host.open()?;
@@ -47,8 +53,14 @@ impl State {
     ///
     /// Refused: `NotEnabled` where the server doesn't run; then `EventLimit`, then `NoMemory`. Then nothing changes.
     pub fn scribble_here(&mut self, alloc: Global, inc: u32, act: u32) -> Result<(), Stop>
-        ensures taken { OnOk result (limited (seen (λ s. content s.boxed) self.old) (scribble (seen (λ s. content s.boxed) self.old) inc act (nth (seen (λ s. content s.boxed) self.old).instances inc)) ≡ Ok (seen (λ s. content s.boxed) self.new)) }
-        ensures refused { IfErr result (Refuses (limited (seen (λ s. content s.boxed) self.old) (scribble (seen (λ s. content s.boxed) self.old) inc act (nth (seen (λ s. content s.boxed) self.old).instances inc)))) }
+        ensures taken { OnOk result (limited (seen (λ s. content s.boxed) self.old)
+            (scribble (seen (λ s. content s.boxed) self.old) inc act
+            (nth (seen (λ s. content s.boxed) self.old).instances inc))
+            ≡ Ok (seen (λ s. content s.boxed) self.new)) }
+        ensures refused { IfErr result
+            (Refuses (limited (seen (λ s. content s.boxed) self.old)
+            (scribble (seen (λ s. content s.boxed) self.old) inc act
+            (nth (seen (λ s. content s.boxed) self.old).instances inc)))) }
         ensures kept { OnErr result (seen (λ s. content s.boxed) self.new ≡ seen (λ s. content s.boxed) self.old) }
     {
         let Some((i, life)) = self.life(inc) else {
@@ -69,8 +81,10 @@ impl State {
         inc: u32,
         act: u32,
     ) -> Result<(), Stop>
-        ensures taken { OnOk result (step (seen (λ s. content s.boxed) self.old) no_choice (event.Scribble session inc act) ≡ Ok (seen (λ s. content s.boxed) self.new)) }
-        ensures refused { IfErr result (Refuses (step (seen (λ s. content s.boxed) self.old) no_choice (event.Scribble session inc act))) }
+        ensures taken { OnOk result (step (seen (λ s. content s.boxed) self.old) no_choice
+            (event.Scribble session inc act) ≡ Ok (seen (λ s. content s.boxed) self.new)) }
+        ensures refused { IfErr result
+            (Refuses (step (seen (λ s. content s.boxed) self.old) no_choice (event.Scribble session inc act))) }
         ensures kept { OnErr result (seen (λ s. content s.boxed) self.new ≡ seen (λ s. content s.boxed) self.old) }
     {
         if !self.is_in(session) {
@@ -82,8 +96,14 @@ impl State {
     // The activation of a server that stands at i asks to be relieved of its frame.
     fn ask_at(&mut self, alloc: Global, i: usize, inc: u32, act: u32) -> Result<(), Stop>
         requires { IsNth inc self.old.instances.items i }
-        ensures taken { OnOk result (limited (seen (λ s. content s.boxed) self.old) (asking (seen (λ s. content s.boxed) self.old) inc act (slice_get (seen (λ s. content s.boxed) self.old).instances i)) ≡ Ok (seen (λ s. content s.boxed) self.new)) }
-        ensures refused { IfErr result (Refuses (limited (seen (λ s. content s.boxed) self.old) (asking (seen (λ s. content s.boxed) self.old) inc act (slice_get (seen (λ s. content s.boxed) self.old).instances i)))) }
+        ensures taken { OnOk result (limited (seen (λ s. content s.boxed) self.old)
+            (asking (seen (λ s. content s.boxed) self.old) inc act
+            (slice_get (seen (λ s. content s.boxed) self.old).instances i))
+            ≡ Ok (seen (λ s. content s.boxed) self.new)) }
+        ensures refused { IfErr result
+            (Refuses (limited (seen (λ s. content s.boxed) self.old)
+            (asking (seen (λ s. content s.boxed) self.old) inc act
+            (slice_get (seen (λ s. content s.boxed) self.old).instances i)))) }
         ensures kept { OnErr result (seen (λ s. content s.boxed) self.new ≡ seen (λ s. content s.boxed) self.old) }
     {
         self.host.open()?;
@@ -107,8 +127,14 @@ impl State {
     ///
     /// Refused: `NotEnabled` where the server doesn't run; then `EventLimit`, then `NoMemory`. Then nothing changes.
     pub fn ask_here(&mut self, alloc: Global, inc: u32, act: u32) -> Result<(), Stop>
-        ensures taken { OnOk result (limited (seen (λ s. content s.boxed) self.old) (ask (seen (λ s. content s.boxed) self.old) inc act (nth (seen (λ s. content s.boxed) self.old).instances inc)) ≡ Ok (seen (λ s. content s.boxed) self.new)) }
-        ensures refused { IfErr result (Refuses (limited (seen (λ s. content s.boxed) self.old) (ask (seen (λ s. content s.boxed) self.old) inc act (nth (seen (λ s. content s.boxed) self.old).instances inc)))) }
+        ensures taken { OnOk result (limited (seen (λ s. content s.boxed) self.old)
+            (ask (seen (λ s. content s.boxed) self.old) inc act
+            (nth (seen (λ s. content s.boxed) self.old).instances inc))
+            ≡ Ok (seen (λ s. content s.boxed) self.new)) }
+        ensures refused { IfErr result
+            (Refuses (limited (seen (λ s. content s.boxed) self.old)
+            (ask (seen (λ s. content s.boxed) self.old) inc act
+            (nth (seen (λ s. content s.boxed) self.old).instances inc)))) }
         ensures kept { OnErr result (seen (λ s. content s.boxed) self.new ≡ seen (λ s. content s.boxed) self.old) }
     {
         let Some((i, life)) = self.life(inc) else {
@@ -129,8 +155,10 @@ impl State {
         inc: u32,
         act: u32,
     ) -> Result<(), Stop>
-        ensures taken { OnOk result (step (seen (λ s. content s.boxed) self.old) no_choice (event.Ask session inc act) ≡ Ok (seen (λ s. content s.boxed) self.new)) }
-        ensures refused { IfErr result (Refuses (step (seen (λ s. content s.boxed) self.old) no_choice (event.Ask session inc act))) }
+        ensures taken { OnOk result (step (seen (λ s. content s.boxed) self.old) no_choice
+            (event.Ask session inc act) ≡ Ok (seen (λ s. content s.boxed) self.new)) }
+        ensures refused { IfErr result
+            (Refuses (step (seen (λ s. content s.boxed) self.old) no_choice (event.Ask session inc act))) }
         ensures kept { OnErr result (seen (λ s. content s.boxed) self.new ≡ seen (λ s. content s.boxed) self.old) }
     {
         if !self.is_in(session) {

@@ -1,34 +1,37 @@
 //! What a world is made of, and the events that happen in it.
 
-ghost use Rattle.std.specs.Prelude.{◌≡◌, ◌==◌, ◌≤◌, ◌<◌, ◌+◌, ◌++◌, [], List, ℕ, IfErr, IfSome, MatchOption, None, OnErr, OnOk, Ok, Err, Some, length, map, slice_get, take, vec_len, vec_capacity, true, false};
+ghost use Rattle.std.specs.Prelude.{◌≡◌, ◌==◌, ◌≤◌, ◌<◌, ◌+◌, ◌++◌, [], List, ℕ, IfErr, IfSome, MatchOption, None};
+ghost use Rattle.std.specs.Prelude.{OnErr, OnOk, Ok, Err, Some, length, map, slice_get, take, vec_len, vec_capacity};
+ghost use Rattle.std.specs.Prelude.{true, false};
 ghost use Rattle.container_model.specs.Numbered.{IsNth};
-ghost use Rattle.wire_msgs.specs.Found.{nth, set_nth};
+ghost use Rattle.message_values.specs.Found.{nth, set_nth};
 ghost use Rattle.world_model.specs.declared.event.Event.{Event};
 ghost use Rattle.world_host.specs.Servers.{ends_by};
 ghost use Rattle.world_state.specs.Lives.{Lives};
 ghost use Rattle.world_state.specs.Plans.{forging, tell};
 ghost use Rattle.world_state.specs.View.{seen, seen_instance, seen_stocked};
-ghost use Rattle.world_model.specs.World.{IsImage, Refuses, crash, limited, StopsAt, empty_world, ended_at, fresh, step, view_in, no_choice, Choice};
+ghost use Rattle.world_model.specs.World.{IsImage, Refuses, crash, limited, StopsAt, empty_world, ended_at, fresh};
+ghost use Rattle.world_model.specs.World.{step, view_in, no_choice, Choice};
 ghost use Rattle.world_model.specs.declared.event.Event.TheVariants as event;
 
 use crate::instance::{Instance, end_of};
 use crate::stock::Stock;
+use container_checks::lookups::place;
+use container_core::container::Limits;
 use container_model::command::Command;
 use container_model::server_link::ServerLink;
-use embed_core::embedded::Embedded;
+use message_values::message::Message;
+use object_core::embedded::Embedded;
 use server_core::server::ServerCore;
 use std::alloc::Global;
-use stored_values::bytes::Bytes;
-use wire_msgs::message::Message;
-use world_host::container::Limits;
+use tree_values::bytes::Bytes;
 use world_host::host::{Host, Servers, add};
-use world_host::lookups::place;
 use world_model::event::{Event, Stop};
 use world_model::life::Life;
 use world_model::logs::View;
 
-/// A run of a container: the container with its books and files, its servers, and the objects in stock. A world holds it, with
-/// what stays true of it.
+/// A run of a container: the container with its books and files, its servers, and the objects in stock. A world holds
+/// it, with what stays true of it.
 #[derive(Drop)]
 pub struct State {
     /// The container, its files and its logs.
@@ -43,7 +46,8 @@ impl State {
     /// A run in which nothing has happened.
     pub fn new(alloc: Global, limits: Limits, stock: Stock) -> State
         requires { limits.numbers ≤ 1000000 }
-        ensures { seen (λ s. content s.boxed) result ≡ empty_world limits.numbers (map (seen_stocked (λ s. content s.boxed)) stock.boxes.items) }
+        ensures { seen (λ s. content s.boxed) result ≡ empty_world limits.numbers
+            (map (seen_stocked (λ s. content s.boxed)) stock.boxes.items) }
     {
         State {
             host: Host::new(alloc, limits),
@@ -55,7 +59,12 @@ impl State {
     // Starts servers of these incarnations.
     fn start(&mut self, alloc: Global, starts: Vec<u32>)
         requires { vec_len self.old.instances + vec_len starts ≤ vec_capacity self.old.instances }
-        ensures { seen (λ s. content s.boxed) self.new ≡ record (seen (λ s. content s.boxed) self.old) { instances = map (seen_instance (λ s. content s.boxed)) self.old.instances.items ++ map (fresh self.old.host.core.session self.old.host.core.numbers) starts.items } }
+        ensures { seen (λ s. content s.boxed) self.new
+            ≡ record (seen (λ s. content s.boxed) self.old) {
+              instances =
+                  map (seen_instance (λ s. content s.boxed)) self.old.instances.items
+                  ++ map (fresh self.old.host.core.session self.old.host.core.numbers) starts.items;
+            } }
     {
         let session = self.host.core.session();
         let numbers = self.host.core.numbers();
@@ -74,7 +83,12 @@ impl State {
     // The servers that a step of the container ends and starts.
     fn finish(&mut self, alloc: Global, servers: Servers)
         requires { vec_len self.old.instances + vec_len servers.starts ≤ vec_capacity self.old.instances }
-        ensures { seen (λ s. content s.boxed) self.new ≡ record (seen (λ s. content s.boxed) self.old) { instances = ends_by servers.ends.items (seen (λ s. content s.boxed) self.old).instances ++ map (fresh self.old.host.core.session self.old.host.core.numbers) servers.starts.items } }
+        ensures { seen (λ s. content s.boxed) self.new
+            ≡ record (seen (λ s. content s.boxed) self.old) {
+              instances =
+                  ends_by servers.ends.items (seen (λ s. content s.boxed) self.old).instances
+                  ++ map (fresh self.old.host.core.session self.old.host.core.numbers) servers.starts.items;
+            } }
     {
         let Servers { ends, starts } = servers;
         self.end(&ends);
@@ -83,8 +97,10 @@ impl State {
 
     // A command of a user.
     fn command(&mut self, alloc: Global, command: &Command) -> Result<(), Stop>
-        ensures taken { OnOk result (step (seen (λ s. content s.boxed) self.old) no_choice (event.Command command.now) ≡ Ok (seen (λ s. content s.boxed) self.new)) }
-        ensures refused { IfErr result (Refuses (step (seen (λ s. content s.boxed) self.old) no_choice (event.Command command.now))) }
+        ensures taken { OnOk result (step (seen (λ s. content s.boxed) self.old) no_choice
+            (event.Command command.now) ≡ Ok (seen (λ s. content s.boxed) self.new)) }
+        ensures refused { IfErr result
+            (Refuses (step (seen (λ s. content s.boxed) self.old) no_choice (event.Command command.now))) }
         ensures kept { OnErr result (seen (λ s. content s.boxed) self.new ≡ seen (λ s. content s.boxed) self.old) }
     {
         self.host.open()?;
@@ -108,7 +124,8 @@ impl State {
         link: ServerLink,
         message: Message,
     ) -> Result<(), Stop>
-        ensures taken { OnOk result (tell (seen (λ s. content s.boxed) self.old) p link message ≡ Ok (seen (λ s. content s.boxed) self.new)) }
+        ensures taken { OnOk result (tell (seen (λ s. content s.boxed) self.old) p link message
+            ≡ Ok (seen (λ s. content s.boxed) self.new)) }
         ensures refused { IfErr result (Refuses (tell (seen (λ s. content s.boxed) self.old) p link message)) }
         ensures kept { OnErr result (seen (λ s. content s.boxed) self.new ≡ seen (λ s. content s.boxed) self.old) }
     {
@@ -127,7 +144,8 @@ impl State {
 
     // A message comes to the container on the link of a server, whether or not it has sent it.
     fn forge_on(&mut self, alloc: Global, inc: u32, message: &Message) -> Result<(), Stop>
-        ensures taken { OnOk result (forging (seen (λ s. content s.boxed) self.old) inc message.now ≡ Ok (seen (λ s. content s.boxed) self.new)) }
+        ensures taken { OnOk result (forging (seen (λ s. content s.boxed) self.old) inc message.now
+            ≡ Ok (seen (λ s. content s.boxed) self.new)) }
         ensures refused { IfErr result (Refuses (forging (seen (λ s. content s.boxed) self.old) inc message.now)) }
         ensures kept { OnErr result (seen (λ s. content s.boxed) self.new ≡ seen (λ s. content s.boxed) self.old) }
     {
@@ -149,8 +167,10 @@ impl State {
 
     // A message is forged on the link of a server that was started.
     fn forge(&mut self, alloc: Global, inc: u32, message: &Message) -> Result<(), Stop>
-        ensures taken { OnOk result (step (seen (λ s. content s.boxed) self.old) no_choice (event.Forge inc message.now) ≡ Ok (seen (λ s. content s.boxed) self.new)) }
-        ensures refused { IfErr result (Refuses (step (seen (λ s. content s.boxed) self.old) no_choice (event.Forge inc message.now))) }
+        ensures taken { OnOk result (step (seen (λ s. content s.boxed) self.old) no_choice
+            (event.Forge inc message.now) ≡ Ok (seen (λ s. content s.boxed) self.new)) }
+        ensures refused { IfErr result
+            (Refuses (step (seen (λ s. content s.boxed) self.old) no_choice (event.Forge inc message.now))) }
         ensures kept { OnErr result (seen (λ s. content s.boxed) self.new ≡ seen (λ s. content s.boxed) self.old) }
     {
         let Some((_, life)) = self.life(inc) else {
@@ -167,7 +187,11 @@ impl State {
     // How far the life of the server that stands at i is.
     fn set_life(&mut self, i: usize, inc: u32, life: Life)
         requires { IsNth inc self.old.instances.items i }
-        ensures set { IfSome (nth (seen (λ s. content s.boxed) self.old).instances inc) (λ x. seen (λ s. content s.boxed) self.new ≡ record (seen (λ s. content s.boxed) self.old) { instances = set_nth (seen (λ s. content s.boxed) self.old).instances inc (record x { life = life }) }) }
+        ensures set { IfSome (nth (seen (λ s. content s.boxed) self.old).instances inc)
+            (λ x. seen (λ s. content s.boxed) self.new ≡ record (seen (λ s. content s.boxed) self.old) {
+              instances =
+                  set_nth (seen (λ s. content s.boxed) self.old).instances inc (record x { life = life });
+            }) }
         ensures host { self.new.host ≡ self.old.host }
         ensures capacity { vec_capacity self.new.instances ≡ vec_capacity self.old.instances }
         ensures length { vec_len self.new.instances ≡ vec_len self.old.instances }
@@ -178,7 +202,8 @@ impl State {
     #[tactic(auto, using(crate::proofs::Servers::nth_at))]
     // The life of a server of this incarnation, and where it stands.
     pub(crate) fn life(&self, inc: u32) -> Option<(usize, Life)>
-        ensures { MatchOption result (nth (seen (λ s. content s.boxed) self.now).instances inc ≡ None) (Lives inc self.now.instances.items (seen (λ s. content s.boxed) self.now).instances) }
+        ensures { MatchOption result (nth (seen (λ s. content s.boxed) self.now).instances inc ≡ None)
+            (Lives inc self.now.instances.items (seen (λ s. content s.boxed) self.now).instances) }
     {
         match place(&self.instances, inc) {
             Some(i) => Some((i, self.instances[i].life)),
@@ -188,7 +213,12 @@ impl State {
 
     // The server of this incarnation ends, if there is one that runs.
     fn end_one(&mut self, inc: u32)
-        ensures ended { seen (λ s. content s.boxed) self.new ≡ record (seen (λ s. content s.boxed) self.old) { instances = ended_at inc (seen (λ s. content s.boxed) self.old).instances (nth (seen (λ s. content s.boxed) self.old).instances inc) } }
+        ensures ended { seen (λ s. content s.boxed) self.new
+            ≡ record (seen (λ s. content s.boxed) self.old) {
+              instances =
+                  ended_at inc (seen (λ s. content s.boxed) self.old).instances
+                  (nth (seen (λ s. content s.boxed) self.old).instances inc);
+            } }
         ensures host { self.new.host ≡ self.old.host }
         ensures capacity { vec_capacity self.new.instances ≡ vec_capacity self.old.instances }
         ensures length { vec_len self.new.instances ≡ vec_len self.old.instances }
@@ -201,7 +231,11 @@ impl State {
 
     // The servers of these incarnations end, one after the other.
     fn end(&mut self, ends: &[u32])
-        ensures ended { seen (λ s. content s.boxed) self.new ≡ record (seen (λ s. content s.boxed) self.old) { instances = ends_by ends.now (seen (λ s. content s.boxed) self.old).instances } }
+        ensures ended { seen (λ s. content s.boxed) self.new
+            ≡ record (seen (λ s. content s.boxed) self.old) {
+              instances =
+                  ends_by ends.now (seen (λ s. content s.boxed) self.old).instances;
+            } }
         ensures host { self.new.host ≡ self.old.host }
         ensures capacity { vec_capacity self.new.instances ≡ vec_capacity self.old.instances }
         ensures length { vec_len self.new.instances ≡ vec_len self.old.instances }
@@ -222,8 +256,14 @@ impl State {
     ///
     /// Refused: `NotEnabled` where it doesn't run; then `EventLimit`, then `NoMemory`. Then nothing changes.
     pub fn crash_here(&mut self, alloc: Global, inc: u32) -> Result<(), Stop>
-        ensures taken { OnOk result (limited (seen (λ s. content s.boxed) self.old) (crash (seen (λ s. content s.boxed) self.old) inc (nth (seen (λ s. content s.boxed) self.old).instances inc)) ≡ Ok (seen (λ s. content s.boxed) self.new)) }
-        ensures refused { IfErr result (Refuses (limited (seen (λ s. content s.boxed) self.old) (crash (seen (λ s. content s.boxed) self.old) inc (nth (seen (λ s. content s.boxed) self.old).instances inc)))) }
+        ensures taken { OnOk result (limited (seen (λ s. content s.boxed) self.old)
+            (crash (seen (λ s. content s.boxed) self.old) inc
+            (nth (seen (λ s. content s.boxed) self.old).instances inc))
+            ≡ Ok (seen (λ s. content s.boxed) self.new)) }
+        ensures refused { IfErr result
+            (Refuses (limited (seen (λ s. content s.boxed) self.old)
+            (crash (seen (λ s. content s.boxed) self.old) inc
+            (nth (seen (λ s. content s.boxed) self.old).instances inc)))) }
         ensures kept { OnErr result (seen (λ s. content s.boxed) self.new ≡ seen (λ s. content s.boxed) self.old) }
     {
         let Some((i, life)) = self.life(inc) else {
@@ -241,8 +281,10 @@ impl State {
 
     // A server crashes.
     fn crash(&mut self, alloc: Global, session: u32, inc: u32) -> Result<(), Stop>
-        ensures taken { OnOk result (step (seen (λ s. content s.boxed) self.old) no_choice (event.Crash session inc) ≡ Ok (seen (λ s. content s.boxed) self.new)) }
-        ensures refused { IfErr result (Refuses (step (seen (λ s. content s.boxed) self.old) no_choice (event.Crash session inc))) }
+        ensures taken { OnOk result (step (seen (λ s. content s.boxed) self.old) no_choice (event.Crash session inc)
+            ≡ Ok (seen (λ s. content s.boxed) self.new)) }
+        ensures refused { IfErr result
+            (Refuses (step (seen (λ s. content s.boxed) self.old) no_choice (event.Crash session inc))) }
         ensures kept { OnErr result (seen (λ s. content s.boxed) self.new ≡ seen (λ s. content s.boxed) self.old) }
     {
         if !self.is_in(session) {
@@ -253,8 +295,10 @@ impl State {
 
     // The end of a server is told.
     fn reap(&mut self, alloc: Global, inc: u32) -> Result<(), Stop>
-        ensures taken { OnOk result (step (seen (λ s. content s.boxed) self.old) no_choice (event.Reap inc) ≡ Ok (seen (λ s. content s.boxed) self.new)) }
-        ensures refused { IfErr result (Refuses (step (seen (λ s. content s.boxed) self.old) no_choice (event.Reap inc))) }
+        ensures taken { OnOk result (step (seen (λ s. content s.boxed) self.old) no_choice (event.Reap inc)
+            ≡ Ok (seen (λ s. content s.boxed) self.new)) }
+        ensures refused { IfErr result
+            (Refuses (step (seen (λ s. content s.boxed) self.old) no_choice (event.Reap inc))) }
         ensures kept { OnErr result (seen (λ s. content s.boxed) self.new ≡ seen (λ s. content s.boxed) self.old) }
     {
         let Some((i, life)) = self.life(inc) else {
@@ -280,7 +324,9 @@ impl State {
 
     // The commit of a frame's file is done.
     fn done(&mut self, alloc: Global, f: u32) -> Result<(), Stop>
-        ensures taken { OnOk result ((choice : Choice) × IsImage (seen (λ s. content s.boxed) self.old) choice (event.Done f) × (step (seen (λ s. content s.boxed) self.old) choice (event.Done f) ≡ Ok (seen (λ s. content s.boxed) self.new))) }
+        ensures taken { OnOk result ((choice : Choice) × IsImage (seen (λ s. content s.boxed) self.old) choice
+            (event.Done f) × (step (seen (λ s. content s.boxed) self.old) choice (event.Done f)
+            ≡ Ok (seen (λ s. content s.boxed) self.new))) }
         ensures refused { IfErr result (StopsAt (seen (λ s. content s.boxed) self.old) (event.Done f)) }
         ensures kept { OnErr result (seen (λ s. content s.boxed) self.new ≡ seen (λ s. content s.boxed) self.old) }
     {
@@ -296,7 +342,9 @@ impl State {
 
     // The commit of a frame's file fails.
     fn fail(&mut self, alloc: Global, f: u32) -> Result<(), Stop>
-        ensures taken { OnOk result ((choice : Choice) × IsImage (seen (λ s. content s.boxed) self.old) choice (event.Fail f) × (step (seen (λ s. content s.boxed) self.old) choice (event.Fail f) ≡ Ok (seen (λ s. content s.boxed) self.new))) }
+        ensures taken { OnOk result ((choice : Choice) × IsImage (seen (λ s. content s.boxed) self.old) choice
+            (event.Fail f) × (step (seen (λ s. content s.boxed) self.old) choice (event.Fail f)
+            ≡ Ok (seen (λ s. content s.boxed) self.new))) }
         ensures refused { IfErr result (StopsAt (seen (λ s. content s.boxed) self.old) (event.Fail f)) }
         ensures kept { OnErr result (seen (λ s. content s.boxed) self.new ≡ seen (λ s. content s.boxed) self.old) }
     {
@@ -312,7 +360,9 @@ impl State {
 
     // A commit in doubt was kept.
     fn keep(&mut self, alloc: Global, f: u32) -> Result<(), Stop>
-        ensures taken { OnOk result ((choice : Choice) × IsImage (seen (λ s. content s.boxed) self.old) choice (event.Resolve f true) × (step (seen (λ s. content s.boxed) self.old) choice (event.Resolve f true) ≡ Ok (seen (λ s. content s.boxed) self.new))) }
+        ensures taken { OnOk result ((choice : Choice) × IsImage (seen (λ s. content s.boxed) self.old) choice
+            (event.Resolve f true) × (step (seen (λ s. content s.boxed) self.old) choice (event.Resolve f true)
+            ≡ Ok (seen (λ s. content s.boxed) self.new))) }
         ensures refused { IfErr result (StopsAt (seen (λ s. content s.boxed) self.old) (event.Resolve f true)) }
         ensures kept { OnErr result (seen (λ s. content s.boxed) self.new ≡ seen (λ s. content s.boxed) self.old) }
     {
@@ -328,7 +378,9 @@ impl State {
 
     // A commit in doubt is lost.
     fn lose(&mut self, alloc: Global, f: u32) -> Result<(), Stop>
-        ensures taken { OnOk result ((choice : Choice) × IsImage (seen (λ s. content s.boxed) self.old) choice (event.Resolve f false) × (step (seen (λ s. content s.boxed) self.old) choice (event.Resolve f false) ≡ Ok (seen (λ s. content s.boxed) self.new))) }
+        ensures taken { OnOk result ((choice : Choice) × IsImage (seen (λ s. content s.boxed) self.old) choice
+            (event.Resolve f false) × (step (seen (λ s. content s.boxed) self.old) choice (event.Resolve f false)
+            ≡ Ok (seen (λ s. content s.boxed) self.new))) }
         ensures refused { IfErr result (StopsAt (seen (λ s. content s.boxed) self.old) (event.Resolve f false)) }
         ensures kept { OnErr result (seen (λ s. content s.boxed) self.new ≡ seen (λ s. content s.boxed) self.old) }
     {
@@ -350,8 +402,12 @@ impl State {
         width: u16,
         height: u16,
     ) -> Result<(), Stop>
-        ensures taken { OnOk result ((choice : Choice) × IsImage (seen (λ s. content s.boxed) self.old) choice (event.Open name.now width height) × (step (seen (λ s. content s.boxed) self.old) choice (event.Open name.now width height) ≡ Ok (seen (λ s. content s.boxed) self.new))) }
-        ensures refused { IfErr result (StopsAt (seen (λ s. content s.boxed) self.old) (event.Open name.now width height)) }
+        ensures taken { OnOk result ((choice : Choice) × IsImage (seen (λ s. content s.boxed) self.old) choice
+            (event.Open name.now width height)
+            × (step (seen (λ s. content s.boxed) self.old) choice (event.Open name.now width height)
+            ≡ Ok (seen (λ s. content s.boxed) self.new))) }
+        ensures refused { IfErr result (StopsAt (seen (λ s. content s.boxed) self.old)
+            (event.Open name.now width height)) }
         ensures kept { OnErr result (seen (λ s. content s.boxed) self.new ≡ seen (λ s. content s.boxed) self.old) }
     {
         self.host.open()?;
@@ -370,7 +426,8 @@ impl State {
     // The state of an activation of the server that stands at i.
     pub(crate) fn view(&self, i: usize, act: u32) -> Option<View>
         requires { i < length self.now.instances.items }
-        ensures { IfSome (slice_get self.now.instances.items i) (λ x. result ≡ view_in (seen_instance (λ s. content s.boxed) x).core act) }
+        ensures { IfSome (slice_get self.now.instances.items i)
+            (λ x. result ≡ view_in (seen_instance (λ s. content s.boxed) x).core act) }
     {
         match self.instances[i].core.activation(act) {
             Some(view) => Some(View {
@@ -386,7 +443,9 @@ impl State {
     ///
     /// Refused: why the event isn't taken; or `NoMemory`. Then nothing changes.
     pub fn step(&mut self, alloc: Global, event: &Event) -> Result<(), Stop>
-        ensures taken { OnOk result ((choice : Choice) × IsImage (seen (λ s. content s.boxed) self.old) choice event.now × (step (seen (λ s. content s.boxed) self.old) choice event.now ≡ Ok (seen (λ s. content s.boxed) self.new))) }
+        ensures taken { OnOk result ((choice : Choice) × IsImage (seen (λ s. content s.boxed) self.old) choice
+            event.now × (step (seen (λ s. content s.boxed) self.old) choice event.now
+            ≡ Ok (seen (λ s. content s.boxed) self.new))) }
         ensures refused { IfErr result (StopsAt (seen (λ s. content s.boxed) self.old) event.now) }
         ensures kept { OnErr result (seen (λ s. content s.boxed) self.new ≡ seen (λ s. content s.boxed) self.old) }
     {

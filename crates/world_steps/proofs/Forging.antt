@@ -1,9 +1,10 @@
--- Whatever comes on a link, sent or forged: the container takes it of the link's own server alone. What is taken with a forged
--- message is then of a hostile server.
-use Rattle.std.proofs.Common.{◌≡◌, ◌==◌, ℕ, Bool, true, false, List, [], ◌∷◌, ◌++◌, Result, Ok, Err, refl, ap, ◌∙◌, if◌then◌else◌}
+-- Whatever comes on a link, sent or forged: the container takes it of the link's own server alone. What is taken with a
+-- forged message is then of a hostile server.
+use Rattle.std.proofs.Common.{◌≡◌, ◌==◌, ℕ, Bool, true, false, List, [], ◌∷◌, ◌++◌, Result, Ok, Err, refl, ap, ◌∙◌}
+use Rattle.std.proofs.Common.{if◌then◌else◌}
 use Rattle.std.proofs.lemmas.Bool.{eqb-true}
-use Rattle.wire_msgs.specs.declared.message.Said.{Said}
-use Rattle.wire_msgs.specs.declared.message.Said.TheVariants.{Call, Reply, Write, Ask}
+use Rattle.message_values.specs.declared.message.Said.{Said}
+use Rattle.message_values.specs.declared.message.Said.TheVariants.{Call, Reply, Write, Ask}
 use Rattle.container_model.specs.declared.fault.ContainerFault.{ContainerFault}
 use Rattle.container_model.specs.declared.fault.ContainerFault.TheVariants.{WrongLink}
 use Rattle.container_model.specs.Record.{Record, Took}
@@ -16,7 +17,8 @@ use Rattle.world_facts.proofs.Honest.{just_hostile}
 pub own_link : (r : Record) (link : ℕ) (m : Said) (t : Took) → said_on r link m ≡ Ok t → server_of m ≡ link
 own_link r link m t e = of m e
   where
-    at : (inc : ℕ) (b : Bool) (told : Result Took ContainerFault) → (inc == link) ≡ b → (if b then told else Err WrongLink) ≡ Ok t → inc ≡ link
+    at : (inc : ℕ) (b : Bool) (told : Result Took ContainerFault) → (inc == link) ≡ b
+        → (if b then told else Err WrongLink) ≡ Ok t → inc ≡ link
     at inc true told q g = eqb-true inc link q
     at inc false told q g = cc
 
@@ -26,5 +28,7 @@ own_link r link m t e = of m e
     of (Write inc act s w content) g = at inc (inc == link) (on_write r inc act s w content) refl g
     of (Ask inc act g') g = at inc (inc == link) (on_ask r inc act g') refl g
 
-pub forged_hostile : (hostile : List ℕ) (r : Record) (link : ℕ) (m : Said) (t : Took) → said_on r link m ≡ Ok t → is_hostile (hostile ++ link ∷ []) (server_of m) ≡ true
-forged_hostile hostile r link m t e = ap (is_hostile (hostile ++ link ∷ [])) (own_link r link m t e) ∙ just_hostile hostile link
+pub forged_hostile : (hostile : List ℕ) (r : Record) (link : ℕ) (m : Said) (t : Took) → said_on r link m ≡ Ok t
+    → is_hostile (hostile ++ link ∷ []) (server_of m) ≡ true
+forged_hostile hostile r link m t e = ap (is_hostile (hostile ++ link ∷ [])) (own_link r link m t e)
+    ∙ just_hostile hostile link

@@ -1,10 +1,11 @@
 -- Links by the numbers of their objects, after changes of a record; and what a step's actions send and start.
-use Rattle.std.proofs.Common.{◌≡◌, ◌≢◌, ℕ, ◌+◌, Bool, true, false, List, [], ◌∷◌, ◌++◌, map, Option, Some, None, option_map, refl, sym, ap, ◌∙◌, if◌then◌else◌}
+use Rattle.std.proofs.Common.{◌≡◌, ◌≢◌, ℕ, ◌+◌, Bool, true, false, List, [], ◌∷◌, ◌++◌, map, Option, Some, None}
+use Rattle.std.proofs.Common.{option_map, refl, sym, ap, ◌∙◌, if◌then◌else◌}
 use Rattle.std.specs.Prelude.{IfSome}
 use Rattle.std.proofs.lemmas.Bool.{eqb-true}
 use Rattle.std.proofs.lemmas.List.{append-nil}
-use Rattle.wire_msgs.specs.Found.{find, put, nth}
-use Rattle.wire_msgs.specs.declared.message.Message.{Message}
+use Rattle.message_values.specs.Found.{find, put, nth}
+use Rattle.message_values.specs.declared.message.Message.{Message}
 use Rattle.container_model.specs.Record.{Record, is_object, sends}
 use Rattle.container_model.specs.Saves.{settled_action, settled_actions, is_ready}
 use Rattle.container_model.specs.declared.answer.Action.{Action}
@@ -12,8 +13,8 @@ use Rattle.container_model.specs.declared.answer.Action.TheVariants.{Send, Start
 use Rattle.container_model.specs.declared.record.Frame.{Frame}
 use Rattle.container_model.specs.declared.record.Link.{Link}
 use Rattle.container_model.specs.declared.record.Object.{Object}
-use Rattle.container_steady.specs.Roles.{role_in}
-use Rattle.container_steady.specs.Steady.{EachPair, InOrder, SteadyLink, SteadyObject, Steady, WaitsBehind}
+use Rattle.container_queues.specs.Roles.{role_in}
+use Rattle.container_queues.specs.Steady.{EachPair, InOrder, SteadyLink, SteadyObject, Steady, WaitsBehind}
 use Rattle.container_queues.proofs.SteadyLookups.{each_found}
 use Rattle.container_steady.proofs.SteadyRecords.{if_at, some_and}
 use Rattle.container_steady.proofs.SteadyFinds.{found_by_number, put_by_number, find-put_same, find-put_other, find-map}
@@ -32,16 +33,30 @@ pub record IsHeld (r : Record) (n : ℕ) (l : Link) : Type 0 where
   pub framed : nth r.frames object.frame ≡ Some frame
   pub steady : SteadyLink r.servers r.last_act frame.phase frame.asked frame.k (role_in frame.ui.state object.number) l
 
-pub found_held : (r : Record) (n : ℕ) (l : Link) (o : Object) → Steady r → find (is_object n) r.objects ≡ Some o → o.link ≡ Some l → IsHeld r n l
+pub found_held : (r : Record) (n : ℕ) (l : Link) (o : Object) → Steady r → find (is_object n) r.objects ≡ Some o
+    → o.link ≡ Some l → IsHeld r n l
 found_held r n l o s e is =
     let h = each_found (SteadyObject r) (is_object n) r.objects o s.objects e in
-    let f = some_and (λ (frame : Frame). IfSome o.link (SteadyLink r.servers r.last_act frame.phase frame.asked frame.k (role_in frame.ui.state o.number))) (nth r.frames o.frame) h.linked in
-    record { object = o; frame = f.0; found = e; linked = is; framed = f.1; steady = if_at (SteadyLink r.servers r.last_act f.0.phase f.0.asked f.0.k (role_in f.0.ui.state o.number)) o.link l is f.2 }
+    let f =
+    some_and (λ (frame : Frame). IfSome o.link
+    (SteadyLink r.servers r.last_act frame.phase frame.asked frame.k (role_in frame.ui.state o.number)))
+    (nth r.frames o.frame) h.linked in
+    record {
+      object = o;
+      frame = f.0;
+      found = e;
+      linked = is;
+      framed = f.1;
+      steady = if_at (SteadyLink r.servers r.last_act f.0.phase f.0.asked f.0.k (role_in f.0.ui.state o.number))
+          o.link l is f.2;
+    }
 
-pub linked_object : (os : List Object) (n : ℕ) (l : Link) → links_of os n ≡ Some l → (o : Object) × (find (is_object n) os ≡ Some o) × (o.link ≡ Some l)
+pub linked_object : (os : List Object) (n : ℕ) (l : Link) → links_of os n ≡ Some l → (o : Object)
+    × (find (is_object n) os ≡ Some o) × (o.link ≡ Some l)
 linked_object os n l e = at (find (is_object n) os) refl e
   where
-    at : (o : Option Object) → find (is_object n) os ≡ o → link_at o ≡ Some l → (x : Object) × (find (is_object n) os ≡ Some x) × (x.link ≡ Some l)
+    at : (o : Option Object) → find (is_object n) os ≡ o → link_at o ≡ Some l → (x : Object)
+        × (find (is_object n) os ≡ Some x) × (x.link ≡ Some l)
     at None f q = cc
     at (Some x) f q = (x, f, q)
 
@@ -59,7 +74,8 @@ pub found_number : (os : List Object) (n : ℕ) (o : Object) → find (is_object
 found_number os n o e = eqb-true o.number n (find_passes (is_object n) os o e)
 
 -- one object takes another's place
-module _ (os : List Object) (test : Object → Bool) (x a : Object) (order : EachPair InOrder os) (found : find test os ≡ Some x) (number : a.number ≡ x.number) where
+module _ (os : List Object) (test : Object → Bool) (x a : Object) (order : EachPair InOrder os)
+    (found : find test os ≡ Some x) (number : a.number ≡ x.number) where
   by_number : find (is_object x.number) os ≡ Some x
   by_number = found_by_number test os x order found
 
@@ -67,13 +83,16 @@ module _ (os : List Object) (test : Object → Bool) (x a : Object) (order : Eac
   link_was = ap link_at by_number
 
   pub put_here : links_of (put test a os) x.number ≡ a.link
-  put_here = ap (λ zs. links_of zs x.number) (put_by_number test a x os order found) ∙ ap link_at (find-put_same x.number a x os by_number number)
+  put_here = ap (λ zs. links_of zs x.number) (put_by_number test a x os order found)
+      ∙ ap link_at (find-put_same x.number a x os by_number number)
 
   pub put_there : (n : ℕ) → n ≢ x.number → links_of (put test a os) n ≡ links_of os n
-  put_there n ne = ap (λ zs. links_of zs n) (put_by_number test a x os order found) ∙ ap link_at (find-put_other x.number n a os number (λ e. ne (sym e)))
+  put_there n ne = ap (λ zs. links_of zs n) (put_by_number test a x os order found)
+      ∙ ap link_at (find-put_other x.number n a os number (λ e. ne (sym e)))
 
 -- each object is changed under its number
-pub link_mapped : (g : Object → Object) (os : List Object) (n : ℕ) → ((o : Object) → (g o).number ≡ o.number) → links_of (map g os) n ≡ link_at (option_map g (find (is_object n) os))
+pub link_mapped : (g : Object → Object) (os : List Object) (n : ℕ) → ((o : Object) → (g o).number ≡ o.number)
+    → links_of (map g os) n ≡ link_at (option_map g (find (is_object n) os))
 link_mapped g os n number = ap link_at (find-map n g os number)
 
 -- what is said by lists of messages that are joined
@@ -96,19 +115,27 @@ messages_join (Start inc ∷ xs) ys = messages_join xs ys
 messages_join (End inc ∷ xs) ys = messages_join xs ys
 messages_join (Commit f ∷ xs) ys = messages_join xs ys
 
-messages_settled_one : (f : ℕ) (os : List Object) (frame : Frame) (rest : List Action) → messages_of (settled_action f os frame ++ rest) ≡ messages_of rest
-messages_settled_one f os frame rest = elim (is_ready f os frame) as (λ b. messages_of ((if b then Commit f ∷ [] else []) ++ rest) ≡ messages_of rest) [ true ↦ refl | false ↦ refl ]
+messages_settled_one : (f : ℕ) (os : List Object) (frame : Frame) (rest : List Action)
+    → messages_of (settled_action f os frame ++ rest) ≡ messages_of rest
+messages_settled_one f os frame rest =
+    elim (is_ready f os frame) as (λ b. messages_of ((if b then Commit f ∷ [] else []) ++ rest)
+    ≡ messages_of rest) [ true ↦ refl | false ↦ refl ]
 
 pub messages_settled : (f : ℕ) (os : List Object) (frames : List Frame) → messages_of (settled_actions f os frames) ≡ []
 messages_settled f os [] = refl
-messages_settled f os (frame ∷ frames) = messages_settled_one f os frame (settled_actions (f + 1) os frames) ∙ messages_settled (f + 1) os frames
+messages_settled f os (frame ∷ frames) = messages_settled_one f os frame (settled_actions (f + 1) os frames)
+    ∙ messages_settled (f + 1) os frames
 
 -- what is said by an answer that sends messages and goes on with saves
-pub sent_of : (ms : List Message) (f : ℕ) (os : List Object) (frames : List Frame) → sayings_of (sends ms ++ settled_actions f os frames) ≡ all_said ms
-sent_of ms f os frames = ap all_said (messages_join (sends ms) (settled_actions f os frames) ∙ (ap (λ v. messages_of (sends ms) ++ v) (messages_settled f os frames) ∙ (append-nil (messages_of (sends ms)) ∙ messages_back ms)))
+pub sent_of : (ms : List Message) (f : ℕ) (os : List Object) (frames : List Frame)
+    → sayings_of (sends ms ++ settled_actions f os frames) ≡ all_said ms
+sent_of ms f os frames = ap all_said (messages_join (sends ms) (settled_actions f os frames)
+    ∙ (ap (λ v. messages_of (sends ms) ++ v) (messages_settled f os frames)
+    ∙ (append-nil (messages_of (sends ms)) ∙ messages_back ms)))
 
 -- no server is started by what is sent, nor by saves that go on
-pub no_start : (session numbers : ℕ) (ms : List Message) (rest : List Action) → started_by session numbers rest ≡ [] → started_by session numbers (sends ms ++ rest) ≡ []
+pub no_start : (session numbers : ℕ) (ms : List Message) (rest : List Action) → started_by session numbers rest ≡ []
+    → started_by session numbers (sends ms ++ rest) ≡ []
 no_start session numbers [] rest h = h
 no_start session numbers (m ∷ ms) rest h = no_start session numbers ms rest h
 
@@ -116,16 +143,19 @@ pub no_start_sent : (session numbers : ℕ) (ms : List Message) → started_by s
 no_start_sent session numbers [] = refl
 no_start_sent session numbers (m ∷ ms) = no_start_sent session numbers ms
 
-pub no_start_settled : (session numbers f : ℕ) (os : List Object) (frames : List Frame) → started_by session numbers (settled_actions f os frames) ≡ []
+pub no_start_settled : (session numbers f : ℕ) (os : List Object) (frames : List Frame)
+    → started_by session numbers (settled_actions f os frames) ≡ []
 no_start_settled session numbers f os [] = refl
 no_start_settled session numbers f os (frame ∷ frames) =
-    elim (is_ready f os frame) as (λ b. started_by session numbers ((if b then Commit f ∷ [] else []) ++ settled_actions (f + 1) os frames) ≡ []) [
+    elim (is_ready f os frame) as (λ b. started_by session numbers
+    ((if b then Commit f ∷ [] else []) ++ settled_actions (f + 1) os frames) ≡ []) [
       | true ↦ no_start_settled session numbers (f + 1) os frames
       | false ↦ no_start_settled session numbers (f + 1) os frames
     ]
 
 -- nor is one ended
-pub no_end : (ms : List Message) (rest : List Action) (is : List Instance) → ended_by rest is ≡ is → ended_by (sends ms ++ rest) is ≡ is
+pub no_end : (ms : List Message) (rest : List Action) (is : List Instance) → ended_by rest is ≡ is
+    → ended_by (sends ms ++ rest) is ≡ is
 no_end [] rest is h = h
 no_end (m ∷ ms) rest is h = no_end ms rest is h
 
@@ -133,10 +163,12 @@ pub no_end_sent : (ms : List Message) (is : List Instance) → ended_by (sends m
 no_end_sent [] is = refl
 no_end_sent (m ∷ ms) is = no_end_sent ms is
 
-pub no_end_settled : (f : ℕ) (os : List Object) (frames : List Frame) (is : List Instance) → ended_by (settled_actions f os frames) is ≡ is
+pub no_end_settled : (f : ℕ) (os : List Object) (frames : List Frame) (is : List Instance)
+    → ended_by (settled_actions f os frames) is ≡ is
 no_end_settled f os [] is = refl
 no_end_settled f os (frame ∷ frames) is =
-    elim (is_ready f os frame) as (λ b. ended_by ((if b then Commit f ∷ [] else []) ++ settled_actions (f + 1) os frames) is ≡ is) [
+    elim (is_ready f os frame) as (λ b. ended_by
+    ((if b then Commit f ∷ [] else []) ++ settled_actions (f + 1) os frames) is ≡ is) [
       | true ↦ no_end_settled (f + 1) os frames is
       | false ↦ no_end_settled (f + 1) os frames is
     ]

@@ -5,6 +5,8 @@ use Rattle.container_grants.proofs.grants.ask_number.Goals as goal
 
 pub invariant_of-objects : goal.invariant_of-objects
 invariant_of-objects c = record {
-  rising = one_kept c.args.objects.now.list.items c.in-Some.i c.ask_object.new.object c.index_mut.result.now c.args.objects.now.rising c.index_mut.ensures.value
-      (same_number c.ask_object.result c.ask_object.new.object c.index_mut.result.now _ refl c.ask_object.ensures.asked c.ask_object.ensures.kept);
+  rising = one_kept c.args.objects.now.list.items c.in-Some.i c.ask_object.new.object c.index_mut.result.now
+      c.args.objects.now.rising c.index_mut.ensures.value
+      (same_number c.ask_object.result c.ask_object.new.object c.index_mut.result.now _ refl
+      c.ask_object.ensures.asked c.ask_object.ensures.kept);
 }

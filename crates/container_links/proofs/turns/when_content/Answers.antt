@@ -1,13 +1,17 @@
 use Rattle.std.proofs.Common.{◌≡◌, ℕ, refl}
 use Rattle.object_state.specs.declared.operations.CloseOption.{CloseOption}
-use Rattle.wire_msgs.specs.declared.operation.Operation.{Operation}
-use Rattle.wire_msgs.specs.declared.operation.Operation.TheVariants.{InitNew, Load, InPlace, UiActivate, UiDeactivate, InPlaceDeactivate, OpenWindow, Edit, Save, HandsOff, SaveCompleted, SaveDropped, Close}
+use Rattle.message_values.specs.declared.operation.Operation.{Operation}
+use Rattle.message_values.specs.declared.operation.Operation.TheVariants.{InitNew, Load, InPlace, UiActivate}
+use Rattle.message_values.specs.declared.operation.Operation.TheVariants.{UiDeactivate, InPlaceDeactivate, OpenWindow}
+use Rattle.message_values.specs.declared.operation.Operation.TheVariants.{Edit, Save, HandsOff, SaveCompleted}
+use Rattle.message_values.specs.declared.operation.Operation.TheVariants.{SaveDropped, Close}
 use Rattle.container_links.specs.Answered.{when_content}
 use Rattle.container_links.specs.declared.turns.WhenContent.TheVariants.{Unasked}
 use Rattle.container_links.proofs.turns.when_content.Goals as goal
 
 -- the operations that are not answered by a content
-unasked : (op : Operation) → ((k : ℕ) → op ≡ Save k → ⊥) → ((option : CloseOption) → op ≡ Close option → ⊥) → Unasked ≡ when_content op
+unasked : (op : Operation) → ((k : ℕ) → op ≡ Save k → ⊥) → ((option : CloseOption) → op ≡ Close option → ⊥)
+    → Unasked ≡ when_content op
 unasked (InitNew class) f0 f1 = refl
 unasked (Load class content) f0 f1 = refl
 unasked InPlace f0 f1 = refl

@@ -1,15 +1,20 @@
 use Rattle.std.proofs.Common.{◌≡◌, refl}
-use Rattle.stored_values.specs.declared.bytes.Bytes.{Bytes}
-use Rattle.stored_values.specs.declared.class_id.ClassId.{ClassId}
-use Rattle.stored_streams.specs.declared.stored.Stored.{Stored}
-use Rattle.wire_msgs.specs.declared.operation.Operation.{Operation}
-use Rattle.wire_msgs.specs.declared.operation.Operation.TheVariants.{InitNew, Load, InPlace, UiActivate, UiDeactivate, InPlaceDeactivate, OpenWindow, Edit, Save, HandsOff, SaveCompleted, SaveDropped, Close}
+use Rattle.tree_values.specs.declared.bytes.Bytes.{Bytes}
+use Rattle.tree_values.specs.declared.class_id.ClassId.{ClassId}
+use Rattle.tree_streams.specs.declared.stored.Stored.{Stored}
+use Rattle.message_values.specs.declared.operation.Operation.{Operation}
+use Rattle.message_values.specs.declared.operation.Operation.TheVariants.{InitNew, Load, InPlace, UiActivate}
+use Rattle.message_values.specs.declared.operation.Operation.TheVariants.{UiDeactivate, InPlaceDeactivate, OpenWindow}
+use Rattle.message_values.specs.declared.operation.Operation.TheVariants.{Edit, Save, HandsOff, SaveCompleted}
+use Rattle.message_values.specs.declared.operation.Operation.TheVariants.{SaveDropped, Close}
 use Rattle.container_links.specs.Answered.{when_refused}
 use Rattle.container_links.specs.declared.turns.WhenRefused.TheVariants.{Unrefused}
 use Rattle.container_links.proofs.turns.when_refused.Goals as goal
 
 -- the operations that are not refused
-unrefused : (op : Operation) → ((class : ClassId) → op ≡ InitNew class → ⊥) → ((class : ClassId) → (content : Stored) → op ≡ Load class content → ⊥) → ((bytes : Bytes) → op ≡ Edit bytes → ⊥) → Unrefused ≡ when_refused op
+unrefused : (op : Operation) → ((class : ClassId) → op ≡ InitNew class → ⊥)
+    → ((class : ClassId) → (content : Stored) → op ≡ Load class content → ⊥)
+    → ((bytes : Bytes) → op ≡ Edit bytes → ⊥) → Unrefused ≡ when_refused op
 unrefused (InitNew class) f0 f1 f2 = absurd (f0 class refl)
 unrefused (Load class content) f0 f1 f2 = absurd (f1 class content refl)
 unrefused InPlace f0 f1 f2 = refl

@@ -3,4 +3,5 @@ use Rattle.container_model.specs.Saves.{counted_object}
 use Rattle.container_objects.proofs.commits.count_objects.Given as goal
 
 abbrev pub invariant-loop-object : goal.invariant-loop-object
-invariant-loop-object l = l.objects ≡ map (counted_object l.f) (take l.object-index l.fn.objects) ++ drop l.object-index l.fn.objects
+invariant-loop-object l = l.objects ≡ map (counted_object l.f) (take l.object-index l.fn.objects)
+    ++ drop l.object-index l.fn.objects

@@ -1,8 +1,8 @@
 use Rattle.std.proofs.Common.{◌∙◌, ◌≡◌, ℕ, List, ap, get_or, rules, subst}
 use Rattle.std.proofs.lemmas.List.{take_all}
-use Rattle.file_outline.specs.View.{shown}
+use Rattle.read_outlines.specs.View.{shown}
 use Rattle.folder_commands.specs.Chosen.{AllStand, standing}
-use Rattle.storage_tree.specs.Change.{inner, look}
+use Rattle.tree_storage.specs.Change.{inner, look}
 use Rattle.folder_commands.proofs.Found.{at_place, is_missing, is_there, stand_next}
 use Rattle.folder_commands.proofs.finding.find_all.Goals as goal
 
@@ -13,7 +13,8 @@ returns-in-Err-clause-missing c = λ content.
     let here : get_or c.args.paths.now c.loop-number.number path ≡ path = search (rules, c.index-paths-number.is) in (
       path,
       at_place c.args.paths.now c.loop-number.number path c.loop-number-test.true here,
-      is_missing c.find_at.result (look path (inner t)) c.in-Err.fault c.in-Err.is (c.find_at.ensures content ∙ ap (λ p. standing (look p (inner t))) c.names.ensures),
+      is_missing c.find_at.result (look path (inner t)) c.in-Err.fault c.in-Err.is
+          (c.find_at.ensures content ∙ ap (λ p. standing (look p (inner t))) c.names.ensures),
     )
 
 pub loop-number-preserved : goal.loop-number-preserved
@@ -28,4 +29,5 @@ loop-number-preserved c = λ content.
 
 pub returns-clause-found : goal.returns-clause-found
 returns-clause-found c = λ content.
-    subst (λ ps. AllStand ps (shown content c.args.outline.now)) (take_all c.loop-number.number c.args.paths.now c.loop-number-test.false) (c.loop-number.invariant content)
+    subst (λ ps. AllStand ps (shown content c.args.outline.now))
+    (take_all c.loop-number.number c.args.paths.now c.loop-number-test.false) (c.loop-number.invariant content)

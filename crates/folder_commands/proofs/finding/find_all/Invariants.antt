@@ -1,6 +1,6 @@
 use Rattle.std.proofs.Common.{ℕ, List, take}
-use Rattle.file_outline.specs.View.{shown}
-use Rattle.file_outline.specs.declared.outline.Place.{Place}
+use Rattle.read_outlines.specs.View.{shown}
+use Rattle.read_outlines.specs.declared.outline.Place.{Place}
 use Rattle.folder_commands.specs.Chosen.{AllStand}
 use Rattle.folder_commands.proofs.finding.find_all.Given as goal
 

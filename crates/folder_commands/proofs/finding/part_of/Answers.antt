@@ -1,9 +1,9 @@
 use Rattle.std.proofs.Common.{◌≡◌, ◌∙◌, ◌+◌, ◌∷◌, ℕ, List, true, false, ap, drop, get_or, is_eq, rules, sym}
 use Rattle.std.proofs.lemmas.List.{drop_more}
 use Rattle.cfb_names.specs.Names.{key, key_eq}
-use Rattle.storage_tree.specs.Change.{find}
-use Rattle.file_outline.specs.View.{shown_part, shown_parts}
-use Rattle.file_outline.proofs.Found.{found-behind, found-here}
+use Rattle.tree_storage.specs.Change.{find}
+use Rattle.read_outlines.specs.View.{shown_part, shown_parts}
+use Rattle.read_outlines.proofs.Found.{found-behind, found-here}
 use Rattle.folder_commands.proofs.finding.part_of.Goals as goal
 
 pub returns-then-is_eq-clause-found : goal.returns-then-is_eq-clause-found
@@ -12,7 +12,8 @@ returns-then-is_eq-clause-found c = λ content.
     let i : ℕ = c.loop-part.part-index in
     let p = c.part-item.result in
     let here : get_or items i p ≡ p = search (rules, c.part-item.is) in
-    let cut : drop i items ≡ p ∷ drop (i + 1) items = drop_more items i p c.loop-part-test.true ∙ ap (λ x. x ∷ drop (i + 1) items) here in
+    let cut : drop i items ≡ p ∷ drop (i + 1) items = drop_more items i p c.loop-part-test.true
+    ∙ ap (λ x. x ∷ drop (i + 1) items) here in
     let w : List ℕ = c.key-wanted.result in
     let rest = shown_parts content (drop (i + 1) items) in
     let hit : key_eq w (key p.0) ≡ true =
@@ -31,7 +32,8 @@ loop-part-preserved c = λ content.
     let i : ℕ = c.loop-part.part-index in
     let p = c.part-item.result in
     let here : get_or items i p ≡ p = search (rules, c.part-item.is) in
-    let cut : drop i items ≡ p ∷ drop (i + 1) items = drop_more items i p c.loop-part-test.true ∙ ap (λ x. x ∷ drop (i + 1) items) here in
+    let cut : drop i items ≡ p ∷ drop (i + 1) items = drop_more items i p c.loop-part-test.true
+    ∙ ap (λ x. x ∷ drop (i + 1) items) here in
     let w : List ℕ = c.key-wanted.result in
     let rest = shown_parts content (drop (i + 1) items) in
     let miss : key_eq w (key p.0) ≡ false =

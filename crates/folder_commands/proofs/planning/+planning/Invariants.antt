@@ -1,5 +1,5 @@
 use Rattle.std.proofs.Common.{◌≡◌, ◌++◌, ℕ, List, drop}
-use Rattle.file_outline.specs.declared.outline.Place.{Place}
+use Rattle.read_outlines.specs.declared.outline.Place.{Place}
 use Rattle.folder_commands.specs.Planned.{entries_of}
 use Rattle.folder_commands.proofs.Picked.{made_of}
 use Rattle.folder_commands.proofs.planning.+planning.Given as goal

@@ -10,4 +10,5 @@ returns-clause-given c k ys =
     let parts : a ++ b ≡ c.args.xs.now = search rules in
     let len : length a ≡ 16 = search rules in
     let same : c.from_bytes.result ≡ a = search rules in
-    subst (λ (x : List ℕ). bytes 16 k (x ++ ys) ≡ k c.from_bytes.result (b ++ ys)) parts (subst (λ (z : List ℕ). bytes 16 k ((a ++ b) ++ ys) ≡ k z (b ++ ys)) (sym same) (bytes_on 16 k a b ys len))
+    subst (λ (x : List ℕ). bytes 16 k (x ++ ys) ≡ k c.from_bytes.result (b ++ ys)) parts
+    (subst (λ (z : List ℕ). bytes 16 k ((a ++ b) ++ ys) ≡ k z (b ++ ys)) (sym same) (bytes_on 16 k a b ys len))

@@ -1,6 +1,6 @@
 use Rattle.std.proofs.Common.{◌≡◌, IsOk, []}
-use Rattle.storage_tree.specs.View.{children}
-use Rattle.document_model.specs.DocOf.{streams_behind}
+use Rattle.tree_storage.specs.View.{children}
+use Rattle.ole_model.specs.DocOf.{streams_behind}
 use Rattle.ole_streams.specs.Begun.{first_stream}
 use Rattle.ole_streams.proofs.document_of.streams_of.Given as goal
 

@@ -1,6 +1,6 @@
 use Rattle.std.proofs.Common.{◌≡◌, ap, ◌∙◌}
-use Rattle.ole_parts.specs.Fields.{on_ok}
-use Rattle.ole_parts.specs.OleStreams.{ole_read}
+use Rattle.ole_model.specs.Fields.{on_ok}
+use Rattle.ole_model.specs.OleStreams.{ole_read}
 use Rattle.ole_streams.proofs.document_of.take_ole.Goals as goal
 
 pub returns-in-Ok-clause-value : goal.returns-in-Ok-clause-value

@@ -1,9 +1,9 @@
 use Rattle.std.proofs.Common.{◌≡◌, ◌≤◌, length}
-use Rattle.document_model.specs.DocTree.{with_objects}
+use Rattle.ole_model.specs.DocTree.{with_objects}
 use Rattle.ole_streams.specs.Docs.{AreHeld}
-use Rattle.storage_tree.specs.Tree.{none}
-use Rattle.storage_tree.specs.View.{children}
-use Rattle.storage_tree.specs.Whole.{AreTrees}
+use Rattle.cfb_entries.specs.Tree.{none}
+use Rattle.tree_storage.specs.View.{children}
+use Rattle.cfb_entries.specs.Whole.{AreTrees}
 use Rattle.ole_streams.proofs.document_tree.with_objects.Given as goal
 
 abbrev pub invariant-loop-object : goal.invariant-loop-object

@@ -1,6 +1,6 @@
 use Rattle.std.proofs.Common.{ap, sym, ◌∙◌}
-use Rattle.storage_tree.specs.View.{children}
-use Rattle.document_model.specs.DocTree.{with_streams}
+use Rattle.tree_storage.specs.View.{children}
+use Rattle.ole_model.specs.DocTree.{with_streams}
 use Rattle.ole_streams.proofs.Writing.{with_streams-last}
 use Rattle.ole_streams.proofs.document_tree.with_streams.Goals as goal
 

@@ -1,8 +1,8 @@
 use Rattle.std.proofs.Common.{ℕ, ◌≡◌, length}
-use Rattle.document_model.specs.DocTree.{with_streams}
-use Rattle.storage_tree.specs.Tree.{none}
-use Rattle.storage_tree.specs.View.{children}
-use Rattle.storage_tree.specs.Whole.{AreTrees}
+use Rattle.ole_model.specs.DocTree.{with_streams}
+use Rattle.cfb_entries.specs.Tree.{none}
+use Rattle.tree_storage.specs.View.{children}
+use Rattle.cfb_entries.specs.Whole.{AreTrees}
 use Rattle.ole_streams.proofs.document_tree.with_streams.Given as goal
 
 abbrev pub invariant-loop-stream : goal.invariant-loop-stream

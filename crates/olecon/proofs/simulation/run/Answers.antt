@@ -1,6 +1,6 @@
 use Rattle.std.proofs.Common.{length, ap, arith}
-use Rattle.container_cli.proofs.Counted.{tells-few}
-use Rattle.container_cli.proofs.Ending.{simulated}
+use Rattle.text_worlds.proofs.Counted.{tells-few}
+use Rattle.text_worlds.proofs.Ending.{simulated}
 use Rattle.olecon.proofs.Reached.{safe_told}
 use Rattle.olecon.proofs.simulation.run.Goals as goal
 
@@ -12,5 +12,6 @@ pub returns : goal.returns
 returns g c =
     simulated c.args.limits.numbers _ c.args.moments.now c.run-taken.result.0 c.run-taken.result.1 _ _
     c.new-out.result.items c.push_told.new.out.items
-    c.new-world.ensures.empty c.run-taken.ensures.taken (safe_told _ _ _ _ _ c.new-world.ensures.empty c.run-taken.ensures.taken) c.run-taken.ensures.stop
+    c.new-world.ensures.empty c.run-taken.ensures.taken
+    (safe_told _ _ _ _ _ c.new-world.ensures.empty c.run-taken.ensures.taken) c.run-taken.ensures.stop
     c.new-out.ensures.items c.in_ok-push_told.ensures

@@ -10,39 +10,56 @@ use Rattle.script_commands.proofs.Lines.{one_link}
 use Rattle.script_commands.proofs.cutting.cut.Goals as goal
 
 pub send_turn-requires-clause-within : goal.send_turn-requires-clause-within
-send_turn-requires-clause-within g c = rests_within (g.H.Host.told c.args.host.now) c.index.result.now.inc c.requires.rested
+send_turn-requires-clause-within g c = rests_within (g.H.Host.told c.args.host.now) c.index.result.now.inc
+    c.requires.rested
 
 pub reconnect_at-requires-clause-may : goal.reconnect_at-requires-clause-may
 reconnect_at-requires-clause-may g c = λ d.
-    subst (λ (l : Link). MayLink (pace l.inc (g.H.Host.told c.send_turn.new.host))) (c.index.ensures ∙ any_at c.args.links.now.items c.args.place c.index.result.now d c.requires.within)
-    (cut_may (g.H.Host.told c.args.host.now) (g.H.Host.told c.send_turn.new.host) c.index.result.now.inc c.requires.rested c.in_ok-send_turn.ensures.sent)
+    subst (λ (l : Link). MayLink (pace l.inc (g.H.Host.told c.send_turn.new.host)))
+    (c.index.ensures ∙ any_at c.args.links.now.items c.args.place c.index.result.now d c.requires.within)
+    (cut_may (g.H.Host.told c.args.host.now) (g.H.Host.told c.send_turn.new.host) c.index.result.now.inc
+    c.requires.rested c.in_ok-send_turn.ensures.sent)
 
 pub returns-then-made-clause-ready : goal.returns-then-made-clause-ready
 returns-then-made-clause-ready g c =
-    cut_ready (g.H.Host.told c.args.host.now) (g.H.Host.told c.send_turn.new.host) (g.H.Host.told c.reconnect_at.new.host) c.index.result.now.inc c.requires.rested c.send_turn.ensures.aside
-    (subst (λ (l : Link). (s : ℕ) → pace_beside l.inc s (g.H.Host.told c.reconnect_at.new.host) ≡ pace_beside l.inc s (g.H.Host.told c.send_turn.new.host)) (sym c.index.ensures) (c.reconnect_at.ensures.aside c.index.result.now))
+    cut_ready (g.H.Host.told c.args.host.now) (g.H.Host.told c.send_turn.new.host)
+    (g.H.Host.told c.reconnect_at.new.host) c.index.result.now.inc c.requires.rested c.send_turn.ensures.aside
+    (subst (λ (l : Link). (s : ℕ) → pace_beside l.inc s (g.H.Host.told c.reconnect_at.new.host)
+    ≡ pace_beside l.inc s (g.H.Host.told c.send_turn.new.host)) (sym c.index.ensures)
+    (c.reconnect_at.ensures.aside c.index.result.now))
     c.reconnect_at.new.links.items c.in_ok-made.made c.if-made.true c.in_ok-send_turn.ensures.sent
-    (subst (λ (l : Link). pace l.inc (g.H.Host.told c.reconnect_at.new.host) ≡ linking c.in_ok-made.made (pace l.inc (g.H.Host.told c.send_turn.new.host))) (sym c.index.ensures) (c.in_ok-made.ensures.made c.index.result.now))
+    (subst (λ (l : Link). pace l.inc (g.H.Host.told c.reconnect_at.new.host)
+    ≡ linking c.in_ok-made.made (pace l.inc (g.H.Host.told c.send_turn.new.host))) (sym c.index.ensures)
+    (c.in_ok-made.ensures.made c.index.result.now))
 
 pub returns-clause-ready : goal.returns-clause-ready
 returns-clause-ready g c =
-    let within : c.args.place < length c.reconnect_at.new.links.items = subst (λ (k : ℕ). c.args.place < k) (sym c.reconnect_at.ensures.many) c.requires.within in
-    let none = none_ended (g.H.Host.told c.reconnect_at.new.host) c.reconnect_at.new.links.items c.end_at.new.links.items c.args.place c.index.result.now.inc c.index.result.now within
-    (c.reconnect_at.ensures.same c.index.result.now ∙ ap (λ (l : Link). l.inc) (sym c.index.ensures)) (c.reconnect_at.ensures.told c.args.core.now c.send_turn.ensures.told).single c.reconnect_at.ensures.linked c.end_at.ensures.rest in
+    let within : c.args.place < length c.reconnect_at.new.links.items =
+    subst (λ (k : ℕ). c.args.place < k) (sym c.reconnect_at.ensures.many) c.requires.within in
+    let none = none_ended (g.H.Host.told c.reconnect_at.new.host) c.reconnect_at.new.links.items
+    c.end_at.new.links.items c.args.place c.index.result.now.inc c.index.result.now within
+    (c.reconnect_at.ensures.same c.index.result.now ∙ ap (λ (l : Link). l.inc) (sym c.index.ensures))
+    (c.reconnect_at.ensures.told c.args.core.now c.send_turn.ensures.told).single c.reconnect_at.ensures.linked
+    c.end_at.ensures.rest in
     on_ok c.end_at.result (AreReady 1 (g.H.Host.told c.end_at.new.host) c.end_at.new.links.items)
-    (cut_ended (g.H.Host.told c.args.host.now) (g.H.Host.told c.send_turn.new.host) (g.H.Host.told c.reconnect_at.new.host) c.index.result.now.inc c.requires.rested c.send_turn.ensures.aside
-    (subst (λ (l : Link). (s : ℕ) → pace_beside l.inc s (g.H.Host.told c.reconnect_at.new.host) ≡ pace_beside l.inc s (g.H.Host.told c.send_turn.new.host)) (sym c.index.ensures) (c.reconnect_at.ensures.aside c.index.result.now))
+    (cut_ended (g.H.Host.told c.args.host.now) (g.H.Host.told c.send_turn.new.host)
+    (g.H.Host.told c.reconnect_at.new.host) c.index.result.now.inc c.requires.rested c.send_turn.ensures.aside
+    (subst (λ (l : Link). (s : ℕ) → pace_beside l.inc s (g.H.Host.told c.reconnect_at.new.host)
+    ≡ pace_beside l.inc s (g.H.Host.told c.send_turn.new.host)) (sym c.index.ensures)
+    (c.reconnect_at.ensures.aside c.index.result.now))
     (g.H.Host.told c.end_at.new.host) c.end_at.new.links.items c.end_at.ensures.paced none)
 
 pub returns-in_err-send_turn-clause-shown : goal.returns-in_err-send_turn-clause-shown
 returns-in_err-send_turn-clause-shown g c =
     let again : IsErrAnd c.from_residual.result (λ x. x ≡ c.in_err-send_turn.field-0.0) = search rules in
-    passed_on g.H.Disk.Disk c.from_residual.result c.in_err-send_turn.field-0.0 (g.H.Host.told c.send_turn.new.host) again c.in_err-send_turn.ensures.shown
+    passed_on g.H.Disk.Disk c.from_residual.result c.in_err-send_turn.field-0.0 (g.H.Host.told c.send_turn.new.host)
+    again c.in_err-send_turn.ensures.shown
 
 pub returns-in_err-made-clause-shown : goal.returns-in_err-made-clause-shown
 returns-in_err-made-clause-shown g c =
     let again : IsErrAnd c.from_residual-in_err-made.result (λ x. x ≡ c.in_err-made.field-0.0) = search rules in
-    lacking_on g.H.Disk.Disk c.from_residual-in_err-made.result c.in_err-made.field-0.0 (g.H.Host.told c.reconnect_at.new.host) again c.in_err-made.ensures.lacking
+    lacking_on g.H.Disk.Disk c.from_residual-in_err-made.result c.in_err-made.field-0.0
+    (g.H.Host.told c.reconnect_at.new.host) again c.in_err-made.ensures.lacking
 
 pub returns-clause-holding : goal.returns-clause-holding
 returns-clause-holding g c = λ f hold. c.end_at.ensures.holding f (c.reconnect_at.ensures.holding f hold)
@@ -50,10 +67,12 @@ returns-clause-holding g c = λ f hold. c.end_at.ensures.holding f (c.reconnect_
 pub returns-then-made-clause-anew : goal.returns-then-made-clause-anew
 returns-then-made-clause-anew g c = λ d.
     let inc = (slice_index_or c.args.links.now.items c.args.place d).inc in
-    one_link (pace inc (g.H.Host.told c.send_turn.new.host)) (pace inc (g.H.Host.told c.reconnect_at.new.host)) c.in_ok-made.made (c.in_ok-made.ensures.made d)
+    one_link (pace inc (g.H.Host.told c.send_turn.new.host)) (pace inc (g.H.Host.told c.reconnect_at.new.host))
+    c.in_ok-made.made (c.in_ok-made.ensures.made d)
 
 pub returns-clause-anew : goal.returns-clause-anew
 returns-clause-anew g c = λ d.
     let inc = (slice_index_or c.args.links.now.items c.args.place d).inc in
     on_ok c.end_at.result (1 ≤ (pace inc (g.H.Host.told c.end_at.new.host)).links)
-    (one_link (pace inc (g.H.Host.told c.send_turn.new.host)) (pace inc (g.H.Host.told c.end_at.new.host)) c.in_ok-made.made (c.end_at.ensures.paced inc ∙ c.in_ok-made.ensures.made d))
+    (one_link (pace inc (g.H.Host.told c.send_turn.new.host)) (pace inc (g.H.Host.told c.end_at.new.host))
+    c.in_ok-made.made (c.end_at.ensures.paced inc ∙ c.in_ok-made.ensures.made d))

@@ -18,7 +18,8 @@ loop-action-preserved g c = record {
 pub returns-in_err-end_on-clause-shown : goal.returns-in_err-end_on-clause-shown
 returns-in_err-end_on-clause-shown g c =
     let again : IsErrAnd c.from_residual.result (λ x. x ≡ c.in_err-end_on.field-0.0) = search rules in
-    passed_on g.H.Disk.Disk c.from_residual.result c.in_err-end_on.field-0.0 (g.H.Host.told c.end_on.new.host) again c.in_err-end_on.ensures.shown
+    passed_on g.H.Disk.Disk c.from_residual.result c.in_err-end_on.field-0.0 (g.H.Host.told c.end_on.new.host) again
+    c.in_err-end_on.ensures.shown
 
 pub returns-in_err-end_on-clause-holding : goal.returns-in_err-end_on-clause-holding
 returns-in_err-end_on-clause-holding g c = λ f hold. c.end_on.ensures.holding f (c.loop-action.invariant.holding f hold)

@@ -3,7 +3,7 @@ use Rattle.script_model.specs.Bounds.{pace}
 use Rattle.script_model.specs.Courses.{course}
 use Rattle.script_model.specs.Notices.{Tells, notices}
 use Rattle.script_links.specs.Links.{AreLinked, AreServed, HoldFor}
-use Rattle.script_links.specs.Told.{IsTold}
+use Rattle.script_container.specs.Told.{IsTold}
 use Rattle.script_container.specs.Handed.{handed}
 use Rattle.script_commands.proofs.ending.end_asked.Given as goal
 

@@ -6,7 +6,7 @@ use Rattle.script_model.specs.Events.{running}
 use Rattle.script_model.specs.Notices.{Tells, notices}
 use Rattle.script_model.specs.Origins.{AreNext, giving, passed}
 use Rattle.script_links.specs.Links.{beside}
-use Rattle.script_links.specs.Told.{IsTold}
+use Rattle.script_container.specs.Told.{IsTold}
 use Rattle.script_container.specs.Handed.{handed}
 use Rattle.script_commands.proofs.holding.hand_all.Given as goal
 
@@ -18,7 +18,8 @@ invariant-loop-taken g l = record {
   handing : (f : ℕ → Bool) → f l.inc ≡ false → handed f (g.H.Host.told l.host) ≡ handed f (g.H.Host.told l.fn.host);
   paced : (s : ℕ) → pace s (g.H.Host.told l.host) ≡ pace s (g.H.Host.told l.fn.host);
   next : AreNext (passed l.inc (g.H.Host.told l.host)) (into_iter_items l.taken-iterator);
-  given : giving (into_iter_items l.taken-iterator) (passed l.inc (g.H.Host.told l.host)) ≡ giving l.fn.waiting (passed l.inc (g.H.Host.told l.fn.host));
+  given : giving (into_iter_items l.taken-iterator) (passed l.inc (g.H.Host.told l.host))
+      ≡ giving l.fn.waiting (passed l.inc (g.H.Host.told l.fn.host));
   ordered : course (g.H.Host.told l.host) ≡ course (g.H.Host.told l.fn.host);
   seen : Tells (notices (g.H.Host.told l.host)) l.noticed;
 }

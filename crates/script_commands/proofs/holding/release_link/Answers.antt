@@ -12,32 +12,46 @@ use Rattle.script_commands.proofs.holding.release_link.Goals as goal
 pub returns-in_err-release-clause-shown : goal.returns-in_err-release-clause-shown
 returns-in_err-release-clause-shown g c =
     let again : IsErrAnd c.from_residual.result (λ x. x ≡ c.in_err-release.field-0.0) = search rules in
-    passed_on g.H.Disk.Disk c.from_residual.result c.in_err-release.field-0.0 (g.H.Host.told c.release.new.host) again c.in_err-release.ensures.shown
+    passed_on g.H.Disk.Disk c.from_residual.result c.in_err-release.field-0.0 (g.H.Host.told c.release.new.host)
+    again c.in_err-release.ensures.shown
 
 pub returns-in_default-clause-holding : goal.returns-in_default-clause-holding
 returns-in_default-clause-holding g c =
     let none : links_of c.args.inc c.deref.result.now ≡ 0 = c.in_default.ensures.none in
-    λ f hold. set_none f c.args.inc false c.args.links.now.items (ap (links_of c.args.inc) (sym c.deref.ensures.value) ∙ none) hold
+    λ f hold. set_none f c.args.inc false c.args.links.now.items
+    (ap (links_of c.args.inc) (sym c.deref.ensures.value) ∙ none) hold
 
 pub returns-in_err-release-clause-holding : goal.returns-in_err-release-clause-holding
-returns-in_err-release-clause-holding g c = λ f hold. c.release.ensures.holding f c.args.inc (subst (λ (ls : List Link). IsLinkAt ls c.in-Some.place c.args.inc) c.deref.ensures.value c.in-Some.ensures.there) hold
+returns-in_err-release-clause-holding g c = λ f hold. c.release.ensures.holding f c.args.inc
+    (subst (λ (ls : List Link). IsLinkAt ls c.in-Some.place c.args.inc) c.deref.ensures.value
+    c.in-Some.ensures.there) hold
 
 pub returns-clause-holding : goal.returns-clause-holding
-returns-clause-holding g c = λ f hold. c.release.ensures.holding f c.args.inc (subst (λ (ls : List Link). IsLinkAt ls c.in-Some.place c.args.inc) c.deref.ensures.value c.in-Some.ensures.there) hold
+returns-clause-holding g c = λ f hold. c.release.ensures.holding f c.args.inc
+    (subst (λ (ls : List Link). IsLinkAt ls c.in-Some.place c.args.inc) c.deref.ensures.value
+    c.in-Some.ensures.there) hold
 
 pub returns-in_default-clause-first : goal.returns-in_default-clause-first
 returns-in_default-clause-first g c =
-    let none : running c.args.inc (g.H.Host.told c.args.host.now) ≡ 0 = c.requires.linked c.args.inc ∙ ap (links_of c.args.inc) (sym c.deref.ensures.value) ∙ c.in_default.ensures.none in
+    let none : running c.args.inc (g.H.Host.told c.args.host.now) ≡ 0 = c.requires.linked c.args.inc
+    ∙ ap (links_of c.args.inc) (sym c.deref.ensures.value) ∙ c.in_default.ensures.none in
     told_none (running c.args.inc (g.H.Host.told c.args.host.now)) none
 
 pub returns-clause-first : goal.returns-clause-first
 returns-clause-first g c =
     told_some (running c.args.inc (g.H.Host.told c.args.host.now))
     (linked_runs c.args.inc (g.H.Host.told c.args.host.now) c.args.links.now.items c.requires.linked
-    (linked_there c.args.inc c.args.links.now.items c.in-Some.place (subst (λ (ls : List Link). c.in-Some.place < length ls) c.deref.ensures.value c.in-Some.ensures.within) (subst (λ (ls : List Link). IsLinkAt ls c.in-Some.place c.args.inc) c.deref.ensures.value c.in-Some.ensures.there)))
+    (linked_there c.args.inc c.args.links.now.items c.in-Some.place
+    (subst (λ (ls : List Link). c.in-Some.place < length ls) c.deref.ensures.value c.in-Some.ensures.within)
+    (subst (λ (ls : List Link). IsLinkAt ls c.in-Some.place c.args.inc) c.deref.ensures.value
+    c.in-Some.ensures.there)))
 
 pub returns-in_err-release-clause-handing : goal.returns-in_err-release-clause-handing
-returns-in_err-release-clause-handing g c = λ f free. c.release.ensures.handing f c.args.inc (subst (λ (ls : List Link). IsLinkAt ls c.in-Some.place c.args.inc) c.deref.ensures.value c.in-Some.ensures.there) free
+returns-in_err-release-clause-handing g c = λ f free. c.release.ensures.handing f c.args.inc
+    (subst (λ (ls : List Link). IsLinkAt ls c.in-Some.place c.args.inc) c.deref.ensures.value
+    c.in-Some.ensures.there) free
 
 pub returns-clause-handing : goal.returns-clause-handing
-returns-clause-handing g c = λ f free. c.release.ensures.handing f c.args.inc (subst (λ (ls : List Link). IsLinkAt ls c.in-Some.place c.args.inc) c.deref.ensures.value c.in-Some.ensures.there) free
+returns-clause-handing g c = λ f free. c.release.ensures.handing f c.args.inc
+    (subst (λ (ls : List Link). IsLinkAt ls c.in-Some.place c.args.inc) c.deref.ensures.value
+    c.in-Some.ensures.there) free

@@ -10,10 +10,12 @@ use Rattle.script_commands.proofs.launching.start_asked.Goals as goal
 pub returns-in_err-start_on-clause-shown : goal.returns-in_err-start_on-clause-shown
 returns-in_err-start_on-clause-shown g c =
     let again : IsErrAnd c.from_residual.result (λ x. x ≡ c.in_err-start_on.field-0.0) = search rules in
-    passed_on g.H.Disk.Disk c.from_residual.result c.in_err-start_on.field-0.0 (g.H.Host.told c.start_on.new.host) again c.in_err-start_on.ensures.shown
+    passed_on g.H.Disk.Disk c.from_residual.result c.in_err-start_on.field-0.0 (g.H.Host.told c.start_on.new.host)
+    again c.in_err-start_on.ensures.shown
 
 pub returns-in_err-start_on-clause-holding : goal.returns-in_err-start_on-clause-holding
-returns-in_err-start_on-clause-holding g c = λ f hold. c.start_on.ensures.holding f (c.loop-action.invariant.holding f hold)
+returns-in_err-start_on-clause-holding g c = λ f hold. c.start_on.ensures.holding f
+    (c.loop-action.invariant.holding f hold)
 
 pub loop-action-preserved : goal.loop-action-preserved
 loop-action-preserved g c = record {
@@ -27,10 +29,15 @@ loop-action-preserved g c = record {
   noticed = c.start_on.ensures.noticed ∙ c.loop-action.invariant.noticed;
   wanted = c.in_ok-start_on.ensures.tried (starts_in (drop (c.loop-action.action-index + 1) c.args.answer.now.actions))
       (subst (λ (ts : List ℕ). AreIn (course (g.H.Host.told c.loop-action.host)).unstarted ts)
-      (starts_at c.args.answer.now.actions c.loop-action.action-index c.action-item.result (subst (λ (xs : List Action). c.loop-action.action-index < length xs) c.as_slice-action-items.ensures c.loop-action-test.true)
-      (c.action-item.is ∙ ap (λ (xs : List Action). slice_index_or xs c.loop-action.action-index c.action-item.result) c.as_slice-action-items.ensures)) c.loop-action.invariant.wanted);
+      (starts_at c.args.answer.now.actions c.loop-action.action-index c.action-item.result
+      (subst (λ (xs : List Action). c.loop-action.action-index < length xs) c.as_slice-action-items.ensures
+      c.loop-action-test.true)
+      (c.action-item.is ∙ ap (λ (xs : List Action). slice_index_or xs c.loop-action.action-index
+      c.action-item.result) c.as_slice-action-items.ensures)) c.loop-action.invariant.wanted);
 }
 
 pub returns-clause-tried : goal.returns-clause-tried
 returns-clause-tried g c =
-    all_tried (course (g.H.Host.told c.loop-action.host)).unstarted c.args.answer.now.actions c.loop-action.action-index (subst (λ (xs : List Action). length xs ≤ c.loop-action.action-index) c.as_slice-action-items.ensures c.loop-action-test.false) c.loop-action.invariant.wanted
+    all_tried (course (g.H.Host.told c.loop-action.host)).unstarted c.args.answer.now.actions
+    c.loop-action.action-index (subst (λ (xs : List Action). length xs ≤ c.loop-action.action-index)
+    c.as_slice-action-items.ensures c.loop-action-test.false) c.loop-action.invariant.wanted

@@ -3,7 +3,7 @@ use Rattle.script_model.specs.Bounds.{pace}
 use Rattle.script_model.specs.Courses.{but_starts, course, starts_in}
 use Rattle.script_model.specs.Notices.{notices}
 use Rattle.script_links.specs.Links.{AreHeld, AreLinked, AreServed}
-use Rattle.script_links.specs.Told.{IsTold}
+use Rattle.script_container.specs.Told.{IsTold}
 use Rattle.script_commands.specs.Starts.{AreIn}
 use Rattle.script_container.specs.Handed.{handed}
 use Rattle.script_commands.proofs.launching.start_asked.Given as goal

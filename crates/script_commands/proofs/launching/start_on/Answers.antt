@@ -7,5 +7,7 @@ use Rattle.script_commands.proofs.launching.start_on.Goals as goal
 
 pub returns-in-Start-clause-tried : goal.returns-in-Start-clause-tried
 returns-in-Start-clause-tried g c = λ incs all.
-    one_tried c.start.result c.in-Start.inc (course (g.H.Host.told c.args.host.now)).unstarted (course (g.H.Host.told c.start.new.host)).unstarted incs c.start.ensures.tried
-    (subst (λ (a : Action). AreIn (course (g.H.Host.told c.args.host.now)).unstarted (with_start a incs)) c.in-Start.is all)
+    one_tried c.start.result c.in-Start.inc (course (g.H.Host.told c.args.host.now)).unstarted
+    (course (g.H.Host.told c.start.new.host)).unstarted incs c.start.ensures.tried
+    (subst (λ (a : Action). AreIn (course (g.H.Host.told c.args.host.now)).unstarted (with_start a incs))
+    c.in-Start.is all)

@@ -11,32 +11,41 @@ use Rattle.script_commands.proofs.ordering.act.Goals as goal
 pub returns-in_err-start_asked-clause-shown : goal.returns-in_err-start_asked-clause-shown
 returns-in_err-start_asked-clause-shown g c =
     let again : IsErrAnd c.from_residual.result (λ x. x ≡ c.in_err-start_asked.field-0.0) = search rules in
-    passed_on g.H.Disk.Disk c.from_residual.result c.in_err-start_asked.field-0.0 (g.H.Host.told c.start_asked.new.host) again c.in_err-start_asked.ensures.shown
+    passed_on g.H.Disk.Disk c.from_residual.result c.in_err-start_asked.field-0.0
+    (g.H.Host.told c.start_asked.new.host) again c.in_err-start_asked.ensures.shown
 
 pub returns-in_err-end_asked-clause-shown : goal.returns-in_err-end_asked-clause-shown
 returns-in_err-end_asked-clause-shown g c =
-    let again : IsErrAnd c.from_residual-in_err-end_asked.result (λ x. x ≡ c.in_err-end_asked.field-0.0) = search rules in
-    passed_on g.H.Disk.Disk c.from_residual-in_err-end_asked.result c.in_err-end_asked.field-0.0 (g.H.Host.told c.end_asked.new.host) again c.in_err-end_asked.ensures.shown
+    let again : IsErrAnd c.from_residual-in_err-end_asked.result (λ x. x ≡ c.in_err-end_asked.field-0.0) =
+    search rules in
+    passed_on g.H.Disk.Disk c.from_residual-in_err-end_asked.result c.in_err-end_asked.field-0.0
+    (g.H.Host.told c.end_asked.new.host) again c.in_err-end_asked.ensures.shown
 
 pub returns-in_err-end_asked-clause-holding : goal.returns-in_err-end_asked-clause-holding
-returns-in_err-end_asked-clause-holding g c = λ f hold. c.end_asked.ensures.holding f (c.start_asked.ensures.holding f hold).each
+returns-in_err-end_asked-clause-holding g c = λ f hold. c.end_asked.ensures.holding f
+    (c.start_asked.ensures.holding f hold).each
 
 pub returns-clause-holding : goal.returns-clause-holding
 returns-clause-holding g c = λ f hold. c.end_asked.ensures.holding f (c.start_asked.ensures.holding f hold).each
 
 pub end_asked-requires-clause-seen : goal.end_asked-requires-clause-seen
-end_asked-requires-clause-seen g c = seen_still (notices (g.H.Host.told c.args.host.now)) (notices (g.H.Host.told c.start_asked.new.host)) c.args.noticed.now c.start_asked.ensures.noticed c.requires.seen
+end_asked-requires-clause-seen g c = seen_still (notices (g.H.Host.told c.args.host.now))
+    (notices (g.H.Host.told c.start_asked.new.host)) c.args.noticed.now c.start_asked.ensures.noticed
+    c.requires.seen
 
 pub returns-in_err-end_asked-clause-ordered : goal.returns-in_err-end_asked-clause-ordered
-returns-in_err-end_asked-clause-ordered g c = starts_same (g.H.Host.told c.start_asked.new.host) (g.H.Host.told c.end_asked.new.host) c.end_asked.ensures.ordered ∙ c.start_asked.ensures.ordered
+returns-in_err-end_asked-clause-ordered g c = starts_same (g.H.Host.told c.start_asked.new.host)
+    (g.H.Host.told c.end_asked.new.host) c.end_asked.ensures.ordered ∙ c.start_asked.ensures.ordered
 
 pub returns-clause-ordered : goal.returns-clause-ordered
-returns-clause-ordered g c = starts_same (g.H.Host.told c.start_asked.new.host) (g.H.Host.told c.save_all.new.host) (c.save_all.ensures.ordered ∙ c.end_asked.ensures.ordered) ∙ c.start_asked.ensures.ordered
+returns-clause-ordered g c = starts_same (g.H.Host.told c.start_asked.new.host) (g.H.Host.told c.save_all.new.host)
+    (c.save_all.ensures.ordered ∙ c.end_asked.ensures.ordered) ∙ c.start_asked.ensures.ordered
 
 pub returns-clause-tried : goal.returns-clause-tried
 returns-clause-tried g c =
     on_ok c.save_all.result ((course (g.H.Host.told c.save_all.new.host)).unstarted ≡ [])
-    (unstarted_same (g.H.Host.told c.start_asked.new.host) (g.H.Host.told c.save_all.new.host) (c.save_all.ensures.ordered ∙ c.end_asked.ensures.ordered) ∙ c.in_ok-start_asked.ensures.tried)
+    (unstarted_same (g.H.Host.told c.start_asked.new.host) (g.H.Host.told c.save_all.new.host)
+    (c.save_all.ensures.ordered ∙ c.end_asked.ensures.ordered) ∙ c.in_ok-start_asked.ensures.tried)
 
 pub returns-in_err-start_asked-clause-holding : goal.returns-in_err-start_asked-clause-holding
 returns-in_err-start_asked-clause-holding g c = λ f hold. (c.start_asked.ensures.holding f hold).each

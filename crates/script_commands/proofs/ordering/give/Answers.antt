@@ -18,41 +18,59 @@ use Rattle.script_commands.proofs.ordering.give.Goals as goal
 pub returns-in_err-act-in-Ok-clause-shown : goal.returns-in_err-act-in-Ok-clause-shown
 returns-in_err-act-in-Ok-clause-shown g c =
     let again : IsErrAnd c.from_residual.result (λ x. x ≡ c.in_err-act-in-Ok.field-0.0) = search rules in
-    passed_on g.H.Disk.Disk c.from_residual.result c.in_err-act-in-Ok.field-0.0 (g.H.Host.told c.act.new.host) again c.in_err-act-in-Ok.ensures.shown
+    passed_on g.H.Disk.Disk c.from_residual.result c.in_err-act-in-Ok.field-0.0 (g.H.Host.told c.act.new.host) again
+    c.in_err-act-in-Ok.ensures.shown
 
 pub act-requires-clause-wanted : goal.act-requires-clause-wanted
 act-requires-clause-wanted g c =
-    asked_for (g.H.Host.told c.args.host.now) (g.H.Host.told c.command.new.host) c.args.core.now c.args.ordered (Ok (counts_none c.command.new.core c.in-Ok.answer)) c.requires.told.recorded c.in-Ok.ensures.answered c.command.ensures.ordered c.requires.idle
+    asked_for (g.H.Host.told c.args.host.now) (g.H.Host.told c.command.new.host) c.args.core.now c.args.ordered
+    (Ok (counts_none c.command.new.core c.in-Ok.answer)) c.requires.told.recorded c.in-Ok.ensures.answered
+    c.command.ensures.ordered c.requires.idle
 
 pub act-requires-clause-raised : goal.act-requires-clause-raised
 act-requires-clause-raised g c = λ zero.
-    none_for (g.H.Host.told c.args.host.now) (g.H.Host.told c.command.new.host) c.args.core.now c.args.ordered (Ok (counts_none c.command.new.core c.in-Ok.answer)) c.requires.told.recorded c.in-Ok.ensures.answered c.command.ensures.ordered c.requires.idle
+    none_for (g.H.Host.told c.args.host.now) (g.H.Host.told c.command.new.host) c.args.core.now c.args.ordered
+    (Ok (counts_none c.command.new.core c.in-Ok.answer)) c.requires.told.recorded c.in-Ok.ensures.answered
+    c.command.ensures.ordered c.requires.idle
     (c.in-Ok.ensures.starts (sym c.command.ensures.session ∙ zero))
 
 pub act-requires-clause-seen : goal.act-requires-clause-seen
-act-requires-clause-seen g c = seen_still (notices (g.H.Host.told c.args.host.now)) (notices (g.H.Host.told c.command.new.host)) c.args.noticed.now c.command.ensures.noticed c.requires.seen
+act-requires-clause-seen g c = seen_still (notices (g.H.Host.told c.args.host.now))
+    (notices (g.H.Host.told c.command.new.host)) c.args.noticed.now c.command.ensures.noticed c.requires.seen
 
 pub returns-in_err-act-in-Ok-clause-ordered : goal.returns-in_err-act-in-Ok-clause-ordered
-returns-in_err-act-in-Ok-clause-ordered g c = given_on (g.H.Host.told c.args.host.now) (g.H.Host.told c.act.new.host) (g.H.Host.told c.command.new.host) c.args.ordered c.act.ensures.ordered c.command.ensures.ordered
+returns-in_err-act-in-Ok-clause-ordered g c = given_on (g.H.Host.told c.args.host.now)
+    (g.H.Host.told c.act.new.host) (g.H.Host.told c.command.new.host) c.args.ordered c.act.ensures.ordered
+    c.command.ensures.ordered
 
 pub returns-in-Err-clause-ordered : goal.returns-in-Err-clause-ordered
-returns-in-Err-clause-ordered g c = given_on (g.H.Host.told c.args.host.now) (g.H.Host.told c.command.new.host) (g.H.Host.told c.command.new.host) c.args.ordered refl c.command.ensures.ordered
+returns-in-Err-clause-ordered g c = given_on (g.H.Host.told c.args.host.now) (g.H.Host.told c.command.new.host)
+    (g.H.Host.told c.command.new.host) c.args.ordered refl c.command.ensures.ordered
 
 pub returns-in-Err-clause-answered : goal.returns-in-Err-clause-answered
 returns-in-Err-clause-answered g c =
-    refused_then c.refusal.result c.in-Err.fault (λ t. t ≡ told_by (on_command c.args.core.now c.args.ordered)) c.refusal.ensures.told (λ some. refusal_told c.args.core.now c.args.ordered c.in-Err.fault c.in-Err.ensures.refused some)
+    refused_then c.refusal.result c.in-Err.fault (λ t. t ≡ told_by (on_command c.args.core.now c.args.ordered))
+    c.refusal.ensures.told (λ some. refusal_told c.args.core.now c.args.ordered c.in-Err.fault
+    c.in-Err.ensures.refused some)
 
 pub returns-in-Err-clause-tried : goal.returns-in-Err-clause-tried
 returns-in-Err-clause-tried g c =
-    refused_on c.refusal.result c.in-Err.fault ((course (g.H.Host.told c.command.new.host)).unstarted ≡ []) c.refusal.ensures.told
-    (λ some. none_for (g.H.Host.told c.args.host.now) (g.H.Host.told c.command.new.host) c.args.core.now c.args.ordered (Err c.in-Err.fault) c.requires.told.recorded (refused_with (on_command c.args.core.now c.args.ordered) c.in-Err.fault some c.in-Err.ensures.refused) c.command.ensures.ordered c.requires.idle refl)
+    refused_on c.refusal.result c.in-Err.fault ((course (g.H.Host.told c.command.new.host)).unstarted ≡ [])
+    c.refusal.ensures.told
+    (λ some. none_for (g.H.Host.told c.args.host.now) (g.H.Host.told c.command.new.host) c.args.core.now
+    c.args.ordered (Err c.in-Err.fault) c.requires.told.recorded
+    (refused_with (on_command c.args.core.now c.args.ordered) c.in-Err.fault some c.in-Err.ensures.refused)
+    c.command.ensures.ordered c.requires.idle refl)
 
 pub returns-in-Err-clause-seen : goal.returns-in-Err-clause-seen
 returns-in-Err-clause-seen g c =
-    on_ok c.refusal.result (Tells (notices (g.H.Host.told c.command.new.host)) c.args.noticed.now) (seen_still (notices (g.H.Host.told c.args.host.now)) (notices (g.H.Host.told c.command.new.host)) c.args.noticed.now c.command.ensures.noticed c.requires.seen)
+    on_ok c.refusal.result (Tells (notices (g.H.Host.told c.command.new.host)) c.args.noticed.now)
+    (seen_still (notices (g.H.Host.told c.args.host.now)) (notices (g.H.Host.told c.command.new.host))
+    c.args.noticed.now c.command.ensures.noticed c.requires.seen)
 
 pub returns-in-Err-clause-shown : goal.returns-in-Err-clause-shown
-returns-in-Err-clause-shown g c = memory_shown g.H.Disk.Disk c.refusal.result (g.H.Host.told c.command.new.host) c.refusal.ensures.lacking
+returns-in-Err-clause-shown g c = memory_shown g.H.Disk.Disk c.refusal.result (g.H.Host.told c.command.new.host)
+    c.refusal.ensures.lacking
 
 pub returns-in-Err-clause-holding : goal.returns-in-Err-clause-holding
 returns-in-Err-clause-holding g c = λ f hold. hold.each

@@ -19,37 +19,57 @@ use Rattle.script_commands.proofs.ordering.raise.Goals as goal
 pub returns-in_err-save_all-in-Ok-clause-shown : goal.returns-in_err-save_all-in-Ok-clause-shown
 returns-in_err-save_all-in-Ok-clause-shown g c =
     let again : IsErrAnd c.from_residual.result (λ x. x ≡ c.in_err-save_all-in-Ok.field-0.0) = search rules in
-    passed_on g.H.Disk.Disk c.from_residual.result c.in_err-save_all-in-Ok.field-0.0 (g.H.Host.told c.save_all.new.host) again c.in_err-save_all-in-Ok.ensures.shown
+    passed_on g.H.Disk.Disk c.from_residual.result c.in_err-save_all-in-Ok.field-0.0
+    (g.H.Host.told c.save_all.new.host) again c.in_err-save_all-in-Ok.ensures.shown
 
 pub save_all-requires-clause-seen : goal.save_all-requires-clause-seen
-save_all-requires-clause-seen g c = seen_still (notices (g.H.Host.told c.args.host.now)) (notices (g.H.Host.told c.command.new.host)) c.args.noticed.now c.command.ensures.noticed c.requires.seen
+save_all-requires-clause-seen g c = seen_still (notices (g.H.Host.told c.args.host.now))
+    (notices (g.H.Host.told c.command.new.host)) c.args.noticed.now c.command.ensures.noticed c.requires.seen
 
 pub returns-in_err-save_all-in-Ok-clause-ordered : goal.returns-in_err-save_all-in-Ok-clause-ordered
-returns-in_err-save_all-in-Ok-clause-ordered g c = given_on (g.H.Host.told c.args.host.now) (g.H.Host.told c.save_all.new.host) (g.H.Host.told c.command.new.host) asks.Session (starts_same (g.H.Host.told c.command.new.host) (g.H.Host.told c.save_all.new.host) c.save_all.ensures.ordered) c.command.ensures.ordered
+returns-in_err-save_all-in-Ok-clause-ordered g c = given_on (g.H.Host.told c.args.host.now)
+    (g.H.Host.told c.save_all.new.host) (g.H.Host.told c.command.new.host) asks.Session
+    (starts_same (g.H.Host.told c.command.new.host) (g.H.Host.told c.save_all.new.host) c.save_all.ensures.ordered)
+    c.command.ensures.ordered
 
 pub returns-in_ok-save_all-in-Ok-clause-ordered : goal.returns-in_ok-save_all-in-Ok-clause-ordered
-returns-in_ok-save_all-in-Ok-clause-ordered g c = given_on (g.H.Host.told c.args.host.now) (g.H.Host.told c.save_all.new.host) (g.H.Host.told c.command.new.host) asks.Session (starts_same (g.H.Host.told c.command.new.host) (g.H.Host.told c.save_all.new.host) c.save_all.ensures.ordered) c.command.ensures.ordered
+returns-in_ok-save_all-in-Ok-clause-ordered g c = given_on (g.H.Host.told c.args.host.now)
+    (g.H.Host.told c.save_all.new.host) (g.H.Host.told c.command.new.host) asks.Session
+    (starts_same (g.H.Host.told c.command.new.host) (g.H.Host.told c.save_all.new.host) c.save_all.ensures.ordered)
+    c.command.ensures.ordered
 
 pub returns-in_ok-save_all-in-Ok-clause-tried : goal.returns-in_ok-save_all-in-Ok-clause-tried
 returns-in_ok-save_all-in-Ok-clause-tried g c =
     unstarted_same (g.H.Host.told c.command.new.host) (g.H.Host.told c.save_all.new.host) c.save_all.ensures.ordered
-    ∙ none_for (g.H.Host.told c.args.host.now) (g.H.Host.told c.command.new.host) c.args.core.now asks.Session (Ok (counts_none c.command.new.core c.in-Ok.answer)) c.requires.told.recorded c.in-Ok.ensures.answered c.command.ensures.ordered c.requires.idle (c.in-Ok.ensures.starts c.requires.none)
+    ∙ none_for (g.H.Host.told c.args.host.now) (g.H.Host.told c.command.new.host) c.args.core.now asks.Session
+    (Ok (counts_none c.command.new.core c.in-Ok.answer)) c.requires.told.recorded c.in-Ok.ensures.answered
+    c.command.ensures.ordered c.requires.idle (c.in-Ok.ensures.starts c.requires.none)
 
 pub returns-in-Err-clause-ordered : goal.returns-in-Err-clause-ordered
-returns-in-Err-clause-ordered g c = given_on (g.H.Host.told c.args.host.now) (g.H.Host.told c.command.new.host) (g.H.Host.told c.command.new.host) asks.Session refl c.command.ensures.ordered
+returns-in-Err-clause-ordered g c = given_on (g.H.Host.told c.args.host.now) (g.H.Host.told c.command.new.host)
+    (g.H.Host.told c.command.new.host) asks.Session refl c.command.ensures.ordered
 
 pub returns-in-Err-clause-answered : goal.returns-in-Err-clause-answered
 returns-in-Err-clause-answered g c =
-    refused_then c.refusal.result c.in-Err.fault (λ t. t ≡ told_by (on_command c.args.core.now asks.Session)) c.refusal.ensures.told (λ some. refusal_told c.args.core.now asks.Session c.in-Err.fault c.in-Err.ensures.refused some)
+    refused_then c.refusal.result c.in-Err.fault (λ t. t ≡ told_by (on_command c.args.core.now asks.Session))
+    c.refusal.ensures.told (λ some. refusal_told c.args.core.now asks.Session c.in-Err.fault
+    c.in-Err.ensures.refused some)
 
 pub returns-in-Err-clause-tried : goal.returns-in-Err-clause-tried
 returns-in-Err-clause-tried g c =
-    refused_on c.refusal.result c.in-Err.fault ((course (g.H.Host.told c.command.new.host)).unstarted ≡ []) c.refusal.ensures.told
-    (λ some. none_for (g.H.Host.told c.args.host.now) (g.H.Host.told c.command.new.host) c.args.core.now asks.Session (Err c.in-Err.fault) c.requires.told.recorded (refused_with (on_command c.args.core.now asks.Session) c.in-Err.fault some c.in-Err.ensures.refused) c.command.ensures.ordered c.requires.idle refl)
+    refused_on c.refusal.result c.in-Err.fault ((course (g.H.Host.told c.command.new.host)).unstarted ≡ [])
+    c.refusal.ensures.told
+    (λ some. none_for (g.H.Host.told c.args.host.now) (g.H.Host.told c.command.new.host) c.args.core.now
+    asks.Session (Err c.in-Err.fault) c.requires.told.recorded
+    (refused_with (on_command c.args.core.now asks.Session) c.in-Err.fault some c.in-Err.ensures.refused)
+    c.command.ensures.ordered c.requires.idle refl)
 
 pub returns-in-Err-clause-seen : goal.returns-in-Err-clause-seen
 returns-in-Err-clause-seen g c =
-    on_ok c.refusal.result (Tells (notices (g.H.Host.told c.command.new.host)) c.args.noticed.now) (seen_still (notices (g.H.Host.told c.args.host.now)) (notices (g.H.Host.told c.command.new.host)) c.args.noticed.now c.command.ensures.noticed c.requires.seen)
+    on_ok c.refusal.result (Tells (notices (g.H.Host.told c.command.new.host)) c.args.noticed.now)
+    (seen_still (notices (g.H.Host.told c.args.host.now)) (notices (g.H.Host.told c.command.new.host))
+    c.args.noticed.now c.command.ensures.noticed c.requires.seen)
 
 pub returns-in-Err-clause-shown : goal.returns-in-Err-clause-shown
-returns-in-Err-clause-shown g c = memory_shown g.H.Disk.Disk c.refusal.result (g.H.Host.told c.command.new.host) c.refusal.ensures.lacking
+returns-in-Err-clause-shown g c = memory_shown g.H.Disk.Disk c.refusal.result (g.H.Host.told c.command.new.host)
+    c.refusal.ensures.lacking

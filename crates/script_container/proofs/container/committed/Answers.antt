@@ -7,12 +7,24 @@ use Rattle.script_container.proofs.container.committed.Goals as goal
 
 pub returns-clause-told : goal.returns-clause-told
 returns-clause-told g c =
-    step_told (step.Committed c.args.frame) (λ r. commit_done r c.args.frame) (λ a. record { rec = c.commit_done-told.new.self; answer = a; counted = counted_of c.args.core.now c.args.frame }) c.commit_done-told.result _ _ _ _ _ (λ g. refl) (c.requires.saved, λ m. tt) tt (λ a. refl) c.note.ensures c.noted.ensures.noted c.commit_done-told.ensures.taken c.commit_done-told.ensures.refused c.commit_done-told.ensures.kept c.requires.told
+    step_told (step.Committed c.args.frame) (λ r. commit_done r c.args.frame)
+    (λ a. record {
+      rec = c.commit_done-told.new.self;
+      answer = a;
+      counted = counted_of c.args.core.now c.args.frame;
+    }) c.commit_done-told.result _ _ _ _ _ (λ g. refl)
+    (c.requires.saved, λ m. tt) tt (λ a. refl) c.note.ensures c.noted.ensures.noted
+    c.commit_done-told.ensures.taken c.commit_done-told.ensures.refused c.commit_done-told.ensures.kept
+    c.requires.told
 
 pub returns-clause-others : goal.returns-clause-others
-returns-clause-others g c = commit_leaves c.args.core.now c.args.frame c.commit_done-told.new.self (counted_of c.args.core.now c.args.frame) c.commit_done-told.result c.commit_done-told.ensures.taken c.commit_done-told.ensures.kept
+returns-clause-others g c = commit_leaves c.args.core.now c.args.frame c.commit_done-told.new.self
+    (counted_of c.args.core.now c.args.frame) c.commit_done-told.result c.commit_done-told.ensures.taken
+    c.commit_done-told.ensures.kept
 
 pub returns-clause-done : goal.returns-clause-done
 returns-clause-done g c =
-    commit_done_by c.args.core.now c.args.frame c.commit_done-told.new.self c.heard.result (counted_of c.args.core.now c.args.frame) c.commit_done-told.result c.noted.result c.noted.ensures.same c.heard.ensures.known
+    commit_done_by c.args.core.now c.args.frame c.commit_done-told.new.self c.heard.result
+    (counted_of c.args.core.now c.args.frame) c.commit_done-told.result c.noted.result c.noted.ensures.same
+    c.heard.ensures.known
     c.commit_done-told.ensures.taken c.commit_done-told.ensures.refused c.commit_done-told.ensures.kept

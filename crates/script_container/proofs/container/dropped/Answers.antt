@@ -7,12 +7,17 @@ use Rattle.script_container.proofs.container.dropped.Goals as goal
 
 pub returns-clause-told : goal.returns-clause-told
 returns-clause-told g c =
-    step_told (step.Resolved c.args.frame false) (λ r. resolve r c.args.frame false) (λ a. record { rec = c.resolve-told.new.self; answer = a; counted = [] }) c.resolve-told.result _ _ _ _ _ (λ g. refl) (tt, λ m. tt) tt (λ a. refl) c.note.ensures c.noted.ensures.noted c.resolve-told.ensures.taken c.resolve-told.ensures.refused c.resolve-told.ensures.kept c.requires
+    step_told (step.Resolved c.args.frame false) (λ r. resolve r c.args.frame false)
+    (λ a. record { rec = c.resolve-told.new.self; answer = a; counted = [] }) c.resolve-told.result _ _ _ _ _
+    (λ g. refl) (tt, λ m. tt) tt (λ a. refl) c.note.ensures c.noted.ensures.noted c.resolve-told.ensures.taken
+    c.resolve-told.ensures.refused c.resolve-told.ensures.kept c.requires
 
 pub returns-clause-others : goal.returns-clause-others
-returns-clause-others g c = drop_leaves c.args.core.now c.args.frame c.resolve-told.new.self [] c.resolve-told.result c.resolve-told.ensures.taken c.resolve-told.ensures.kept
+returns-clause-others g c = drop_leaves c.args.core.now c.args.frame c.resolve-told.new.self []
+    c.resolve-told.result c.resolve-told.ensures.taken c.resolve-told.ensures.kept
 
 pub returns-clause-done : goal.returns-clause-done
 returns-clause-done g c =
-    drop_done_by c.args.core.now c.args.frame c.resolve-told.new.self c.heard.result [] c.resolve-told.result c.noted.result c.noted.ensures.same c.heard.ensures.known
+    drop_done_by c.args.core.now c.args.frame c.resolve-told.new.self c.heard.result [] c.resolve-told.result
+    c.noted.result c.noted.ensures.same c.heard.ensures.known
     c.resolve-told.ensures.taken c.resolve-told.ensures.refused c.resolve-told.ensures.kept

@@ -7,4 +7,8 @@ use Rattle.script_container.proofs.container.reap.Goals as goal
 
 pub returns-clause-told : goal.returns-clause-told
 returns-clause-told g c =
-    step_noted (step.Reap c.args.inc) (λ r. on_reap r c.args.inc) (λ a. counts_none c.on_reap-told.new.self a) c.on_reap-told.result _ _ _ _ _ (λ g. refl) (tt, λ m. tt) (just_ended c.args.inc (g.H.Host.told c.args.host.now) c.args.core.now c.requires) (λ a. refl) c.note.ensures c.noted.ensures.noted c.on_reap-told.ensures.taken c.on_reap-told.ensures.refused c.on_reap-told.ensures.kept (ended_so c.args.inc (g.H.Host.told c.args.host.now) c.args.core.now c.requires)
+    step_noted (step.Reap c.args.inc) (λ r. on_reap r c.args.inc) (λ a. counts_none c.on_reap-told.new.self a)
+    c.on_reap-told.result _ _ _ _ _ (λ g. refl) (tt, λ m. tt)
+    (just_ended c.args.inc (g.H.Host.told c.args.host.now) c.args.core.now c.requires) (λ a. refl)
+    c.note.ensures c.noted.ensures.noted c.on_reap-told.ensures.taken c.on_reap-told.ensures.refused
+    c.on_reap-told.ensures.kept (ended_so c.args.inc (g.H.Host.told c.args.host.now) c.args.core.now c.requires)

@@ -4,13 +4,18 @@ use Rattle.script_container.proofs.saves.commit_again.Goals as goal
 
 pub returns-in-Ok-clause-left : goal.returns-in-Ok-clause-left
 returns-in-Ok-clause-left g c = λ missing.
-    shut_missing g.H.Disk.Disk c.try_again-outcome.result.0 (g.H.Host.told c.args.host.now) (g.H.Host.told c.disk.new.self) (g.H.Host.told c.shut.new.self) c.args.name.now c.args.bytes.now c.in-Ok.disk c.try_again-outcome.result.1
+    shut_missing g.H.Disk.Disk c.try_again-outcome.result.0 (g.H.Host.told c.args.host.now)
+    (g.H.Host.told c.disk.new.self) (g.H.Host.told c.shut.new.self) c.args.name.now c.args.bytes.now
+    c.in-Ok.disk c.try_again-outcome.result.1
     c.in-Ok.ensures c.shut.ensures missing c.try_again-outcome.ensures.lost
 
 pub returns-in-Ok-clause-unopened : goal.returns-in-Ok-clause-unopened
 returns-in-Ok-clause-unopened g c = λ missing.
-    given_back g.H.Disk.Disk c.try_again-outcome.result.0 c.args.name.now (g.H.Host.told c.args.host.now) (g.H.Host.told c.disk.new.self) (g.H.Host.told c.shut.new.self) c.in-Ok.disk c.try_again-outcome.result.1 c.in-Ok.ensures c.shut.ensures
+    given_back g.H.Disk.Disk c.try_again-outcome.result.0 c.args.name.now (g.H.Host.told c.args.host.now)
+    (g.H.Host.told c.disk.new.self) (g.H.Host.told c.shut.new.self) c.in-Ok.disk c.try_again-outcome.result.1
+    c.in-Ok.ensures c.shut.ensures
     c.try_again-outcome.ensures.untold
 
 pub returns-in-Err-clause-unopened : goal.returns-in-Err-clause-unopened
-returns-in-Err-clause-unopened g c = λ missing. missing_twice g.H.Disk.Disk c.args.name.now c.in-Err.fault (g.H.Host.told c.args.host.now) (g.H.Host.told c.disk.new.self) missing c.in-Err.ensures
+returns-in-Err-clause-unopened g c = λ missing. missing_twice g.H.Disk.Disk c.args.name.now c.in-Err.fault
+    (g.H.Host.told c.args.host.now) (g.H.Host.told c.disk.new.self) missing c.in-Err.ensures

@@ -13,12 +13,16 @@ loop-action-preserved g c = record {
   paced = λ s. c.save_on.ensures.paced s ∙ c.loop-action.invariant.paced s;
   ordered = c.save_on.ensures.ordered ∙ c.loop-action.invariant.ordered;
   seen = c.in_ok-save_on.ensures.seen;
-  others = then_frames c.args.core.now c.loop-action.core c.save_on.new.core c.loop-action.invariant.others c.in_ok-save_on.ensures.others;
-  done = carried_more c.args.core.now c.loop-action.core c.save_on.new.core c.as_slice-action-items.result.now c.loop-action.action-index c.action-item.result c.loop-action-test.true c.action-item.is
-      c.loop-action.invariant.others c.in_ok-save_on.ensures.others c.loop-action.invariant.done c.in_ok-save_on.ensures.done;
+  others = then_frames c.args.core.now c.loop-action.core c.save_on.new.core c.loop-action.invariant.others
+      c.in_ok-save_on.ensures.others;
+  done = carried_more c.args.core.now c.loop-action.core c.save_on.new.core c.as_slice-action-items.result.now
+      c.loop-action.action-index c.action-item.result c.loop-action-test.true c.action-item.is
+      c.loop-action.invariant.others c.in_ok-save_on.ensures.others c.loop-action.invariant.done
+      c.in_ok-save_on.ensures.done;
 }
 
 pub returns-in_err-save_on-clause-shown : goal.returns-in_err-save_on-clause-shown
 returns-in_err-save_on-clause-shown g c =
     let again : IsErrAnd c.from_residual.result (λ x. x ≡ c.in_err-save_on.field-0.0) = search rules in
-    passed_on g.H.Disk.Disk c.from_residual.result c.in_err-save_on.field-0.0 (g.H.Host.told c.save_on.new.host) again c.in_err-save_on.ensures.shown
+    passed_on g.H.Disk.Disk c.from_residual.result c.in_err-save_on.field-0.0 (g.H.Host.told c.save_on.new.host)
+    again c.in_err-save_on.ensures.shown

@@ -8,8 +8,11 @@ use Rattle.script_container.proofs.saves.save_on.Goals as goal
 pub returns-in_err-lost-in-Commit-clause-shown : goal.returns-in_err-lost-in-Commit-clause-shown
 returns-in_err-lost-in-Commit-clause-shown g c =
     let again : IsErrAnd c.from_residual.result (λ x. x ≡ c.in_err-lost-in-Commit.field-0.0) = search rules in
-    passed_on g.H.Disk.Disk c.from_residual.result c.in_err-lost-in-Commit.field-0.0 (g.H.Host.told c.save.new.host) again c.in_err-lost-in-Commit.ensures.shown
+    passed_on g.H.Disk.Disk c.from_residual.result c.in_err-lost-in-Commit.field-0.0 (g.H.Host.told c.save.new.host)
+    again c.in_err-lost-in-Commit.ensures.shown
 
 pub returns-in_ok-lost-in-Commit-clause-seen : goal.returns-in_ok-lost-in-Commit-clause-seen
 returns-in_ok-lost-in-Commit-clause-seen g c =
-    seen_first (notices (g.H.Host.told c.args.host.now)) (notices (g.H.Host.told c.save.new.host)) c.args.noticed.now c.in_ok-lost-in-Commit.lost c.first_of.result c.first_of.ensures c.requires.seen c.in_ok-lost-in-Commit.ensures.noticed
+    seen_first (notices (g.H.Host.told c.args.host.now)) (notices (g.H.Host.told c.save.new.host))
+    c.args.noticed.now c.in_ok-lost-in-Commit.lost c.first_of.result c.first_of.ensures c.requires.seen
+    c.in_ok-lost-in-Commit.ensures.noticed

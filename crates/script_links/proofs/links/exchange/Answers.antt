@@ -7,24 +7,34 @@ use Rattle.script_links.proofs.links.exchange.Goals as goal
 
 pub returns-then-not-branch-clause-on : goal.returns-then-not-branch-clause-on
 returns-then-not-branch-clause-on g c =
-    none_heard (pace c.args.link.now.inc (g.H.Host.told c.args.host.now)) (pace c.args.link.now.inc (g.H.Host.told c.send_turn.new.host)) c.args.reads.now c.in_ok-send_turn.ensures.sent c.requires.left
+    none_heard (pace c.args.link.now.inc (g.H.Host.told c.args.host.now))
+    (pace c.args.link.now.inc (g.H.Host.told c.send_turn.new.host)) c.args.reads.now
+    c.in_ok-send_turn.ensures.sent c.requires.left
 
 pub hear-requires-clause-within : goal.hear-requires-clause-within
 hear-requires-clause-within g c =
-    sent_within (pace c.args.link.now.inc (g.H.Host.told c.args.host.now)) (pace c.args.link.now.inc (g.H.Host.told c.send_turn.new.host)) c.in_ok-send_turn.ensures.sent c.requires.within
+    sent_within (pace c.args.link.now.inc (g.H.Host.told c.args.host.now))
+    (pace c.args.link.now.inc (g.H.Host.told c.send_turn.new.host)) c.in_ok-send_turn.ensures.sent
+    c.requires.within
 
 pub hear-requires-clause-on : goal.hear-requires-clause-on
 hear-requires-clause-on g c =
-    may_hear (pace c.args.link.now.inc (g.H.Host.told c.args.host.now)) (pace c.args.link.now.inc (g.H.Host.told c.send_turn.new.host)) c.args.reads.now c.in_ok-send_turn.ensures.sent c.requires.left
+    may_hear (pace c.args.link.now.inc (g.H.Host.told c.args.host.now))
+    (pace c.args.link.now.inc (g.H.Host.told c.send_turn.new.host)) c.args.reads.now
+    c.in_ok-send_turn.ensures.sent c.requires.left
 
 pub returns-clause-on : goal.returns-clause-on
 returns-clause-on g c =
-    heard_on c.hear.result (pace c.args.link.now.inc (g.H.Host.told c.args.host.now)) (pace c.args.link.now.inc (g.H.Host.told c.send_turn.new.host)) (pace c.hear.new.link.inc (g.H.Host.told c.hear.new.host)) c.hear.new.reads c.in_ok-send_turn.ensures.sent c.hear.ensures.on
+    heard_on c.hear.result (pace c.args.link.now.inc (g.H.Host.told c.args.host.now))
+    (pace c.args.link.now.inc (g.H.Host.told c.send_turn.new.host))
+    (pace c.hear.new.link.inc (g.H.Host.told c.hear.new.host)) c.hear.new.reads c.in_ok-send_turn.ensures.sent
+    c.hear.ensures.on
 
 pub returns-in_err-send_turn-clause-shown : goal.returns-in_err-send_turn-clause-shown
 returns-in_err-send_turn-clause-shown g c =
     let again : IsErrAnd c.from_residual.result (λ x. x ≡ c.in_err-send_turn.field-0.0) = search rules in
-    passed_on g.H.Disk.Disk c.from_residual.result c.in_err-send_turn.field-0.0 (g.H.Host.told c.send_turn.new.host) again c.in_err-send_turn.ensures.shown
+    passed_on g.H.Disk.Disk c.from_residual.result c.in_err-send_turn.field-0.0 (g.H.Host.told c.send_turn.new.host)
+    again c.in_err-send_turn.ensures.shown
 
 pub returns-clause-handing : goal.returns-clause-handing
 returns-clause-handing g c = λ f is. c.hear.ensures.handing f is ∙ c.send_turn.ensures.handing f

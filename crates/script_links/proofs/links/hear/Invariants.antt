@@ -16,9 +16,11 @@ invariant-loop-reads g l = record {
   still : (s : ℕ) → running s (g.H.Host.told l.host) ≡ running s (g.H.Host.told l.fn.host);
   same : l.link.inc ≡ l.fn.link.inc;
   holding : l.link.held ≡ l.fn.link.held;
-  handing : (f : ℕ → Bool) → f l.fn.link.inc ≡ l.fn.link.held → handed f (g.H.Host.told l.host) ≡ handed f (g.H.Host.told l.fn.host);
+  handing : (f : ℕ → Bool) → f l.fn.link.inc ≡ l.fn.link.held → handed f (g.H.Host.told l.host)
+      ≡ handed f (g.H.Host.told l.fn.host);
   apart : (s : ℕ) → beside l.fn.link.inc s (g.H.Host.told l.host) ≡ beside l.fn.link.inc s (g.H.Host.told l.fn.host);
-  aside : (s : ℕ) → pace_beside l.fn.link.inc s (g.H.Host.told l.host) ≡ pace_beside l.fn.link.inc s (g.H.Host.told l.fn.host);
+  aside : (s : ℕ) → pace_beside l.fn.link.inc s (g.H.Host.told l.host) ≡ pace_beside l.fn.link.inc s
+      (g.H.Host.told l.fn.host);
   on : GoesOn (pace l.fn.link.inc (g.H.Host.told l.fn.host)) (pace l.link.inc (g.H.Host.told l.host)) l.reads;
   served : IsServed (passed l.link.inc (g.H.Host.told l.host)) l.link [];
   ordered : course (g.H.Host.told l.host) ≡ course (g.H.Host.told l.fn.host);

@@ -8,13 +8,16 @@ use Rattle.script_links.proofs.links.send_turn.Goals as goal
 
 pub returns-clause-sent : goal.returns-clause-sent
 returns-clause-sent g c =
-    on_ok c.is_done.result (pace c.args.inc (g.H.Host.told c.send.new.self) ≡ sending (pace c.args.inc (g.H.Host.told c.args.host.now)))
+    on_ok c.is_done.result (pace c.args.inc (g.H.Host.told c.send.new.self)
+    ≡ sending (pace c.args.inc (g.H.Host.told c.args.host.now)))
     (sent_pace (g.H.Host.told c.args.host.now) (g.H.Host.told c.send.new.self) c.args.inc _ _ c.send.ensures)
 
 pub returns-clause-shown : goal.returns-clause-shown
-returns-clause-shown g c = memory_shown g.H.Disk.Disk c.is_done.result (g.H.Host.told c.send.new.self) c.is_done.ensures.lacking
+returns-clause-shown g c = memory_shown g.H.Disk.Disk c.is_done.result (g.H.Host.told c.send.new.self)
+    c.is_done.ensures.lacking
 
 pub returns-in_err-bytes-clause-shown : goal.returns-in_err-bytes-clause-shown
 returns-in_err-bytes-clause-shown g c =
     let again : IsErrAnd c.from_residual.result (λ x. x ≡ c.in_err-bytes.field-0.0) = search rules in
-    lacking_on g.H.Disk.Disk c.from_residual.result c.in_err-bytes.field-0.0 (g.H.Host.told c.args.host.now) again c.in_err-bytes.ensures.lacking
+    lacking_on g.H.Disk.Disk c.from_residual.result c.in_err-bytes.field-0.0 (g.H.Host.told c.args.host.now) again
+    c.in_err-bytes.ensures.lacking

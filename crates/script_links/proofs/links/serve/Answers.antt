@@ -1,60 +1,84 @@
 use Rattle.std.proofs.Common.{◌≡◌, rules, ◌∙◌}
 use Rattle.script_model.specs.Bounds.{pace}
-use Rattle.script_links.proofs.Paces.{all_left, left_again, may_link, may_send, may_send_again, turn_again, turn_over, turn_unlinked}
+use Rattle.script_links.proofs.Paces.{all_left, left_again, may_link, may_send, may_send_again, turn_again, turn_over}
+use Rattle.script_links.proofs.Paces.{turn_unlinked}
 use Rattle.std.specs.Result.{IsErrAnd}
 use Rattle.script_container.proofs.Shown.{lacking_on, passed_on}
 use Rattle.script_links.proofs.Handing.{told_still}
 use Rattle.script_links.proofs.links.serve.Goals as goal
 
 pub exchange-requires-clause-within : goal.exchange-requires-clause-within
-exchange-requires-clause-within g c = may_send (pace c.args.link.now.inc (g.H.Host.told c.args.host.now)) c.requires.ready
+exchange-requires-clause-within g c = may_send (pace c.args.link.now.inc (g.H.Host.told c.args.host.now))
+    c.requires.ready
 
 pub exchange-requires-clause-left : goal.exchange-requires-clause-left
-exchange-requires-clause-left g c = all_left 1000 (pace c.args.link.now.inc (g.H.Host.told c.args.host.now)) c.requires.ready
+exchange-requires-clause-left g c = all_left 1000 (pace c.args.link.now.inc (g.H.Host.told c.args.host.now))
+    c.requires.ready
 
 pub returns-in-Turn-clause-turned : goal.returns-in-Turn-clause-turned
 returns-in-Turn-clause-turned g c =
-    turn_over (pace c.args.link.now.inc (g.H.Host.told c.args.host.now)) (pace c.exchange.new.link.inc (g.H.Host.told c.exchange.new.host)) c.exchange.new.reads c.in_ok-exchange.ensures.on
+    turn_over (pace c.args.link.now.inc (g.H.Host.told c.args.host.now))
+    (pace c.exchange.new.link.inc (g.H.Host.told c.exchange.new.host)) c.exchange.new.reads
+    c.in_ok-exchange.ensures.on
 
 pub returns-in_default-clause-turned : goal.returns-in_default-clause-turned
 returns-in_default-clause-turned g c =
-    turn_over (pace c.args.link.now.inc (g.H.Host.told c.args.host.now)) (pace c.exchange.new.link.inc (g.H.Host.told c.exchange.new.host)) c.exchange.new.reads c.in_ok-exchange.ensures.on
+    turn_over (pace c.args.link.now.inc (g.H.Host.told c.args.host.now))
+    (pace c.exchange.new.link.inc (g.H.Host.told c.exchange.new.host)) c.exchange.new.reads
+    c.in_ok-exchange.ensures.on
 
 pub reconnect-requires-clause-may : goal.reconnect-requires-clause-may
 reconnect-requires-clause-may g c =
-    may_link (pace c.args.link.now.inc (g.H.Host.told c.args.host.now)) (pace c.exchange.new.link.inc (g.H.Host.told c.exchange.new.host)) c.exchange.new.reads c.requires.ready c.in_ok-exchange.ensures.on
+    may_link (pace c.args.link.now.inc (g.H.Host.told c.args.host.now))
+    (pace c.exchange.new.link.inc (g.H.Host.told c.exchange.new.host)) c.exchange.new.reads c.requires.ready
+    c.in_ok-exchange.ensures.on
 
 pub returns-then-not-made-clause-turned : goal.returns-then-not-made-clause-turned
 returns-then-not-made-clause-turned g c =
-    turn_unlinked (pace c.args.link.now.inc (g.H.Host.told c.args.host.now)) (pace c.exchange.new.link.inc (g.H.Host.told c.exchange.new.host)) (pace c.reconnect.new.link.inc (g.H.Host.told c.reconnect.new.host)) c.exchange.new.reads c.in_ok-made.made (cc) c.in_ok-made.ensures.linked c.in_ok-exchange.ensures.on
+    turn_unlinked (pace c.args.link.now.inc (g.H.Host.told c.args.host.now))
+    (pace c.exchange.new.link.inc (g.H.Host.told c.exchange.new.host))
+    (pace c.reconnect.new.link.inc (g.H.Host.told c.reconnect.new.host)) c.exchange.new.reads c.in_ok-made.made
+    (cc) c.in_ok-made.ensures.linked c.in_ok-exchange.ensures.on
 
 pub exchange-requires-2-clause-within : goal.exchange-requires-2-clause-within
 exchange-requires-2-clause-within g c =
-    may_send_again (pace c.args.link.now.inc (g.H.Host.told c.args.host.now)) (pace c.exchange.new.link.inc (g.H.Host.told c.exchange.new.host)) (pace c.reconnect.new.link.inc (g.H.Host.told c.reconnect.new.host)) c.exchange.new.reads c.in_ok-made.made (cc) c.in_ok-made.ensures.linked c.requires.ready c.in_ok-exchange.ensures.on
+    may_send_again (pace c.args.link.now.inc (g.H.Host.told c.args.host.now))
+    (pace c.exchange.new.link.inc (g.H.Host.told c.exchange.new.host))
+    (pace c.reconnect.new.link.inc (g.H.Host.told c.reconnect.new.host)) c.exchange.new.reads c.in_ok-made.made
+    (cc) c.in_ok-made.ensures.linked c.requires.ready c.in_ok-exchange.ensures.on
 
 pub exchange-requires-2-clause-left : goal.exchange-requires-2-clause-left
 exchange-requires-2-clause-left g c =
-    left_again _ (pace c.exchange.new.link.inc (g.H.Host.told c.exchange.new.host)) (pace c.reconnect.new.link.inc (g.H.Host.told c.reconnect.new.host)) c.exchange.new.reads c.in_ok-made.made (cc) c.in_ok-made.ensures.linked c.in_ok-exchange.ensures.on
+    left_again _ (pace c.exchange.new.link.inc (g.H.Host.told c.exchange.new.host))
+    (pace c.reconnect.new.link.inc (g.H.Host.told c.reconnect.new.host)) c.exchange.new.reads c.in_ok-made.made
+    (cc) c.in_ok-made.ensures.linked c.in_ok-exchange.ensures.on
 
 pub returns-clause-turned : goal.returns-clause-turned
 returns-clause-turned g c =
-    turn_again (pace c.args.link.now.inc (g.H.Host.told c.args.host.now)) (pace c.exchange.new.link.inc (g.H.Host.told c.exchange.new.host)) (pace c.reconnect.new.link.inc (g.H.Host.told c.reconnect.new.host)) (pace c.exchange-2.new.link.inc (g.H.Host.told c.exchange-2.new.host))
-    c.exchange.new.reads c.exchange-2.new.reads c.in_ok-made.made (cc) c.in_ok-made.ensures.linked c.in_ok-exchange.ensures.on c.in_ok-heard.ensures.on
+    turn_again (pace c.args.link.now.inc (g.H.Host.told c.args.host.now))
+    (pace c.exchange.new.link.inc (g.H.Host.told c.exchange.new.host))
+    (pace c.reconnect.new.link.inc (g.H.Host.told c.reconnect.new.host))
+    (pace c.exchange-2.new.link.inc (g.H.Host.told c.exchange-2.new.host))
+    c.exchange.new.reads c.exchange-2.new.reads c.in_ok-made.made (cc) c.in_ok-made.ensures.linked
+    c.in_ok-exchange.ensures.on c.in_ok-heard.ensures.on
 
 pub returns-in_err-exchange-clause-shown : goal.returns-in_err-exchange-clause-shown
 returns-in_err-exchange-clause-shown g c =
     let again : IsErrAnd c.from_residual.result (λ x. x ≡ c.in_err-exchange.field-0.0) = search rules in
-    passed_on g.H.Disk.Disk c.from_residual.result c.in_err-exchange.field-0.0 (g.H.Host.told c.exchange.new.host) again c.in_err-exchange.ensures.shown
+    passed_on g.H.Disk.Disk c.from_residual.result c.in_err-exchange.field-0.0 (g.H.Host.told c.exchange.new.host)
+    again c.in_err-exchange.ensures.shown
 
 pub returns-in_err-heard-clause-shown : goal.returns-in_err-heard-clause-shown
 returns-in_err-heard-clause-shown g c =
     let again : IsErrAnd c.from_residual-in_err-heard.result (λ x. x ≡ c.in_err-heard.field-0.0) = search rules in
-    passed_on g.H.Disk.Disk c.from_residual-in_err-heard.result c.in_err-heard.field-0.0 (g.H.Host.told c.exchange-2.new.host) again c.in_err-heard.ensures.shown
+    passed_on g.H.Disk.Disk c.from_residual-in_err-heard.result c.in_err-heard.field-0.0
+    (g.H.Host.told c.exchange-2.new.host) again c.in_err-heard.ensures.shown
 
 pub returns-in_err-made-clause-shown : goal.returns-in_err-made-clause-shown
 returns-in_err-made-clause-shown g c =
     let again : IsErrAnd c.from_residual-in_err-made.result (λ x. x ≡ c.in_err-made.field-0.0) = search rules in
-    lacking_on g.H.Disk.Disk c.from_residual-in_err-made.result c.in_err-made.field-0.0 (g.H.Host.told c.reconnect.new.host) again c.in_err-made.ensures.lacking
+    lacking_on g.H.Disk.Disk c.from_residual-in_err-made.result c.in_err-made.field-0.0
+    (g.H.Host.told c.reconnect.new.host) again c.in_err-made.ensures.lacking
 
 pub returns-in_err-made-clause-told : goal.returns-in_err-made-clause-told
 returns-in_err-made-clause-told g c = c.reconnect.ensures.told c.exchange.new.core c.exchange.ensures.told
@@ -72,7 +96,13 @@ pub returns-then-not-made-clause-handing : goal.returns-then-not-made-clause-han
 returns-then-not-made-clause-handing g c = λ f is. c.reconnect.ensures.handing f ∙ c.exchange.ensures.handing f is
 
 pub returns-in_err-heard-clause-handing : goal.returns-in_err-heard-clause-handing
-returns-in_err-heard-clause-handing g c = λ f is. c.exchange-2.ensures.handing f (told_still f c.reconnect.new.link c.args.link.now (c.reconnect.ensures.same ∙ c.exchange.ensures.same) (c.reconnect.ensures.holding ∙ c.exchange.ensures.holding) is) ∙ c.reconnect.ensures.handing f ∙ c.exchange.ensures.handing f is
+returns-in_err-heard-clause-handing g c = λ f is. c.exchange-2.ensures.handing f
+    (told_still f c.reconnect.new.link c.args.link.now (c.reconnect.ensures.same ∙ c.exchange.ensures.same)
+    (c.reconnect.ensures.holding ∙ c.exchange.ensures.holding) is) ∙ c.reconnect.ensures.handing f
+    ∙ c.exchange.ensures.handing f is
 
 pub returns-clause-handing : goal.returns-clause-handing
-returns-clause-handing g c = λ f is. c.exchange-2.ensures.handing f (told_still f c.reconnect.new.link c.args.link.now (c.reconnect.ensures.same ∙ c.exchange.ensures.same) (c.reconnect.ensures.holding ∙ c.exchange.ensures.holding) is) ∙ c.reconnect.ensures.handing f ∙ c.exchange.ensures.handing f is
+returns-clause-handing g c = λ f is. c.exchange-2.ensures.handing f
+    (told_still f c.reconnect.new.link c.args.link.now (c.reconnect.ensures.same ∙ c.exchange.ensures.same)
+    (c.reconnect.ensures.holding ∙ c.exchange.ensures.holding) is) ∙ c.reconnect.ensures.handing f
+    ∙ c.exchange.ensures.handing f is

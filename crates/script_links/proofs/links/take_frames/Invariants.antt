@@ -16,7 +16,8 @@ invariant-loop g l = record {
   same : l.link.inc ≡ l.fn.link.inc;
   holding : l.link.held ≡ l.fn.link.held;
   apart : (s : ℕ) → beside l.fn.link.inc s (g.H.Host.told l.host) ≡ beside l.fn.link.inc s (g.H.Host.told l.fn.host);
-  handing : (f : ℕ → Bool) → f l.fn.link.inc ≡ l.fn.link.held → handed f (g.H.Host.told l.host) ≡ handed f (g.H.Host.told l.fn.host);
+  handing : (f : ℕ → Bool) → f l.fn.link.inc ≡ l.fn.link.held → handed f (g.H.Host.told l.host)
+      ≡ handed f (g.H.Host.told l.fn.host);
   paced : (s : ℕ) → pace s (g.H.Host.told l.host) ≡ pace s (g.H.Host.told l.fn.host);
   served : IsServed (passed l.link.inc (g.H.Host.told l.host)) l.link [];
   ordered : course (g.H.Host.told l.host) ≡ course (g.H.Host.told l.fn.host);

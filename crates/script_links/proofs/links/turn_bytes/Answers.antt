@@ -10,5 +10,7 @@ returns-in_err-push_call-clause-lacking c =
 
 pub returns-in_err-push_frame-clause-lacking : goal.returns-in_err-push_frame-clause-lacking
 returns-in_err-push_frame-clause-lacking c =
-    let again : IsErrAnd c.from_residual-in_err-push_frame.result (λ x. x ≡ c.in_err-push_frame.field-0.0) = search rules in
-    lacks_on c.from_residual-in_err-push_frame.result c.in_err-push_frame.field-0.0 again c.in_err-push_frame.ensures.lacking
+    let again : IsErrAnd c.from_residual-in_err-push_frame.result (λ x. x ≡ c.in_err-push_frame.field-0.0) =
+    search rules in
+    lacks_on c.from_residual-in_err-push_frame.result c.in_err-push_frame.field-0.0 again
+    c.in_err-push_frame.ensures.lacking

@@ -12,5 +12,6 @@ loop-link-preserved g c = record {
   started = search (rules, c.end.ensures);
   ends = search (rules, c.end.ensures);
   ordered = search (rules, c.end.ensures);
-  linked = popped_linked c.loop-link.links.items c.pop.new.self.items c.in-Some.link c.in-Some.ensures.items c.end.ensures c.loop-link.invariant.linked;
+  linked = popped_linked c.loop-link.links.items c.pop.new.self.items c.in-Some.link c.in-Some.ensures.items
+      c.end.ensures c.loop-link.invariant.linked;
 }

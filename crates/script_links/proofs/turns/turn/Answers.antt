@@ -11,11 +11,13 @@ loop-place-preserved-then-branch g c = record {
   served = c.in_ok-serve_at.ensures.served;
   each = λ n ready. c.in_ok-serve_at.ensures.ready n (c.loop-place.invariant.each n ready);
   holding = λ f hold. c.serve_at.ensures.holding f (c.loop-place.invariant.holding f hold);
-  handing = λ f hold. c.serve_at.ensures.handing f (c.loop-place.invariant.holding f hold) ∙ c.loop-place.invariant.handing f hold;
+  handing = λ f hold. c.serve_at.ensures.handing f (c.loop-place.invariant.holding f hold)
+      ∙ c.loop-place.invariant.handing f hold;
   due = λ n due. c.in_ok-serve_at.ensures.due n (c.loop-place.invariant.due n due);
   ordered = c.serve_at.ensures.ordered ∙ c.loop-place.invariant.ordered;
   seen = c.in_ok-serve_at.ensures.seen;
-  anew = λ s. links_more (g.H.Host.told c.args.host.now) (g.H.Host.told c.loop-place.host) (g.H.Host.told c.serve_at.new.host) s (c.in_ok-serve_at.ensures.anew s) (c.loop-place.invariant.anew s);
+  anew = λ s. links_more (g.H.Host.told c.args.host.now) (g.H.Host.told c.loop-place.host)
+      (g.H.Host.told c.serve_at.new.host) s (c.in_ok-serve_at.ensures.anew s) (c.loop-place.invariant.anew s);
 }
 
 pub loop-place-preserved : goal.loop-place-preserved
@@ -29,18 +31,27 @@ loop-place-preserved g c =
       linked = c.end_at.ensures.linked;
       served = c.end_at.ensures.served;
       each = λ n ready.
-          turn_without n (g.H.Host.told c.serve_at.new.host) (g.H.Host.told c.end_at.new.host) c.serve_at.new.links.items c.loop-place.place within c.end_at.new.links.items c.end_at.ensures.rest c.end_at.ensures.paced
+          turn_without n (g.H.Host.told c.serve_at.new.host) (g.H.Host.told c.end_at.new.host)
+          c.serve_at.new.links.items c.loop-place.place within c.end_at.new.links.items c.end_at.ensures.rest
+          c.end_at.ensures.paced
           (c.in_ok-serve_at.ensures.ready n (c.loop-place.invariant.each n ready));
-      handing = λ f hold. c.end_at.ensures.handing f ∙ c.serve_at.ensures.handing f (c.loop-place.invariant.holding f hold) ∙ c.loop-place.invariant.handing f hold;
-      holding = λ f hold. c.end_at.ensures.holding f (c.serve_at.ensures.holding f (c.loop-place.invariant.holding f hold));
+      handing = λ f hold. c.end_at.ensures.handing f ∙ c.serve_at.ensures.handing f
+          (c.loop-place.invariant.holding f hold) ∙ c.loop-place.invariant.handing f hold;
+      holding = λ f hold. c.end_at.ensures.holding f
+          (c.serve_at.ensures.holding f (c.loop-place.invariant.holding f hold));
       due = λ n due.
-          had_without n (g.H.Host.told c.serve_at.new.host) (g.H.Host.told c.end_at.new.host) c.serve_at.new.links.items c.loop-place.place within c.end_at.new.links.items c.end_at.ensures.rest c.end_at.ensures.paced
+          had_without n (g.H.Host.told c.serve_at.new.host) (g.H.Host.told c.end_at.new.host)
+          c.serve_at.new.links.items c.loop-place.place within c.end_at.new.links.items c.end_at.ensures.rest
+          c.end_at.ensures.paced
           (c.in_ok-serve_at.ensures.due n (c.loop-place.invariant.due n due));
       ordered = c.end_at.ensures.ordered ∙ c.serve_at.ensures.ordered ∙ c.loop-place.invariant.ordered;
       seen = c.in_ok-end_at.ensures.seen;
       anew = λ s.
-          links_still (g.H.Host.told c.args.host.now) (g.H.Host.told c.serve_at.new.host) (g.H.Host.told c.end_at.new.host) s (c.end_at.ensures.paced s)
-          (links_more (g.H.Host.told c.args.host.now) (g.H.Host.told c.loop-place.host) (g.H.Host.told c.serve_at.new.host) s (c.in_ok-serve_at.ensures.anew s) (c.loop-place.invariant.anew s));
+          links_still (g.H.Host.told c.args.host.now) (g.H.Host.told c.serve_at.new.host)
+          (g.H.Host.told c.end_at.new.host) s (c.end_at.ensures.paced s)
+          (links_more (g.H.Host.told c.args.host.now) (g.H.Host.told c.loop-place.host)
+          (g.H.Host.told c.serve_at.new.host) s (c.in_ok-serve_at.ensures.anew s)
+          (c.loop-place.invariant.anew s));
     }
 
 pub returns-clause-ready : goal.returns-clause-ready
@@ -50,26 +61,33 @@ pub returns-clause-due : goal.returns-clause-due
 returns-clause-due g c = λ n due.
     let test = c.loop-place-test.false in
     let len = c.len.ensures in
-    had_all n (g.H.Host.told c.loop-place.host) c.loop-place.links.items c.loop-place.place (omega (arith, test, len)) (c.loop-place.invariant.due n due)
+    had_all n (g.H.Host.told c.loop-place.host) c.loop-place.links.items c.loop-place.place
+    (omega (arith, test, len)) (c.loop-place.invariant.due n due)
 
 pub returns-in_err-serve_at-clause-shown : goal.returns-in_err-serve_at-clause-shown
 returns-in_err-serve_at-clause-shown g c =
     let again : IsErrAnd c.from_residual.result (λ x. x ≡ c.in_err-serve_at.field-0.0) = search rules in
-    passed_on g.H.Disk.Disk c.from_residual.result c.in_err-serve_at.field-0.0 (g.H.Host.told c.serve_at.new.host) again c.in_err-serve_at.ensures.shown
+    passed_on g.H.Disk.Disk c.from_residual.result c.in_err-serve_at.field-0.0 (g.H.Host.told c.serve_at.new.host)
+    again c.in_err-serve_at.ensures.shown
 
 pub returns-in_err-end_at-clause-shown : goal.returns-in_err-end_at-clause-shown
 returns-in_err-end_at-clause-shown g c =
     let again : IsErrAnd c.from_residual-in_err-end_at.result (λ x. x ≡ c.in_err-end_at.field-0.0) = search rules in
-    passed_on g.H.Disk.Disk c.from_residual-in_err-end_at.result c.in_err-end_at.field-0.0 (g.H.Host.told c.end_at.new.host) again c.in_err-end_at.ensures.shown
+    passed_on g.H.Disk.Disk c.from_residual-in_err-end_at.result c.in_err-end_at.field-0.0
+    (g.H.Host.told c.end_at.new.host) again c.in_err-end_at.ensures.shown
 
 pub returns-in_err-serve_at-clause-holding : goal.returns-in_err-serve_at-clause-holding
-returns-in_err-serve_at-clause-holding g c = λ f hold. c.serve_at.ensures.holding f (c.loop-place.invariant.holding f hold)
+returns-in_err-serve_at-clause-holding g c = λ f hold. c.serve_at.ensures.holding f
+    (c.loop-place.invariant.holding f hold)
 
 pub returns-in_err-end_at-clause-holding : goal.returns-in_err-end_at-clause-holding
-returns-in_err-end_at-clause-holding g c = λ f hold. c.end_at.ensures.holding f (c.serve_at.ensures.holding f (c.loop-place.invariant.holding f hold))
+returns-in_err-end_at-clause-holding g c = λ f hold. c.end_at.ensures.holding f
+    (c.serve_at.ensures.holding f (c.loop-place.invariant.holding f hold))
 
 pub returns-in_err-serve_at-clause-handing : goal.returns-in_err-serve_at-clause-handing
-returns-in_err-serve_at-clause-handing g c = λ f hold. c.serve_at.ensures.handing f (c.loop-place.invariant.holding f hold) ∙ c.loop-place.invariant.handing f hold
+returns-in_err-serve_at-clause-handing g c = λ f hold. c.serve_at.ensures.handing f
+    (c.loop-place.invariant.holding f hold) ∙ c.loop-place.invariant.handing f hold
 
 pub returns-in_err-end_at-clause-handing : goal.returns-in_err-end_at-clause-handing
-returns-in_err-end_at-clause-handing g c = λ f hold. c.end_at.ensures.handing f ∙ c.serve_at.ensures.handing f (c.loop-place.invariant.holding f hold) ∙ c.loop-place.invariant.handing f hold
+returns-in_err-end_at-clause-handing g c = λ f hold. c.end_at.ensures.handing f
+    ∙ c.serve_at.ensures.handing f (c.loop-place.invariant.holding f hold) ∙ c.loop-place.invariant.handing f hold

@@ -13,10 +13,13 @@ invariant-loop-place g l = record {
   told : IsTold g.H.Disk.Disk (g.H.Host.told l.host) l.core;
   linked : AreLinked (g.H.Host.told l.host) l.links.items;
   served : AreServed (g.H.Host.told l.host) l.links.items;
-  each : (n : ℕ) → AreReady n (g.H.Host.told l.fn.host) l.fn.links.items → IsUnderway n (g.H.Host.told l.host) l.links.items l.place;
+  each : (n : ℕ) → AreReady n (g.H.Host.told l.fn.host) l.fn.links.items
+      → IsUnderway n (g.H.Host.told l.host) l.links.items l.place;
   holding : (f : ℕ → Bool) → HoldFor f l.fn.links.items → HoldFor f l.links.items;
-  handing : (f : ℕ → Bool) → HoldFor f l.fn.links.items → handed f (g.H.Host.told l.host) ≡ handed f (g.H.Host.told l.fn.host);
-  due : (n : ℕ) → AreDue n (g.H.Host.told l.fn.host) l.fn.links.items → HaveHad n (g.H.Host.told l.host) l.links.items l.place;
+  handing : (f : ℕ → Bool) → HoldFor f l.fn.links.items → handed f (g.H.Host.told l.host)
+      ≡ handed f (g.H.Host.told l.fn.host);
+  due : (n : ℕ) → AreDue n (g.H.Host.told l.fn.host) l.fn.links.items
+      → HaveHad n (g.H.Host.told l.host) l.links.items l.place;
   ordered : course (g.H.Host.told l.host) ≡ course (g.H.Host.told l.fn.host);
   seen : Tells (notices (g.H.Host.told l.host)) l.noticed;
   anew : (s : ℕ) → (pace s (g.H.Host.told l.fn.host)).links ≤ (pace s (g.H.Host.told l.host)).links;

@@ -15,7 +15,8 @@ invariant-loop-done g l = record {
   served : AreServed (g.H.Host.told l.host) l.links.items;
   ready : AreReady (l.done + 1) (g.H.Host.told l.host) l.links.items;
   holding : (f : ℕ → Bool) → HoldFor f l.fn.links.items → HoldFor f l.links.items;
-  handing : (f : ℕ → Bool) → HoldFor f l.fn.links.items → handed f (g.H.Host.told l.host) ≡ handed f (g.H.Host.told l.fn.host);
+  handing : (f : ℕ → Bool) → HoldFor f l.fn.links.items → handed f (g.H.Host.told l.host)
+      ≡ handed f (g.H.Host.told l.fn.host);
   due : AreDue (l.done + 1) (g.H.Host.told l.host) l.links.items;
   ordered : course (g.H.Host.told l.host) ≡ course (g.H.Host.told l.fn.host);
   seen : Tells (notices (g.H.Host.told l.host)) l.noticed;

@@ -8,14 +8,21 @@ use Rattle.script_opens.proofs.opens.open_disk.Goals as goal
 pub returns-in-Ok-clause-first : goal.returns-in-Ok-clause-first
 returns-in-Ok-clause-first g c =
     let disk = c.document_on-file.result.1 in
-    read_told g.H.Disk.Disk c.args.name c.deref.result.now c.args.width c.args.height (g.H.Host.told c.args.host.now) (g.H.Host.told c.shut.new.self) (g.H.Host.told c.open_found.new.host) c.args.disk disk c.requires.found
-    (c.shut.ensures ∙ ap (λ (n : List ℕ). Shut n disk ∷ g.H.Host.told c.args.host.now) c.as_slice.ensures) c.open_found.result
+    read_told g.H.Disk.Disk c.args.name c.deref.result.now c.args.width c.args.height
+    (g.H.Host.told c.args.host.now) (g.H.Host.told c.shut.new.self) (g.H.Host.told c.open_found.new.host)
+    c.args.disk disk c.requires.found
+    (c.shut.ensures ∙ ap (λ (n : List ℕ). Shut n disk ∷ g.H.Host.told c.args.host.now) c.as_slice.ensures)
+    c.open_found.result
     (λ m. subst (λ (b : List ℕ). IsReadOf g.H.Disk.Disk c.args.disk b disk) (sym c.deref.ensures.value)
-    (IfOk-at_ok (λ file. IsReadOf g.H.Disk.Disk c.args.disk file.items disk) c.in-Ok.is (c.document_on-file.ensures.read m)))
+    (IfOk-at_ok (λ file. IsReadOf g.H.Disk.Disk c.args.disk file.items disk) c.in-Ok.is
+    (c.document_on-file.ensures.read m)))
     c.open_found.ensures.opened
 
 pub returns-in-Err-clause-first : goal.returns-in-Err-clause-first
 returns-in-Err-clause-first g c =
     let disk = c.document_on-file.result.1 in
-    fault_told g.H.Disk.Disk c.args.name [] c.args.width c.args.height (g.H.Host.told c.args.host.now) (g.H.Host.told c.shut.new.self) (g.H.Host.told c.shut.new.self) c.args.disk disk c.requires.found
-    (c.shut.ensures ∙ ap (λ (n : List ℕ). Shut n disk ∷ g.H.Host.told c.args.host.now) c.as_slice.ensures) c.unread.result c.in-Err.fault (λ m is. c.document_on-file.ensures.large m (err_same c.in-Err.fault c.in-Err.is is)) refl c.unread.ensures.told
+    fault_told g.H.Disk.Disk c.args.name [] c.args.width c.args.height (g.H.Host.told c.args.host.now)
+    (g.H.Host.told c.shut.new.self) (g.H.Host.told c.shut.new.self) c.args.disk disk c.requires.found
+    (c.shut.ensures ∙ ap (λ (n : List ℕ). Shut n disk ∷ g.H.Host.told c.args.host.now) c.as_slice.ensures)
+    c.unread.result c.in-Err.fault (λ m is. c.document_on-file.ensures.large m
+    (err_same c.in-Err.fault c.in-Err.is is)) refl c.unread.ensures.told

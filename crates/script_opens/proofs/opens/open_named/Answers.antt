@@ -4,10 +4,14 @@ use Rattle.script_opens.proofs.opens.open_named.Goals as goal
 
 pub returns-in-Ok-None-clause-first : goal.returns-in-Ok-None-clause-first
 returns-in-Ok-None-clause-first g c =
-    none_found g.H.Disk.Disk c.args.name c.args.width c.args.height (g.H.Host.told c.args.host.now) (g.H.Host.told c.find.new.self)
-    (found_none (g.H.Host.told c.args.host.now) (g.H.Host.told c.find.new.self) c.args.name c.as_slice.result.now c.in-Ok-None.field-0 c.in-Ok-None.ensures.told c.as_slice.ensures c.in-Ok-None.field-0-is)
+    none_found g.H.Disk.Disk c.args.name c.args.width c.args.height (g.H.Host.told c.args.host.now)
+    (g.H.Host.told c.find.new.self)
+    (found_none (g.H.Host.told c.args.host.now) (g.H.Host.told c.find.new.self) c.args.name c.as_slice.result.now
+    c.in-Ok-None.field-0 c.in-Ok-None.ensures.told c.as_slice.ensures c.in-Ok-None.field-0-is)
 
 pub returns-in-Err-clause-first : goal.returns-in-Err-clause-first
 returns-in-Err-clause-first g c =
-    not_found g.H.Disk.Disk c.args.name c.args.width c.args.height (g.H.Host.told c.args.host.now) (g.H.Host.told c.find.new.self)
-    (found_none (g.H.Host.told c.args.host.now) (g.H.Host.told c.find.new.self) c.args.name c.as_slice.result.now None c.in-Err.ensures.told c.as_slice.ensures refl) c.unfound.result c.in-Err.fault c.unfound.ensures.told
+    not_found g.H.Disk.Disk c.args.name c.args.width c.args.height (g.H.Host.told c.args.host.now)
+    (g.H.Host.told c.find.new.self)
+    (found_none (g.H.Host.told c.args.host.now) (g.H.Host.told c.find.new.self) c.args.name c.as_slice.result.now
+    None c.in-Err.ensures.told c.as_slice.ensures refl) c.unfound.result c.in-Err.fault c.unfound.ensures.told

@@ -10,51 +10,74 @@ use Rattle.script_run.proofs.Writing.{all_ended, none_written, of_commands, some
 use Rattle.script_run.proofs.script.run_script.Goals as goal
 
 pub returns-in-Err-clause-faulted : goal.returns-in-Err-clause-faulted
-returns-in-Err-clause-faulted g c = unread_so g.H.Disk.Disk (g.R.Read.remaining c.args.reader.now) (g.H.Host.told c.args.host.now) c.in-Err.fault c.requires c.in-Err.ensures.refused
+returns-in-Err-clause-faulted g c = unread_so g.H.Disk.Disk (g.R.Read.remaining c.args.reader.now)
+    (g.H.Host.told c.args.host.now) c.in-Err.fault c.requires c.in-Err.ensures.refused
 
 pub returns-clause-faulted : goal.returns-clause-faulted
 returns-clause-faulted g c =
-    ended_so g.H.Disk.Disk c.carry_out_all-told.result (g.R.Read.remaining c.args.reader.now) c.in-Ok.commands.items (g.H.Host.told c.carry_out_all-told.new.host) (g.H.Host.told c.end_all.new.host) c.in-Ok.ensures.read c.end_all.ensures.ends c.carry_out_all-told.ensures.shown
+    ended_so g.H.Disk.Disk c.carry_out_all-told.result (g.R.Read.remaining c.args.reader.now) c.in-Ok.commands.items
+    (g.H.Host.told c.carry_out_all-told.new.host) (g.H.Host.told c.end_all.new.host) c.in-Ok.ensures.read
+    c.end_all.ensures.ends c.carry_out_all-told.ensures.shown
 
 pub returns-clause-settled : goal.returns-clause-settled
 returns-clause-settled g c =
-    settled_still c.carry_out_all-told.result (g.H.Host.told c.carry_out_all-told.new.host) (g.H.Host.told c.end_all.new.host) c.carry_out_all-told.new.core c.carry_out_all-told.ensures.told c.end_all.ensures.ends c.carry_out_all-told.ensures.settled
+    settled_still c.carry_out_all-told.result (g.H.Host.told c.carry_out_all-told.new.host)
+    (g.H.Host.told c.end_all.new.host) c.carry_out_all-told.new.core c.carry_out_all-told.ensures.told
+    c.end_all.ensures.ends c.carry_out_all-told.ensures.settled
 
 pub carry_out_all-told-requires-clause-quiet : goal.carry_out_all-told-requires-clause-quiet
-carry_out_all-told-requires-clause-quiet g c = λ s asked. let none : is_asked s c.new-core.result.objects ≡ false = ap (λ (r : Record). is_asked s r.objects) c.new-core.ensures.empty in absurd (cc)
+carry_out_all-told-requires-clause-quiet g c = λ s asked. let none : is_asked s c.new-core.result.objects ≡ false =
+    ap (λ (r : Record). is_asked s r.objects) c.new-core.ensures.empty in absurd (cc)
 
 pub carry_out_all-told-requires-clause-saved : goal.carry_out_all-told-requires-clause-saved
 carry_out_all-told-requires-clause-saved g c = ap (λ (r : Record). is_any_unsaved r.frames) c.new-core.ensures.empty
 
 pub returns-in-Err-clause-begun_printed : goal.returns-in-Err-clause-begun_printed
 returns-in-Err-clause-begun_printed g c =
-    unread_none g.H.Disk.Disk (before_ends (g.H.Host.told c.args.host.now)) (g.R.Read.remaining c.args.reader.now) (g.W.Write.contents c.args.writer.now) c.in-Err.fault c.in-Err.ensures.refused
+    unread_none g.H.Disk.Disk (before_ends (g.H.Host.told c.args.host.now)) (g.R.Read.remaining c.args.reader.now)
+    (g.W.Write.contents c.args.writer.now) c.in-Err.fault c.in-Err.ensures.refused
 
 pub returns-in_default-clause-begun_printed : goal.returns-in_default-clause-begun_printed
-returns-in_default-clause-begun_printed g c = none_written g.H.Disk.Disk (g.H.Host.told c.args.host.now) (g.R.Read.remaining c.args.reader.now) c.in-Ok.commands.items (g.W.Write.contents c.args.writer.now) c.in-Ok.ensures.read c.requires
+returns-in_default-clause-begun_printed g c = none_written g.H.Disk.Disk (g.H.Host.told c.args.host.now)
+    (g.R.Read.remaining c.args.reader.now) c.in-Ok.commands.items (g.W.Write.contents c.args.writer.now)
+    c.in-Ok.ensures.read c.requires
 
 pub returns-clause-printed : goal.returns-clause-printed
 returns-clause-printed g c =
-    all_ended g.H.Disk.Disk c.carry_out_all-told.result (g.R.Read.remaining c.args.reader.now) c.in-Ok.commands.items (g.H.Host.told c.carry_out_all-told.new.host) (g.H.Host.told c.end_all.new.host) c.carry_out_all-told.new.core
-    (g.W.Write.contents c.args.writer.now) (g.W.Write.contents c.carry_out_all-told.new.writer) c.in-Ok.ensures.read c.carry_out_all-told.ensures.told c.end_all.ensures.ends c.carry_out_all-told.ensures.printed
+    all_ended g.H.Disk.Disk c.carry_out_all-told.result (g.R.Read.remaining c.args.reader.now)
+    c.in-Ok.commands.items (g.H.Host.told c.carry_out_all-told.new.host) (g.H.Host.told c.end_all.new.host)
+    c.carry_out_all-told.new.core
+    (g.W.Write.contents c.args.writer.now) (g.W.Write.contents c.carry_out_all-told.new.writer) c.in-Ok.ensures.read
+    c.carry_out_all-told.ensures.told c.end_all.ensures.ends c.carry_out_all-told.ensures.printed
 
 pub returns-clause-begun_printed : goal.returns-clause-begun_printed
 returns-clause-begun_printed g c =
-    some_ended g.H.Disk.Disk c.carry_out_all-told.result (g.R.Read.remaining c.args.reader.now) c.in-Ok.commands.items (g.H.Host.told c.carry_out_all-told.new.host) (g.H.Host.told c.end_all.new.host) c.carry_out_all-told.new.core
-    (g.W.Write.contents c.args.writer.now) (g.W.Write.contents c.carry_out_all-told.new.writer) c.in-Ok.ensures.read c.carry_out_all-told.ensures.told c.end_all.ensures.ends
-    (of_commands g.H.Disk.Disk c.carry_out_all-told.result c.in-Ok.commands.items (g.H.Host.told c.carry_out_all-told.new.host) c.carry_out_all-told.ensures.shown) c.carry_out_all-told.ensures.begun_printed
+    some_ended g.H.Disk.Disk c.carry_out_all-told.result (g.R.Read.remaining c.args.reader.now)
+    c.in-Ok.commands.items (g.H.Host.told c.carry_out_all-told.new.host) (g.H.Host.told c.end_all.new.host)
+    c.carry_out_all-told.new.core
+    (g.W.Write.contents c.args.writer.now) (g.W.Write.contents c.carry_out_all-told.new.writer) c.in-Ok.ensures.read
+    c.carry_out_all-told.ensures.told c.end_all.ensures.ends
+    (of_commands g.H.Disk.Disk c.carry_out_all-told.result c.in-Ok.commands.items
+    (g.H.Host.told c.carry_out_all-told.new.host) c.carry_out_all-told.ensures.shown)
+    c.carry_out_all-told.ensures.begun_printed
 
 pub returns-clause-released : goal.returns-clause-released
 returns-clause-released g c =
-    released_still c.carry_out_all-told.result (g.R.Read.remaining c.args.reader.now) c.in-Ok.commands.items (g.H.Host.told c.carry_out_all-told.new.host) (g.H.Host.told c.end_all.new.host) c.carry_out_all-told.new.core c.in-Ok.ensures.read c.carry_out_all-told.ensures.told c.end_all.ensures.ends
+    released_still c.carry_out_all-told.result (g.R.Read.remaining c.args.reader.now) c.in-Ok.commands.items
+    (g.H.Host.told c.carry_out_all-told.new.host) (g.H.Host.told c.end_all.new.host)
+    c.carry_out_all-told.new.core c.in-Ok.ensures.read c.carry_out_all-told.ensures.told c.end_all.ensures.ends
     c.carry_out_all-told.ensures.released
 
 pub returns-in-Err-clause-held_back : goal.returns-in-Err-clause-held_back
-returns-in-Err-clause-held_back g c = back_none (g.R.Read.remaining c.args.reader.now) (g.H.Host.told c.args.host.now) c.requires
+returns-in-Err-clause-held_back g c = back_none (g.R.Read.remaining c.args.reader.now)
+    (g.H.Host.told c.args.host.now) c.requires
 
 pub returns-in_default-clause-held_back : goal.returns-in_default-clause-held_back
-returns-in_default-clause-held_back g c = back_none (g.R.Read.remaining c.args.reader.now) (g.H.Host.told c.args.host.now) c.requires
+returns-in_default-clause-held_back g c = back_none (g.R.Read.remaining c.args.reader.now)
+    (g.H.Host.told c.args.host.now) c.requires
 
 pub returns-clause-held_back : goal.returns-clause-held_back
 returns-clause-held_back g c =
-    back_ended (g.R.Read.remaining c.args.reader.now) c.in-Ok.commands.items (g.H.Host.told c.carry_out_all-told.new.host) (g.H.Host.told c.end_all.new.host) c.in-Ok.ensures.read c.end_all.ensures.ends c.carry_out_all-told.ensures.held_back
+    back_ended (g.R.Read.remaining c.args.reader.now) c.in-Ok.commands.items
+    (g.H.Host.told c.carry_out_all-told.new.host) (g.H.Host.told c.end_all.new.host) c.in-Ok.ensures.read
+    c.end_all.ensures.ends c.carry_out_all-told.ensures.held_back

@@ -1,5 +1,5 @@
 use Rattle.std.proofs.Common.{◌≤◌, IfSome}
-use Rattle.texts.specs.Input.{most}
+use Rattle.text_io.specs.Input.{most}
 use Rattle.tree_descriptions.specs.Building.{IsBuilt}
 use Rattle.tree_descriptions.specs.Run.{IsRun}
 use Rattle.tree_descriptions.proofs.Reading.{IsReading, to_come}
@@ -9,7 +9,8 @@ abbrev pub invariant-loop-run : goal.invariant-loop-run
 invariant-loop-run g l = record {
   lines : l.passed.lines ≤ l.passed.bytes;
   bytes : l.passed.bytes ≤ most;
-  so_far : IfSome (g.R.Read.remaining l.fn.reader) (λ text. IsReading text l.next l.line.items l.passed (g.R.Read.remaining l.reader) (IsRun l.run));
+  so_far : IfSome (g.R.Read.remaining l.fn.reader)
+      (λ text. IsReading text l.next l.line.items l.passed (g.R.Read.remaining l.reader) (IsRun l.run));
 }
 
 abbrev pub decreases-loop-run : goal.decreases-loop-run
@@ -19,7 +20,8 @@ abbrev pub invariant-loop-next : goal.invariant-loop-next
 invariant-loop-next g l = record {
   lines : l.passed.lines ≤ l.passed.bytes;
   bytes : l.passed.bytes ≤ most;
-  so_far : IfSome (g.R.Read.remaining l.fn.reader) (λ text. IsReading text l.next l.line.items l.passed (g.R.Read.remaining l.reader) (IsBuilt l.building));
+  so_far : IfSome (g.R.Read.remaining l.fn.reader)
+      (λ text. IsReading text l.next l.line.items l.passed (g.R.Read.remaining l.reader) (IsBuilt l.building));
 }
 
 abbrev pub decreases-loop-next : goal.decreases-loop-next

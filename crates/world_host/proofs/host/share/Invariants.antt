@@ -8,14 +8,20 @@ abbrev pub invariant-loop-action : goal.invariant-loop-action
 invariant-loop-action l = record {
   can_next : (goal.iterator-loop-action).can_next l.action-iterator;
   is_finite : (goal.iterator-loop-action).is_finite l.action-iterator;
-  few : vec_len l.sent + into_iter_len l.action-iterator ≤ vec_len l.initial.sent + into_iter_len l.initial.action-iterator;
-  count : vec_len l.sent + length (messages_of (into_iter_items l.action-iterator)) ≡ vec_len l.initial.sent + length (messages_of (into_iter_items l.initial.action-iterator));
+  few : vec_len l.sent + into_iter_len l.action-iterator ≤ vec_len l.initial.sent
+      + into_iter_len l.initial.action-iterator;
+  count : vec_len l.sent + length (messages_of (into_iter_items l.action-iterator)) ≡ vec_len l.initial.sent
+      + length (messages_of (into_iter_items l.initial.action-iterator));
   sent_room : vec_len l.sent + into_iter_len l.action-iterator ≤ vec_capacity l.sent;
   ends_room : vec_len l.ends + into_iter_len l.action-iterator ≤ vec_capacity l.ends;
   starts_room : vec_len l.starts + into_iter_len l.action-iterator ≤ vec_capacity l.starts;
   commits_room : vec_len l.commits + into_iter_len l.action-iterator ≤ vec_capacity l.commits;
-  sent : l.sent.items ++ map of_container (messages_of (into_iter_items l.action-iterator)) ≡ l.initial.sent.items ++ map of_container (messages_of (into_iter_items l.initial.action-iterator));
-  ends : l.ends.items ++ ends_of (into_iter_items l.action-iterator) ≡ l.initial.ends.items ++ ends_of (into_iter_items l.initial.action-iterator);
-  starts : l.starts.items ++ starts_of (into_iter_items l.action-iterator) ≡ l.initial.starts.items ++ starts_of (into_iter_items l.initial.action-iterator);
-  commits : l.commits.items ++ commits_of (into_iter_items l.action-iterator) ≡ l.initial.commits.items ++ commits_of (into_iter_items l.initial.action-iterator);
+  sent : l.sent.items ++ map of_container (messages_of (into_iter_items l.action-iterator)) ≡ l.initial.sent.items
+      ++ map of_container (messages_of (into_iter_items l.initial.action-iterator));
+  ends : l.ends.items ++ ends_of (into_iter_items l.action-iterator) ≡ l.initial.ends.items
+      ++ ends_of (into_iter_items l.initial.action-iterator);
+  starts : l.starts.items ++ starts_of (into_iter_items l.action-iterator) ≡ l.initial.starts.items
+      ++ starts_of (into_iter_items l.initial.action-iterator);
+  commits : l.commits.items ++ commits_of (into_iter_items l.action-iterator) ≡ l.initial.commits.items
+      ++ commits_of (into_iter_items l.initial.action-iterator);
 }

@@ -1,5 +1,5 @@
 use Rattle.std.proofs.Common.{◌≡◌, drop}
-use Rattle.story_model.specs.Story.{is_among}
+use Rattle.world_model.specs.Story.{is_among}
 use Rattle.world_host.proofs.stops.is_among.Given as goal
 
 abbrev pub invariant-loop-x : goal.invariant-loop-x

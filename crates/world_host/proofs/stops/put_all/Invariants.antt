@@ -8,5 +8,6 @@ invariant-loop-file l = record {
   can_next : (goal.iterator-loop-file).can_next l.file-iterator;
   is_finite : (goal.iterator-loop-file).is_finite l.file-iterator;
   room : vec_len l.files + into_iter_len l.file-iterator ≤ vec_capacity l.files;
-  put : put_each (into_iter_items l.file-iterator) l.files.items ≡ put_each (into_iter_items l.initial.file-iterator) l.initial.files.items;
+  put : put_each (into_iter_items l.file-iterator) l.files.items
+      ≡ put_each (into_iter_items l.initial.file-iterator) l.initial.files.items;
 }

@@ -21,7 +21,17 @@ returns-clause-read c =
       difat_sectors = search rules;
     } in
     let list : take c.read_u32-fat_count.result c.read_listed.result ≡ listed_first c.args.bytes.now =
-    first_by_index (λ k. u32_at c.args.bytes.now (76 + 4 * k)) c.read_listed.result c.read_u32-fat_count.result (search rules) c.read_listed.ensures
-    ∙ ap (λ n. map (λ k. u32_at c.args.bytes.now (76 + 4 * k)) (range_with_len 0 (min n 109))) c.read_u32-fat_count.ensures in
-    ap Ok (λ i. record { fat_count = c.read_u32-fat_count.ensures i; fat = list i; first_difat = c.read_u32-2.ensures i; difat_count = c.read_u32-difat_count.ensures i; first_directory = c.read_u32-3.ensures i; first_mini_fat = c.read_u32-4.ensures i; mini_fat_count = c.read_u32-5.ensures i })
+    first_by_index (λ k. u32_at c.args.bytes.now (76 + 4 * k)) c.read_listed.result c.read_u32-fat_count.result
+    (search rules) c.read_listed.ensures
+    ∙ ap (λ n. map (λ k. u32_at c.args.bytes.now (76 + 4 * k)) (range_with_len 0 (min n 109)))
+    c.read_u32-fat_count.ensures in
+    ap Ok (λ i. record {
+      fat_count = c.read_u32-fat_count.ensures i;
+      fat = list i;
+      first_difat = c.read_u32-2.ensures i;
+      difat_count = c.read_u32-difat_count.ensures i;
+      first_directory = c.read_u32-3.ensures i;
+      first_mini_fat = c.read_u32-4.ensures i;
+      mini_fat_count = c.read_u32-5.ensures i;
+    })
     ∙ sym (read_whole c.args.bytes.now h)

@@ -4,4 +4,5 @@ use Rattle.cfb_names.proofs.Keys.{keys_agree}
 use Rattle.cfb_names.proofs.name.Name.cmp.Goals as goal
 
 pub returns : goal.returns
-returns c = c.cmp.ensures ∙ (λ t. key_cmp (c.key.ensures t) (c.key-2.ensures t)) ∙ keys_agree c.args.self.now c.args.other.now
+returns c = c.cmp.ensures ∙ (λ t. key_cmp (c.key.ensures t) (c.key-2.ensures t))
+    ∙ keys_agree c.args.self.now c.args.other.now

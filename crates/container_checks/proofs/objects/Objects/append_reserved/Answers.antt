@@ -9,5 +9,9 @@ invariant_of-self c =
     let os : List Object = c.loop-object.self.list.items in
     let more : List Object = into_iter_items c.next.new.self in
     record {
-      rising = still (one_more os c.in-Some.object more (still c.loop-object.invariant.rising (ap (λ (ms : List Object). numbers os ++ numbers ms) c.in-Some.ensures.steps.0))) (ap numbers (sym c.push_reserved.ensures.items));
+      rising =
+          still (one_more os c.in-Some.object more
+          (still c.loop-object.invariant.rising
+          (ap (λ (ms : List Object). numbers os ++ numbers ms) c.in-Some.ensures.steps.0)))
+          (ap numbers (sym c.push_reserved.ensures.items));
     }

@@ -9,5 +9,6 @@ invariant-loop-object l = record {
   is_finite : (goal.iterator-loop-object).is_finite l.object-iterator;
   places : vec_len l.self.list + into_iter_len l.object-iterator ≤ vec_capacity l.self.list;
   rising : AreRising (numbers l.self.list.items ++ numbers (into_iter_items l.object-iterator));
-  added : l.self.list.items ++ into_iter_items l.object-iterator ≡ l.initial.self.list.items ++ into_iter_items l.initial.object-iterator;
+  added : l.self.list.items ++ into_iter_items l.object-iterator ≡ l.initial.self.list.items
+      ++ into_iter_items l.initial.object-iterator;
 }

@@ -1,5 +1,5 @@
 use Rattle.std.proofs.Common.{[]}
-use Rattle.container_steady.specs.Steady.{Steady}
+use Rattle.container_queues.specs.Steady.{Steady}
 use Rattle.container_model.specs.Inputs.{Input}
 use Rattle.container_model.specs.Messages.{on_reap}
 use Rattle.container_model.specs.Room.{IsSound}
@@ -10,16 +10,29 @@ use Rattle.container_core.proofs.container.ContainerCore.on_reap.Goals as goal
 
 pub returns-clause-steady : goal.returns-clause-steady
 returns-clause-steady c =
-    step_keeps Steady c.self.inside.state c.on_reap.new.state (on_reap c.self.inside.state c.args.inc) [] c.self.invariant.0 (λ t e. c.steady_after.ensures c.self.inside.state (Input.Reaped c.args.inc) t c.self.invariant.0 e) c.on_reap.result c.on_reap.ensures.taken c.on_reap.ensures.kept
+    step_keeps Steady c.self.inside.state c.on_reap.new.state (on_reap c.self.inside.state c.args.inc) []
+    c.self.invariant.0 (λ t e. c.steady_after.ensures c.self.inside.state (Input.Reaped c.args.inc) t
+    c.self.invariant.0 e) c.on_reap.result c.on_reap.ensures.taken c.on_reap.ensures.kept
 
 pub returns-clause-sound : goal.returns-clause-sound
 returns-clause-sound c =
-    step_keeps IsSound c.self.inside.state c.on_reap.new.state (on_reap c.self.inside.state c.args.inc) [] c.self.invariant.1 (λ t e. c.sound_after.ensures c.self.inside.state (Input.Reaped c.args.inc) t c.self.invariant.0 c.self.invariant.1 e) c.on_reap.result c.on_reap.ensures.taken c.on_reap.ensures.kept
+    step_keeps IsSound c.self.inside.state c.on_reap.new.state (on_reap c.self.inside.state c.args.inc) []
+    c.self.invariant.1 (λ t e. c.sound_after.ensures c.self.inside.state (Input.Reaped c.args.inc) t
+    c.self.invariant.0 c.self.invariant.1 e) c.on_reap.result c.on_reap.ensures.taken c.on_reap.ensures.kept
 
 pub invariant_of-self : goal.invariant_of-self
 invariant_of-self c = (
-  step_keeps Steady c.self.inside.state c.on_reap.new.state (on_reap c.self.inside.state c.args.inc) [] c.self.invariant.0 (λ t e. c.steady_after.ensures c.self.inside.state (Input.Reaped c.args.inc) t c.self.invariant.0 e) c.on_reap.result c.on_reap.ensures.taken c.on_reap.ensures.kept,
-  step_keeps IsSound c.self.inside.state c.on_reap.new.state (on_reap c.self.inside.state c.args.inc) [] c.self.invariant.1 (λ t e. c.sound_after.ensures c.self.inside.state (Input.Reaped c.args.inc) t c.self.invariant.0 c.self.invariant.1 e) c.on_reap.result c.on_reap.ensures.taken c.on_reap.ensures.kept,
-  step_keeps FewFrames c.self.inside.state c.on_reap.new.state (on_reap c.self.inside.state c.args.inc) [] c.self.invariant.2 (λ t e. c.few_frames_after.ensures c.self.inside.state (Input.Reaped c.args.inc) t c.self.invariant.2 e) c.on_reap.result c.on_reap.ensures.taken c.on_reap.ensures.kept,
-  step_keeps InSession c.self.inside.state c.on_reap.new.state (on_reap c.self.inside.state c.args.inc) [] c.self.invariant.3 (λ t e. (c.sessions_stay.ensures c.self.inside.state (Input.Reaped c.args.inc) t c.self.invariant.3 e).holds) c.on_reap.result c.on_reap.ensures.taken c.on_reap.ensures.kept,
+  step_keeps Steady c.self.inside.state c.on_reap.new.state (on_reap c.self.inside.state c.args.inc) []
+      c.self.invariant.0 (λ t e. c.steady_after.ensures c.self.inside.state (Input.Reaped c.args.inc) t
+      c.self.invariant.0 e) c.on_reap.result c.on_reap.ensures.taken c.on_reap.ensures.kept,
+  step_keeps IsSound c.self.inside.state c.on_reap.new.state (on_reap c.self.inside.state c.args.inc) []
+      c.self.invariant.1 (λ t e. c.sound_after.ensures c.self.inside.state (Input.Reaped c.args.inc) t
+      c.self.invariant.0 c.self.invariant.1 e) c.on_reap.result c.on_reap.ensures.taken c.on_reap.ensures.kept,
+  step_keeps FewFrames c.self.inside.state c.on_reap.new.state (on_reap c.self.inside.state c.args.inc) []
+      c.self.invariant.2 (λ t e. c.few_frames_after.ensures c.self.inside.state (Input.Reaped c.args.inc) t
+      c.self.invariant.2 e) c.on_reap.result c.on_reap.ensures.taken c.on_reap.ensures.kept,
+  step_keeps InSession c.self.inside.state c.on_reap.new.state (on_reap c.self.inside.state c.args.inc) []
+      c.self.invariant.3
+      (λ t e. (c.sessions_stay.ensures c.self.inside.state (Input.Reaped c.args.inc) t c.self.invariant.3 e).holds)
+      c.on_reap.result c.on_reap.ensures.taken c.on_reap.ensures.kept,
 )

@@ -1,6 +1,6 @@
 use Rattle.std.proofs.Common.{◌≡◌, ◌≢◌, ◌∙◌, [], if◌then◌else◌, refl, subst}
 use Rattle.std.specs.Prelude.{OnOk}
-use Rattle.container_steady.specs.Steady.{Steady}
+use Rattle.container_queues.specs.Steady.{Steady}
 use Rattle.container_model.specs.Inputs.{Input}
 use Rattle.container_model.specs.Record.{Record}
 use Rattle.container_model.specs.Saves.{counted_of, resolve, session_counted}
@@ -13,28 +13,66 @@ use Rattle.container_core.proofs.container.ContainerCore.resolve.Goals as goal
 
 pub returns-clause-steady : goal.returns-clause-steady
 returns-clause-steady c =
-    step_keeps Steady c.self.inside.state c.resolve-answer.new.state (resolve c.self.inside.state c.args.f c.args.is_kept) (if c.args.is_kept then counted_of c.self.inside.state c.args.f else []) c.self.invariant.0 (λ t e. c.steady_after.ensures c.self.inside.state (Input.Resolved c.args.f c.args.is_kept) t c.self.invariant.0 e) c.resolve-answer.result c.resolve-answer.ensures.taken c.resolve-answer.ensures.kept
+    step_keeps Steady c.self.inside.state c.resolve-answer.new.state
+    (resolve c.self.inside.state c.args.f c.args.is_kept)
+    (if c.args.is_kept then counted_of c.self.inside.state c.args.f else []) c.self.invariant.0
+    (λ t e. c.steady_after.ensures c.self.inside.state (Input.Resolved c.args.f c.args.is_kept) t
+    c.self.invariant.0 e) c.resolve-answer.result c.resolve-answer.ensures.taken c.resolve-answer.ensures.kept
 
 pub returns-clause-sound : goal.returns-clause-sound
 returns-clause-sound c =
-    step_keeps IsSound c.self.inside.state c.resolve-answer.new.state (resolve c.self.inside.state c.args.f c.args.is_kept) (if c.args.is_kept then counted_of c.self.inside.state c.args.f else []) c.self.invariant.1 (λ t e. c.sound_after.ensures c.self.inside.state (Input.Resolved c.args.f c.args.is_kept) t c.self.invariant.0 c.self.invariant.1 e) c.resolve-answer.result c.resolve-answer.ensures.taken c.resolve-answer.ensures.kept
+    step_keeps IsSound c.self.inside.state c.resolve-answer.new.state
+    (resolve c.self.inside.state c.args.f c.args.is_kept)
+    (if c.args.is_kept then counted_of c.self.inside.state c.args.f else []) c.self.invariant.1
+    (λ t e. c.sound_after.ensures c.self.inside.state (Input.Resolved c.args.f c.args.is_kept) t
+    c.self.invariant.0 c.self.invariant.1 e) c.resolve-answer.result c.resolve-answer.ensures.taken
+    c.resolve-answer.ensures.kept
 
 pub returns-clause-session : goal.returns-clause-session
 returns-clause-session c =
-    subst (λ (z : Record). OnOk c.resolve-answer.result (c.resolve-answer.new.state.session ≡ (if c.args.is_kept then session_counted z c.args.f else z.session))) c.self.view_is
-    (session_given (if c.args.is_kept then session_counted c.self.inside.state c.args.f else c.self.inside.state.session) c.resolve-answer.new.state (resolve c.self.inside.state c.args.f c.args.is_kept) (if c.args.is_kept then counted_of c.self.inside.state c.args.f else [])
-    (λ t e. (c.sessions_stay.ensures c.self.inside.state (Input.Resolved c.args.f c.args.is_kept) t c.self.invariant.3 e).same ∙ resolved_by c.self.inside.state c.args.f c.args.is_kept) c.resolve-answer.result c.resolve-answer.ensures.taken)
+    subst (λ (z : Record). OnOk c.resolve-answer.result
+    (c.resolve-answer.new.state.session ≡ (if c.args.is_kept then session_counted z c.args.f else z.session)))
+    c.self.view_is
+    (session_given (if c.args.is_kept then session_counted c.self.inside.state c.args.f
+    else c.self.inside.state.session) c.resolve-answer.new.state
+    (resolve c.self.inside.state c.args.f c.args.is_kept)
+    (if c.args.is_kept then counted_of c.self.inside.state c.args.f else [])
+    (λ t e. (c.sessions_stay.ensures c.self.inside.state (Input.Resolved c.args.f c.args.is_kept) t
+    c.self.invariant.3 e).same ∙ resolved_by c.self.inside.state c.args.f c.args.is_kept)
+    c.resolve-answer.result c.resolve-answer.ensures.taken)
 
 pub returns-clause-stays : goal.returns-clause-stays
 returns-clause-stays c =
     subst (λ (z : Record). z.session ≢ 0 → c.resolve-answer.new.state.session ≡ z.session) c.self.view_is
-    (step_keeps (λ (z : Record). c.self.inside.state.session ≢ 0 → z.session ≡ c.self.inside.state.session) c.self.inside.state c.resolve-answer.new.state (resolve c.self.inside.state c.args.f c.args.is_kept) (if c.args.is_kept then counted_of c.self.inside.state c.args.f else []) (λ raised. refl)
-    (λ t e. (c.sessions_stay.ensures c.self.inside.state (Input.Resolved c.args.f c.args.is_kept) t c.self.invariant.3 e).stays) c.resolve-answer.result c.resolve-answer.ensures.taken c.resolve-answer.ensures.kept)
+    (step_keeps (λ (z : Record). c.self.inside.state.session ≢ 0 → z.session ≡ c.self.inside.state.session)
+    c.self.inside.state c.resolve-answer.new.state (resolve c.self.inside.state c.args.f c.args.is_kept)
+    (if c.args.is_kept then counted_of c.self.inside.state c.args.f else []) (λ raised. refl)
+    (λ t e. (c.sessions_stay.ensures c.self.inside.state (Input.Resolved c.args.f c.args.is_kept) t
+    c.self.invariant.3 e).stays) c.resolve-answer.result c.resolve-answer.ensures.taken
+    c.resolve-answer.ensures.kept)
 
 pub invariant_of-self : goal.invariant_of-self
 invariant_of-self c = (
-  step_keeps Steady c.self.inside.state c.resolve-answer.new.state (resolve c.self.inside.state c.args.f c.args.is_kept) (if c.args.is_kept then counted_of c.self.inside.state c.args.f else []) c.self.invariant.0 (λ t e. c.steady_after.ensures c.self.inside.state (Input.Resolved c.args.f c.args.is_kept) t c.self.invariant.0 e) c.resolve-answer.result c.resolve-answer.ensures.taken c.resolve-answer.ensures.kept,
-  step_keeps IsSound c.self.inside.state c.resolve-answer.new.state (resolve c.self.inside.state c.args.f c.args.is_kept) (if c.args.is_kept then counted_of c.self.inside.state c.args.f else []) c.self.invariant.1 (λ t e. c.sound_after.ensures c.self.inside.state (Input.Resolved c.args.f c.args.is_kept) t c.self.invariant.0 c.self.invariant.1 e) c.resolve-answer.result c.resolve-answer.ensures.taken c.resolve-answer.ensures.kept,
-  step_keeps FewFrames c.self.inside.state c.resolve-answer.new.state (resolve c.self.inside.state c.args.f c.args.is_kept) (if c.args.is_kept then counted_of c.self.inside.state c.args.f else []) c.self.invariant.2 (λ t e. c.few_frames_after.ensures c.self.inside.state (Input.Resolved c.args.f c.args.is_kept) t c.self.invariant.2 e) c.resolve-answer.result c.resolve-answer.ensures.taken c.resolve-answer.ensures.kept,
-  step_keeps InSession c.self.inside.state c.resolve-answer.new.state (resolve c.self.inside.state c.args.f c.args.is_kept) (if c.args.is_kept then counted_of c.self.inside.state c.args.f else []) c.self.invariant.3 (λ t e. (c.sessions_stay.ensures c.self.inside.state (Input.Resolved c.args.f c.args.is_kept) t c.self.invariant.3 e).holds) c.resolve-answer.result c.resolve-answer.ensures.taken c.resolve-answer.ensures.kept,
+  step_keeps Steady c.self.inside.state c.resolve-answer.new.state
+      (resolve c.self.inside.state c.args.f c.args.is_kept)
+      (if c.args.is_kept then counted_of c.self.inside.state c.args.f else []) c.self.invariant.0
+      (λ t e. c.steady_after.ensures c.self.inside.state (Input.Resolved c.args.f c.args.is_kept) t
+      c.self.invariant.0 e) c.resolve-answer.result c.resolve-answer.ensures.taken c.resolve-answer.ensures.kept,
+  step_keeps IsSound c.self.inside.state c.resolve-answer.new.state
+      (resolve c.self.inside.state c.args.f c.args.is_kept)
+      (if c.args.is_kept then counted_of c.self.inside.state c.args.f else []) c.self.invariant.1
+      (λ t e. c.sound_after.ensures c.self.inside.state (Input.Resolved c.args.f c.args.is_kept) t
+      c.self.invariant.0 c.self.invariant.1 e) c.resolve-answer.result c.resolve-answer.ensures.taken
+      c.resolve-answer.ensures.kept,
+  step_keeps FewFrames c.self.inside.state c.resolve-answer.new.state
+      (resolve c.self.inside.state c.args.f c.args.is_kept)
+      (if c.args.is_kept then counted_of c.self.inside.state c.args.f else []) c.self.invariant.2
+      (λ t e. c.few_frames_after.ensures c.self.inside.state (Input.Resolved c.args.f c.args.is_kept) t
+      c.self.invariant.2 e) c.resolve-answer.result c.resolve-answer.ensures.taken c.resolve-answer.ensures.kept,
+  step_keeps InSession c.self.inside.state c.resolve-answer.new.state
+      (resolve c.self.inside.state c.args.f c.args.is_kept)
+      (if c.args.is_kept then counted_of c.self.inside.state c.args.f else []) c.self.invariant.3
+      (λ t e. (c.sessions_stay.ensures c.self.inside.state (Input.Resolved c.args.f c.args.is_kept) t
+      c.self.invariant.3 e).holds) c.resolve-answer.result c.resolve-answer.ensures.taken
+      c.resolve-answer.ensures.kept,
 )

@@ -9,11 +9,15 @@ use Rattle.container_state.proofs.state.State.delete_object.Goals as goal
 pub returns-then-is_some-clause-refused : goal.returns-then-is_some-clause-refused
 returns-then-is_some-clause-refused c =
     let r : Record = c.args.self.now in
-    at_object (λ o. unless (is_some o.link) WrongState (Ok (delete_made r o)) ≡ Err WrongState) _ r c.args.i c.index.result.now c.self.view_is c.requires.fits c.index.ensures
+    at_object (λ o. unless (is_some o.link) WrongState (Ok (delete_made r o)) ≡ Err WrongState) _ r c.args.i
+    c.index.result.now c.self.view_is c.requires.fits c.index.ensures
     (delete_linked r c.index.result.now (sym c.is_some.ensures ∙ c.if-is_some.true))
 
 pub returns-clause-taken : goal.returns-clause-taken
 returns-clause-taken c =
     let r : Record = c.args.self.now in
-    at_object (λ o. unless (is_some o.link) WrongState (Ok (delete_made r o)) ≡ Ok (counts_none _ c.quiet.result)) _ r c.args.i c.index.result.now c.self.view_is c.requires.fits c.index.ensures
-    (deleted_is _ r _ c.args.i c.index.result.now c.remove.new.self.list.items c.quiet.result c.self.view_is c.requires c.index.ensures (sym c.is_some.ensures ∙ c.if-is_some.false) c.remove.ensures refl c.quiet.ensures)
+    at_object (λ o. unless (is_some o.link) WrongState (Ok (delete_made r o)) ≡ Ok (counts_none _ c.quiet.result)) _
+    r c.args.i c.index.result.now c.self.view_is c.requires.fits c.index.ensures
+    (deleted_is _ r _ c.args.i c.index.result.now c.remove.new.self.list.items c.quiet.result c.self.view_is
+    c.requires c.index.ensures (sym c.is_some.ensures ∙ c.if-is_some.false) c.remove.ensures refl
+    c.quiet.ensures)

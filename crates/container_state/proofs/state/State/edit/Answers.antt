@@ -12,13 +12,20 @@ pub returns-in-Ok-clause-taken : goal.returns-in-Ok-clause-taken
 returns-in-Ok-clause-taken c =
     let r : Record = c.args.self.now in
     let step : Object → Frame → Result Took ContainerFault = λ o f. edit_linked r o c.args.bytes o.link in
-    IfOk-weaker c.edit_object.result _ _ (λ a made. by_object (λ t. t ≡ Ok (counts_none c.edit_object.new.self a)) (edit r c.args.object c.args.bytes) (λ o. edit_linked r o c.args.bytes o.link) _ _ (stood r c.args.object c.in-Ok.i c.in-Ok.field-0-1 step (edit r c.args.object c.args.bytes) refl c.in-Ok.ensures.step) made) c.edit_object.ensures.taken
+    IfOk-weaker c.edit_object.result _ _ (λ a made. by_object (λ t. t ≡ Ok (counts_none c.edit_object.new.self a))
+    (edit r c.args.object c.args.bytes) (λ o. edit_linked r o c.args.bytes o.link) _ _
+    (stood r c.args.object c.in-Ok.i c.in-Ok.field-0-1 step (edit r c.args.object c.args.bytes) refl
+    c.in-Ok.ensures.step) made) c.edit_object.ensures.taken
 
 pub returns-in-Ok-clause-refused : goal.returns-in-Ok-clause-refused
 returns-in-Ok-clause-refused c =
     let r : Record = c.args.self.now in
     let step : Object → Frame → Result Took ContainerFault = λ o f. edit_linked r o c.args.bytes o.link in
-    IfErr-weaker c.edit_object.result _ _ (λ e told. by_object (λ t. Refuses t e) (edit r c.args.object c.args.bytes) (λ o. edit_linked r o c.args.bytes o.link) _ _ (stood r c.args.object c.in-Ok.i c.in-Ok.field-0-1 step (edit r c.args.object c.args.bytes) refl c.in-Ok.ensures.step) told) c.edit_object.ensures.refused
+    IfErr-weaker c.edit_object.result _ _
+    (λ e told. by_object (λ t. Refuses t e) (edit r c.args.object c.args.bytes)
+    (λ o. edit_linked r o c.args.bytes o.link) _ _
+    (stood r c.args.object c.in-Ok.i c.in-Ok.field-0-1 step (edit r c.args.object c.args.bytes) refl
+    c.in-Ok.ensures.step) told) c.edit_object.ensures.refused
 
 pub returns-in-Err-clause-refused : goal.returns-in-Err-clause-refused
 returns-in-Err-clause-refused c =

@@ -12,7 +12,10 @@ returns-in_ok-settle-clause-took c =
     record {
       some = c.hold-n.ensures.some.0;
       within = c.hold-n.ensures.some.1;
-      goes = goes_settled d _ _ x (goes_held d _ x c.requires.fields.0 c.requires.fields.1 (omega (arith, size, c.hold-n.ensures.some.1, c.requires.some.1)) (sym c.requires.fields.0) refl refl c.requires.fields.1 (ap (λ (k : ℕ). d.plan.to_come - k) (sym size)) c.hold-n.ensures.held refl refl refl) c.in_ok-settle.ensures.begins;
+      goes = goes_settled d _ _ x (goes_held d _ x c.requires.fields.0 c.requires.fields.1
+          (omega (arith, size, c.hold-n.ensures.some.1, c.requires.some.1)) (sym c.requires.fields.0) refl refl
+          c.requires.fields.1 (ap (λ (k : ℕ). d.plan.to_come - k) (sym size)) c.hold-n.ensures.held refl refl refl)
+          c.in_ok-settle.ensures.begins;
     }
 
 pub returns-else-self-need-clause-took : goal.returns-else-self-need-clause-took
@@ -24,7 +27,9 @@ returns-else-self-need-clause-took c =
     record {
       some = c.hold-n.ensures.some.0;
       within = c.hold-n.ensures.some.1;
-      goes = goes_held d _ x c.requires.fields.0 c.requires.fields.1 (omega (arith, size, c.hold-n.ensures.some.1, c.requires.some.1)) (sym c.requires.fields.0) refl refl c.requires.fields.1 (ap (λ (k : ℕ). d.plan.to_come - k) (sym size)) c.hold-n.ensures.held refl refl refl;
+      goes = goes_held d _ x c.requires.fields.0 c.requires.fields.1
+          (omega (arith, size, c.hold-n.ensures.some.1, c.requires.some.1)) (sym c.requires.fields.0) refl refl
+          c.requires.fields.1 (ap (λ (k : ℕ). d.plan.to_come - k) (sym size)) c.hold-n.ensures.held refl refl refl;
     }
 
 pub returns-else-self-need-clause-keeps : goal.returns-else-self-need-clause-keeps

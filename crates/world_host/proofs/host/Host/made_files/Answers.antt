@@ -5,4 +5,5 @@ use Rattle.world_host.proofs.host.Host.made_files.Goals as goal
 
 pub returns : goal.returns
 returns c = made_end (bare c.args.self.now) c.args.frames.now c.args.self.now.core.frames c.loop-i.i c.loop-i.made.items
-    (subst (λ frames. length frames ≤ c.loop-i.i) c.all_frames-frame-items.ensures c.loop-i-test.false) c.loop-i.invariant
+    (subst (λ frames. length frames ≤ c.loop-i.i) c.all_frames-frame-items.ensures c.loop-i-test.false)
+    c.loop-i.invariant

@@ -5,5 +5,6 @@ use Rattle.world_host.specs.View.{bare}
 use Rattle.world_host.proofs.host.Host.made_files.Given as goal
 
 abbrev pub invariant-loop-i : goal.invariant-loop-i
-invariant-loop-i l = (rest : List (Option File)) → AreMade (bare l.self) l.frames (l.i + 1) (drop l.i l.self.core.frames) rest
+invariant-loop-i l = (rest : List (Option File)) → AreMade (bare l.self) l.frames (l.i + 1)
+    (drop l.i l.self.core.frames) rest
     → AreMade (bare l.self) l.frames 1 l.self.core.frames (l.made.items ++ rest)

@@ -14,10 +14,19 @@ returns-in-Ok-clause-taken g c =
     let s = told (λ s. (goal.Embedded-dyn g (s.boxed.vtable, s.boxed.value)).content s.boxed.value) old in
     let v = seen (λ s. (goal.Embedded-dyn g (s.boxed.vtable, s.boxed.value)).content s.boxed.value) c.step.new.self in
     let may = sym c.may_begin.ensures ∙ c.if-not-may_begin.false in
-    let after = told_parts (λ s. (goal.Embedded-dyn g (s.boxed.vtable, s.boxed.value)).content s.boxed.value) c.follow.new.self c.step.new.self old.past.items (has_after e old.has_document) old.document (kept_after e c.step.new.self.host.core.frames old.kept.items)
-    c.follow.ensures.state (ap (λ ps. ps.items) c.follow.ensures.past) c.follow.ensures.has_document c.follow.ensures.document c.follow.ensures.kept in
-    follows s e v (told (λ s. (goal.Embedded-dyn g (s.boxed.vtable, s.boxed.value)).content s.boxed.value) c.follow.new.self) may c.in-Ok.ensures.taken
-    (λ choice ok. followed_as old.has_document old.document s.now v (seen_pasts (λ s. (goal.Embedded-dyn g (s.boxed.vtable, s.boxed.value)).content s.boxed.value) old.past.items) old.kept.items choice e may ok ∙ sym after)
+    let after = told_parts (λ s. (goal.Embedded-dyn g (s.boxed.vtable, s.boxed.value)).content s.boxed.value)
+    c.follow.new.self c.step.new.self old.past.items (has_after e old.has_document) old.document
+    (kept_after e c.step.new.self.host.core.frames old.kept.items)
+    c.follow.ensures.state (ap (λ ps. ps.items) c.follow.ensures.past) c.follow.ensures.has_document
+    c.follow.ensures.document c.follow.ensures.kept in
+    follows s e v (told (λ s. (goal.Embedded-dyn g (s.boxed.vtable, s.boxed.value)).content s.boxed.value)
+    c.follow.new.self) may c.in-Ok.ensures.taken
+    (λ choice ok. followed_as old.has_document old.document s.now v
+    (seen_pasts (λ s. (goal.Embedded-dyn g (s.boxed.vtable, s.boxed.value)).content s.boxed.value)
+    old.past.items) old.kept.items choice e may ok ∙ sym after)
 
 pub returns-in-Err-clause-refused : goal.returns-in-Err-clause-refused
-returns-in-Err-clause-refused g c = holds_back (told (λ s. (goal.Embedded-dyn g (s.boxed.vtable, s.boxed.value)).content s.boxed.value) c.args.self.now) c.args.event.now c.in-Err.stop (sym c.may_begin.ensures ∙ c.if-not-may_begin.false) c.in-Err.ensures.refused
+returns-in-Err-clause-refused g c =
+    holds_back (told (λ s. (goal.Embedded-dyn g (s.boxed.vtable, s.boxed.value)).content s.boxed.value)
+    c.args.self.now) c.args.event.now c.in-Err.stop (sym c.may_begin.ensures ∙ c.if-not-may_begin.false)
+    c.in-Err.ensures.refused

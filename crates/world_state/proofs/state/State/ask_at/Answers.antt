@@ -15,24 +15,48 @@ use Rattle.world_state.proofs.state.State.ask_at.Goals as goal
 pub returns-in-Ok-ask_deactivate-clause-taken : goal.returns-in-Ok-ask_deactivate-clause-taken
 returns-in-Ok-ask_deactivate-clause-taken g c =
     let x = c.index.result.now in
-    speaks_taken (λ (v : Server). ask_deactivate v c.args.act) (seen (λ s. (goal.Embedded-dyn g (s.boxed.vtable, s.boxed.value)).content s.boxed.value) c.args.self.now) (bare c.replied.new.self) c.args.inc c.args.act (slice_get (map (seen_instance (λ s. (goal.Embedded-dyn g (s.boxed.vtable, s.boxed.value)).content s.boxed.value)) c.args.self.now.instances.items) c.args.i) ((seen_instance (λ s. (goal.Embedded-dyn g (s.boxed.vtable, s.boxed.value)).content s.boxed.value)) x) _ _ _ c.view-view.result c.in-Ok-ask_deactivate.asked
-    (seen_at (seen_instance (λ s. (goal.Embedded-dyn g (s.boxed.vtable, s.boxed.value)).content s.boxed.value)) c.args.self.now.instances.items c.args.i x c.requires.fits c.index.ensures)
+    speaks_taken (λ (v : Server). ask_deactivate v c.args.act)
+    (seen (λ s. (goal.Embedded-dyn g (s.boxed.vtable, s.boxed.value)).content s.boxed.value) c.args.self.now)
+    (bare c.replied.new.self) c.args.inc c.args.act
+    (slice_get
+    (map (seen_instance (λ s. (goal.Embedded-dyn g (s.boxed.vtable, s.boxed.value)).content s.boxed.value))
+    c.args.self.now.instances.items) c.args.i)
+    ((seen_instance (λ s. (goal.Embedded-dyn g (s.boxed.vtable, s.boxed.value)).content s.boxed.value)) x) _ _ _
+    c.view-view.result c.in-Ok-ask_deactivate.asked
+    (seen_at (seen_instance (λ s. (goal.Embedded-dyn g (s.boxed.vtable, s.boxed.value)).content s.boxed.value))
+    c.args.self.now.instances.items c.args.i x c.requires.fits c.index.ensures)
     c.in_ok-open.ensures.open
     c.in-Ok-ask_deactivate.ensures.told
-    (if_some _ x _ (stands c.args.self.now.instances.items c.args.i x c.requires.fits c.index.ensures) c.view-view.ensures)
-    (c.replied.ensures ∙ ap (λ b. replied b c.args.inc c.view-view.result c.in-Ok-ask_deactivate.asked None) (c.reply_room.ensures.kept ∙ c.open.ensures.kept))
-    (sym (map-set_same (seen_instance (λ s. (goal.Embedded-dyn g (s.boxed.vtable, s.boxed.value)).content s.boxed.value)) c.args.self.now.instances.items c.args.i x x
-    (ap (seen_instance (λ s. (goal.Embedded-dyn g (s.boxed.vtable, s.boxed.value)).content s.boxed.value)) c.index.ensures))
-    ∙ set_at (seen_instance (λ s. (goal.Embedded-dyn g (s.boxed.vtable, s.boxed.value)).content s.boxed.value)) c.args.self.now.instances.items c.args.inc c.args.i x c.requires.number)
+    (if_some _ x _ (stands c.args.self.now.instances.items c.args.i x c.requires.fits c.index.ensures)
+    c.view-view.ensures)
+    (c.replied.ensures ∙ ap (λ b. replied b c.args.inc c.view-view.result c.in-Ok-ask_deactivate.asked None)
+    (c.reply_room.ensures.kept ∙ c.open.ensures.kept))
+    (sym
+    (map-set_same
+    (seen_instance (λ s. (goal.Embedded-dyn g (s.boxed.vtable, s.boxed.value)).content s.boxed.value))
+    c.args.self.now.instances.items c.args.i x x
+    (ap (seen_instance (λ s. (goal.Embedded-dyn g (s.boxed.vtable, s.boxed.value)).content s.boxed.value))
+    c.index.ensures))
+    ∙ set_at (seen_instance (λ s. (goal.Embedded-dyn g (s.boxed.vtable, s.boxed.value)).content s.boxed.value))
+    c.args.self.now.instances.items c.args.inc c.args.i x c.requires.number)
     refl
 
 pub returns-in-Err-clause-taken : goal.returns-in-Err-clause-taken
 returns-in-Err-clause-taken g c =
     let x = c.index.result.now in
-    speaks_dropped (λ (v : Server). ask_deactivate v c.args.act) (seen (λ s. (goal.Embedded-dyn g (s.boxed.vtable, s.boxed.value)).content s.boxed.value) c.args.self.now) (bare c.dropped.new.self) c.args.inc c.args.act (slice_get (map (seen_instance (λ s. (goal.Embedded-dyn g (s.boxed.vtable, s.boxed.value)).content s.boxed.value)) c.args.self.now.instances.items) c.args.i) ((seen_instance (λ s. (goal.Embedded-dyn g (s.boxed.vtable, s.boxed.value)).content s.boxed.value)) x) _ _ c.in-Err.fault
-    (seen_at (seen_instance (λ s. (goal.Embedded-dyn g (s.boxed.vtable, s.boxed.value)).content s.boxed.value)) c.args.self.now.instances.items c.args.i x c.requires.fits c.index.ensures)
+    speaks_dropped (λ (v : Server). ask_deactivate v c.args.act)
+    (seen (λ s. (goal.Embedded-dyn g (s.boxed.vtable, s.boxed.value)).content s.boxed.value) c.args.self.now)
+    (bare c.dropped.new.self) c.args.inc c.args.act
+    (slice_get
+    (map (seen_instance (λ s. (goal.Embedded-dyn g (s.boxed.vtable, s.boxed.value)).content s.boxed.value))
+    c.args.self.now.instances.items) c.args.i)
+    ((seen_instance (λ s. (goal.Embedded-dyn g (s.boxed.vtable, s.boxed.value)).content s.boxed.value)) x) _ _
+    c.in-Err.fault
+    (seen_at (seen_instance (λ s. (goal.Embedded-dyn g (s.boxed.vtable, s.boxed.value)).content s.boxed.value))
+    c.args.self.now.instances.items c.args.i x c.requires.fits c.index.ensures)
     c.in_ok-open.ensures.open
     c.in-Err.ensures.refused
-    (c.dropped.ensures ∙ ap (λ (b : World). record b { answers = b.answers ++ told.Dropped c.in-Err.fault ∷ [] }) (c.reply_room.ensures.kept ∙ c.open.ensures.kept))
+    (c.dropped.ensures ∙ ap (λ (b : World). record b { answers = b.answers ++ told.Dropped c.in-Err.fault ∷ [] })
+    (c.reply_room.ensures.kept ∙ c.open.ensures.kept))
     refl
     refl

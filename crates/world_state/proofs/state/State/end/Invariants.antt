@@ -8,6 +8,11 @@ invariant-loop-inc g l = record {
   host : l.self.host ≡ l.initial.self.host;
   capacity : vec_capacity l.self.instances ≡ vec_capacity l.initial.self.instances;
   length : vec_len l.self.instances ≡ vec_len l.initial.self.instances;
-  stock : (seen (λ s. (goal.Embedded-dyn g (s.boxed.vtable, s.boxed.value)).content s.boxed.value) l.self).stock ≡ (seen (λ s. (goal.Embedded-dyn g (s.boxed.vtable, s.boxed.value)).content s.boxed.value) l.initial.self).stock;
-  ended : ends_by (drop l.inc-index l.ends) (seen (λ s. (goal.Embedded-dyn g (s.boxed.vtable, s.boxed.value)).content s.boxed.value) l.self).instances ≡ ends_by l.ends (seen (λ s. (goal.Embedded-dyn g (s.boxed.vtable, s.boxed.value)).content s.boxed.value) l.initial.self).instances;
+  stock : (seen (λ s. (goal.Embedded-dyn g (s.boxed.vtable, s.boxed.value)).content s.boxed.value) l.self).stock
+      ≡ (seen (λ s. (goal.Embedded-dyn g (s.boxed.vtable, s.boxed.value)).content s.boxed.value)
+      l.initial.self).stock;
+  ended : ends_by (drop l.inc-index l.ends)
+      (seen (λ s. (goal.Embedded-dyn g (s.boxed.vtable, s.boxed.value)).content s.boxed.value) l.self).instances
+      ≡ ends_by l.ends (seen (λ s. (goal.Embedded-dyn g (s.boxed.vtable, s.boxed.value)).content s.boxed.value)
+      l.initial.self).instances;
 }

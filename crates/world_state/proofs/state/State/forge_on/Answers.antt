@@ -19,5 +19,16 @@ returns-in-Ok-forge-clause-taken g c =
     ap (forging w c.args.inc) (sym c.in-Ok.ensures)
     ∙ forge_taken w b _ c.args.inc c.in-Ok.copied ends starts c.in_ok-open.ensures.open
     (subst Is c.open.ensures.kept c.in-Ok-forge.ensures.taken)
-    (c.in-Ok-forge.ensures.ends ∙ ap (λ (w : World). ends_in (on_message w.rec (link_to w c.args.inc) c.in-Ok.copied)) c.open.ensures.kept)
-    (c.finish.ensures ∙ ap (λ is. record b { instances = ends_by ends (map (seen_instance (λ s. (goal.Embedded-dyn g (s.boxed.vtable, s.boxed.value)).content s.boxed.value)) is) ++ map (fresh b.rec.session b.rec.numbers) starts; stock = map (seen_stocked (λ s. (goal.Embedded-dyn g (s.boxed.vtable, s.boxed.value)).content s.boxed.value)) c.args.self.now.stock.boxes.items }) c.reserve.ensures.items)
+    (c.in-Ok-forge.ensures.ends
+    ∙ ap (λ (w : World). ends_in (on_message w.rec (link_to w c.args.inc) c.in-Ok.copied)) c.open.ensures.kept)
+    (c.finish.ensures
+    ∙ ap
+    (λ is. record b {
+      instances =
+          ends_by ends
+          (map (seen_instance (λ s. (goal.Embedded-dyn g (s.boxed.vtable, s.boxed.value)).content s.boxed.value)) is)
+          ++ map (fresh b.rec.session b.rec.numbers) starts;
+      stock =
+          map (seen_stocked (λ s. (goal.Embedded-dyn g (s.boxed.vtable, s.boxed.value)).content s.boxed.value))
+          c.args.self.now.stock.boxes.items;
+    }) c.reserve.ensures.items)

@@ -15,9 +15,22 @@ returns-in-Ok-clause-taken g c =
     let t = c.in-Ok.ensures.taken in (
       making t.0,
       t.1,
-      kept_taken_all (seen (λ s. (goal.Embedded-dyn g (s.boxed.vtable, s.boxed.value)).content s.boxed.value) c.args.self.now) b _ c.args.f t.0 ends starts t.2 c.in-Ok.ensures.ends
-          (c.finish.ensures ∙ ap (λ is. record b { instances = ends_by ends (map (seen_instance (λ s. (goal.Embedded-dyn g (s.boxed.vtable, s.boxed.value)).content s.boxed.value)) is) ++ map (fresh b.rec.session b.rec.numbers) starts; stock = map (seen_stocked (λ s. (goal.Embedded-dyn g (s.boxed.vtable, s.boxed.value)).content s.boxed.value)) c.args.self.now.stock.boxes.items }) c.reserve.ensures.items),
+      kept_taken_all (seen (λ s. (goal.Embedded-dyn g (s.boxed.vtable, s.boxed.value)).content s.boxed.value)
+          c.args.self.now) b _ c.args.f t.0 ends starts t.2 c.in-Ok.ensures.ends
+          (c.finish.ensures
+          ∙ ap
+          (λ is. record b {
+            instances =
+                ends_by ends
+                (map (seen_instance (λ s. (goal.Embedded-dyn g (s.boxed.vtable, s.boxed.value)).content
+                s.boxed.value)) is) ++ map (fresh b.rec.session b.rec.numbers) starts;
+            stock =
+                map (seen_stocked (λ s. (goal.Embedded-dyn g (s.boxed.vtable, s.boxed.value)).content s.boxed.value))
+                c.args.self.now.stock.boxes.items;
+          }) c.reserve.ensures.items),
     )
 
 pub returns-in-Err-clause-refused : goal.returns-in-Err-clause-refused
-returns-in-Err-clause-refused g c = kept_refused (seen (λ s. (goal.Embedded-dyn g (s.boxed.vtable, s.boxed.value)).content s.boxed.value) c.args.self.now) c.args.f c.in-Err.stop c.in-Err.ensures.refused
+returns-in-Err-clause-refused g c =
+    kept_refused (seen (λ s. (goal.Embedded-dyn g (s.boxed.vtable, s.boxed.value)).content s.boxed.value)
+    c.args.self.now) c.args.f c.in-Err.stop c.in-Err.ensures.refused

@@ -15,9 +15,25 @@ returns-in-Ok-clause-taken g c =
     let starts = c.in-Ok.servers.starts.items in (
       no_choice,
       tt,
-      only_taken_all (seen (λ s. (goal.Embedded-dyn g (s.boxed.vtable, s.boxed.value)).content s.boxed.value) c.args.self.now) b _ (resolve (seen (λ s. (goal.Embedded-dyn g (s.boxed.vtable, s.boxed.value)).content s.boxed.value) c.args.self.now).rec c.args.f false) ends starts c.in-Ok.ensures.taken c.in-Ok.ensures.ends
-          (c.finish.ensures ∙ ap (λ is. record b { instances = ends_by ends (map (seen_instance (λ s. (goal.Embedded-dyn g (s.boxed.vtable, s.boxed.value)).content s.boxed.value)) is) ++ map (fresh b.rec.session b.rec.numbers) starts; stock = map (seen_stocked (λ s. (goal.Embedded-dyn g (s.boxed.vtable, s.boxed.value)).content s.boxed.value)) c.args.self.now.stock.boxes.items }) c.reserve.ensures.items),
+      only_taken_all (seen (λ s. (goal.Embedded-dyn g (s.boxed.vtable, s.boxed.value)).content s.boxed.value)
+          c.args.self.now) b _
+          (resolve (seen (λ s. (goal.Embedded-dyn g (s.boxed.vtable, s.boxed.value)).content s.boxed.value)
+          c.args.self.now).rec c.args.f false) ends starts c.in-Ok.ensures.taken c.in-Ok.ensures.ends
+          (c.finish.ensures
+          ∙ ap
+          (λ is. record b {
+            instances =
+                ends_by ends
+                (map (seen_instance (λ s. (goal.Embedded-dyn g (s.boxed.vtable, s.boxed.value)).content
+                s.boxed.value)) is) ++ map (fresh b.rec.session b.rec.numbers) starts;
+            stock =
+                map (seen_stocked (λ s. (goal.Embedded-dyn g (s.boxed.vtable, s.boxed.value)).content s.boxed.value))
+                c.args.self.now.stock.boxes.items;
+          }) c.reserve.ensures.items),
     )
 
 pub returns-in-Err-clause-refused : goal.returns-in-Err-clause-refused
-returns-in-Err-clause-refused g c = λ choice. only_refused (seen (λ s. (goal.Embedded-dyn g (s.boxed.vtable, s.boxed.value)).content s.boxed.value) c.args.self.now) (resolve (seen (λ s. (goal.Embedded-dyn g (s.boxed.vtable, s.boxed.value)).content s.boxed.value) c.args.self.now).rec c.args.f false) c.in-Err.stop c.in-Err.ensures.refused
+returns-in-Err-clause-refused g c = λ choice. only_refused
+    (seen (λ s. (goal.Embedded-dyn g (s.boxed.vtable, s.boxed.value)).content s.boxed.value) c.args.self.now)
+    (resolve (seen (λ s. (goal.Embedded-dyn g (s.boxed.vtable, s.boxed.value)).content s.boxed.value)
+    c.args.self.now).rec c.args.f false) c.in-Err.stop c.in-Err.ensures.refused

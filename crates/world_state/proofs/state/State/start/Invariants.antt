@@ -11,5 +11,8 @@ invariant-loop-inc g l = record {
   room : vec_len l.self.instances + into_iter_len l.inc-iterator ≤ vec_capacity l.self.instances;
   host : l.self.host ≡ l.initial.self.host;
   stock : l.self.stock ≡ l.initial.self.stock;
-  instances : map (seen_instance (λ s. (goal.Embedded-dyn g (s.boxed.vtable, s.boxed.value)).content s.boxed.value)) l.self.instances.items ++ map (fresh l.session l.numbers) (into_iter_items l.inc-iterator) ≡ map (seen_instance (λ s. (goal.Embedded-dyn g (s.boxed.vtable, s.boxed.value)).content s.boxed.value)) l.initial.self.instances.items ++ map (fresh l.session l.numbers) (into_iter_items l.initial.inc-iterator);
+  instances : map (seen_instance (λ s. (goal.Embedded-dyn g (s.boxed.vtable, s.boxed.value)).content s.boxed.value))
+      l.self.instances.items ++ map (fresh l.session l.numbers) (into_iter_items l.inc-iterator)
+      ≡ map (seen_instance (λ s. (goal.Embedded-dyn g (s.boxed.vtable, s.boxed.value)).content s.boxed.value))
+      l.initial.self.instances.items ++ map (fresh l.session l.numbers) (into_iter_items l.initial.inc-iterator);
 }

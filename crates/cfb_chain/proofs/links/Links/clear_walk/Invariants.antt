@@ -1,6 +1,0 @@
-use Rattle.std.proofs.Common.{◌-◌, get_or}
-use Rattle.cfb_chain.proofs.Ways.{IsClearing}
-use Rattle.cfb_chain.proofs.links.Links.clear_walk.Given as goal
-
-abbrev pub invariant-loop : goal.invariant-loop
-invariant-loop l = IsClearing (λ n. get_or l.self n 0) l.start l.fn.walk.count l.initial.used l.used l.at (l.fn.walk.count - l.counter)

@@ -1,6 +1,0 @@
-use Rattle.std.proofs.Common.{IfErr, subst}
-use Rattle.cfb_directory.specs.Entries.{EntriesValue, MayRefuseEntry}
-use Rattle.cfb_directory.proofs.entries.Entries.entry.Goals as goal
-
-pub returns-clause-refused : goal.returns-clause-refused
-returns-clause-refused c = subst (λ (e : EntriesValue). IfErr c.entry.result (MayRefuseEntry e.directory c.args.id)) c.self.view_is c.entry.ensures.refused

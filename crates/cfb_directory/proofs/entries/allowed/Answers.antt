@@ -1,8 +1,0 @@
-use Rattle.cfb_directory.proofs.Characters.{allowed, forbidden, told}
-use Rattle.cfb_directory.proofs.entries.allowed.Goals as goal
-
-pub returns-clause-kept : goal.returns-clause-kept
-returns-clause-kept c = allowed c.args.unit _ (told c.args.unit c.from.result c.requires.ascii c.from.ensures)
-
-pub returns-clause-forbidden : goal.returns-clause-forbidden
-returns-clause-forbidden c = forbidden c.args.unit _ (told c.args.unit c.from.result c.requires.ascii c.from.ensures)

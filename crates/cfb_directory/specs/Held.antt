@@ -1,8 +1,0 @@
--- The bytes of a directory, however they are held.
-use Rattle.std.specs.Prelude.{ℕ, List}
-use Rattle.cfb_directory.specs.declared.held.Directory.{Directory}
-use Rattle.cfb_directory.specs.declared.held.Directory.TheVariants.{Bytes, Packed}
-
-abbrev pub held : Directory → List ℕ
-held (Bytes bytes) = bytes.now
-held (Packed entries) = entries.now

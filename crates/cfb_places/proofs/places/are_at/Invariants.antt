@@ -1,8 +1,0 @@
-use Rattle.std.proofs.Common.{◌≡◌, ◌<◌, ◌+◌, ◌*◌, ◌^◌, ℕ, get_or}
-use Rattle.cfb_places.proofs.places.are_at.Given as goal
-
-abbrev pub invariant-loop-k : goal.invariant-loop-k
-invariant-loop-k l =
-    (l.next ≡ l.at + 512 * l.k) × (l.next < 2 ^ 32 + 512)
-    × ((k : ℕ) → k < l.k → get_or l.sectors k 0 + 1 < l.blocks)
-    × ((k : ℕ) → k < l.k → get_or l.places (get_or l.sectors k 0 + 1) 0 ≡ l.at + 512 * k)

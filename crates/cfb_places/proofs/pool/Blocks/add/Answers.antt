@@ -1,5 +1,0 @@
-use Rattle.std.proofs.Common.{arith}
-use Rattle.cfb_places.proofs.pool.Blocks.add.Goals as goal
-
-pub append-requires : goal.append-requires
-append-requires c = record { whole = (4, omega arith) }

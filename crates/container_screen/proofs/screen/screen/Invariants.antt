@@ -1,7 +1,0 @@
-use Rattle.std.proofs.Common.{◌≡◌, ◌++◌}
-use Rattle.grant_core.specs.Frames.{menu_of}
-use Rattle.container_screen.specs.Screen.{menu_line, rows}
-use Rattle.container_screen.proofs.screen.screen.Given as goal
-
-abbrev pub invariant-loop-y : goal.invariant-loop-y
-invariant-loop-y l = l.text.items ≡ menu_line (menu_of l.frame.ui.state) ++ rows l.f l.frame.ui l.objects l.y

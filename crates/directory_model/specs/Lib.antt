@@ -1,4 +1,0 @@
-pub mod Entries
-pub mod Written
-pub mod Walk
-pub mod SearchTree

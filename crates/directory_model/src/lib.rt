@@ -1,5 +1,0 @@
-//! The directory of a compound file (MS-CFB 2.6): what its entries and its trees of siblings are, and when one is refused.
-#![tactic(auto)]
-
-pub mod entries;
-pub mod links;

@@ -1,5 +1,0 @@
-use Rattle.std.proofs.Common.{length}
-use Rattle.directory_writing.proofs.links.+join.Given as goal
-
-abbrev pub decreases-join : goal.decreases-join
-decreases-join l = length l.order.now

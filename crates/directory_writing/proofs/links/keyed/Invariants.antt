@@ -1,6 +1,0 @@
-use Rattle.std.proofs.Common.{◌≡◌, take}
-use Rattle.directory_writing.specs.Building.{keyed_names}
-use Rattle.directory_writing.proofs.links.keyed.Given as goal
-
-abbrev pub invariant-loop-k : goal.invariant-loop-k
-invariant-loop-k l = l.siblings.items ≡ keyed_names (take l.k l.names)

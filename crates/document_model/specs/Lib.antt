@@ -1,4 +1,0 @@
-pub mod Documents
-pub mod Layouts
-pub mod DocTree
-pub mod DocOf

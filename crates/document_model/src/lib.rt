@@ -1,4 +1,0 @@
-//! Documents as values: an object, the tree that a document has, and the document that a tree holds.
-#![tactic(auto)]
-
-pub mod object;

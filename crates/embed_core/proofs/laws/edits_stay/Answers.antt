@@ -1,5 +1,0 @@
-use Rattle.embed_core.proofs.Staying.{edits_stay}
-use Rattle.embed_core.proofs.laws.edits_stay.Goals as goal
-
-pub returns : goal.returns
-returns c = edits_stay

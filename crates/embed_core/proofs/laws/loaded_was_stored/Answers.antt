@@ -1,5 +1,0 @@
-use Rattle.embed_core.proofs.Storing.{loaded_was_stored}
-use Rattle.embed_core.proofs.laws.loaded_was_stored.Goals as goal
-
-pub returns : goal.returns
-returns c = loaded_was_stored

@@ -1,5 +1,0 @@
-use Rattle.embed_core.proofs.Told.{read_was_spelled}
-use Rattle.embed_core.proofs.laws.read_was_spelled.Goals as goal
-
-pub returns : goal.returns
-returns c = read_was_spelled

@@ -1,5 +1,0 @@
-use Rattle.embed_core.proofs.Spelling.{spelled_is_read}
-use Rattle.embed_core.proofs.laws.spelled_is_read.Goals as goal
-
-pub returns : goal.returns
-returns c = spelled_is_read

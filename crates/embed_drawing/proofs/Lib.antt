@@ -1,6 +1,0 @@
-pub mod Behind
-pub mod Boxed
-pub mod Over
-pub mod Listed
-pub mod Moved
-pub mod Picturing

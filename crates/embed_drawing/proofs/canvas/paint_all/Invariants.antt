@@ -1,8 +1,0 @@
-use Rattle.std.proofs.Common.{take}
-use Rattle.embed_core.specs.Pictures.{glyph_over}
-use Rattle.embed_drawing.specs.Canvases.{Painted}
-use Rattle.embed_drawing.specs.Drawn.{shapes_told}
-use Rattle.embed_drawing.proofs.canvas.paint_all.Given as goal
-
-abbrev pub invariant-loop-figure : goal.invariant-loop-figure
-invariant-loop-figure l = Painted (glyph_over (shapes_told (take l.figure-index l.figures))) l.initial.cells l.cells

@@ -1,5 +1,0 @@
-use Rattle.embed_core.proofs.Staying.{note-delete}
-use Rattle.embed_note.proofs.note.Note.delete.Goals as goal
-
-pub invariant_of-self : goal.invariant_of-self
-invariant_of-self c = rw c.delete.ensures (note-delete c.args.place c.args.count c.self.inside.text.items c.self.invariant)

@@ -1,5 +1,0 @@
-use Rattle.std.proofs.Common.{rules}
-use Rattle.embed_note.proofs.note.NoteEmbedded.edit.Goals as goal
-
-pub returns-in-Some-Insert-clause-edited : goal.returns-in-Some-Insert-clause-edited
-returns-in-Some-Insert-clause-edited c = search rules

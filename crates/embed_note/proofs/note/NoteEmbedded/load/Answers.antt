@@ -1,5 +1,0 @@
-use Rattle.std.proofs.Common.{rules}
-use Rattle.embed_note.proofs.note.NoteEmbedded.load.Goals as goal
-
-pub returns-clause-loaded : goal.returns-clause-loaded
-returns-clause-loaded c = search rules

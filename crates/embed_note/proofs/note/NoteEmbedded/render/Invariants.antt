@@ -1,7 +1,0 @@
-use Rattle.std.proofs.Common.{◌≡◌, ◌-◌, ◌++◌}
-use Rattle.embed_core.specs.Pictures.{text_lines}
-use Rattle.embed_note.proofs.Shown.{shown}
-use Rattle.embed_note.proofs.note.NoteEmbedded.render.Given as goal
-
-abbrev pub invariant-loop : goal.invariant-loop
-invariant-loop l = l.picture.items ++ shown (20 - l.counter) l.lines ≡ shown 20 (text_lines l.self)

@@ -1,5 +1,0 @@
-use Rattle.embed_note.proofs.Shown.{shown_part}
-use Rattle.embed_note.proofs.note.first_part.Goals as goal
-
-pub returns : goal.returns
-returns c = shown_part c.min.result c.args.line.now c.min.ensures

@@ -1,3 +1,0 @@
-mod Written
-mod Kept
-mod Loading

@@ -1,3 +1,0 @@
-pub mod SortedNames
-pub mod Ordered
-pub mod Refused

@@ -1,7 +1,0 @@
-use Rattle.std.proofs.Common.{◌≡◌, ◌-◌, get_or}
-use Rattle.file_faults.specs.Faults.{key_at}
-use Rattle.entry_sorting.proofs.Ordered.{DoRise}
-use Rattle.entry_sorting.proofs.sorting.do_rise.Given as goal
-
-abbrev pub invariant-loop-k : goal.invariant-loop-k
-invariant-loop-k l = (l.last ≡ key_at l.entries.directory (get_or l.ids (l.k - 1) 0)) × DoRise l.entries.directory l.ids l.k

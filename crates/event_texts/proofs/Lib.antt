@@ -1,5 +1,0 @@
-pub mod Forged
-pub mod Behind
-pub mod Texts
-pub mod Memory
-pub mod Wanting

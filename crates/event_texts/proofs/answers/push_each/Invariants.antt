@@ -1,7 +1,0 @@
-use Rattle.std.proofs.Common.{◌≡◌, ◌++◌, drop}
-use Rattle.std.specs.List.{flat_map}
-use Rattle.texts.specs.Written.{numbered}
-use Rattle.event_texts.proofs.answers.push_each.Given as goal
-
-abbrev pub invariant-loop-number : goal.invariant-loop-number
-invariant-loop-number l = l.text.items ++ flat_map (numbered l.before) (drop l.number-index l.numbers) ≡ l.initial.text.items ++ flat_map (numbered l.before) l.numbers

@@ -1,3 +1,0 @@
-pub mod Forged
-pub mod Events
-pub mod Answers

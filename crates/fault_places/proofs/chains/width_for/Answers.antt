@@ -1,9 +1,0 @@
-use Rattle.std.proofs.Common.{◌∙◌, sym}
-use Rattle.fault_places.proofs.Owned.{narrow, wide}
-use Rattle.fault_places.proofs.chains.width_for.Goals as goal
-
-pub returns-then-lies_in_minis : goal.returns-then-lies_in_minis
-returns-then-lies_in_minis c = λ p b base. narrow p b c.args.size (sym c.lies_in_minis.ensures ∙ c.if-lies_in_minis.true) base
-
-pub returns : goal.returns
-returns c = λ p b base. wide p b c.args.size (sym c.lies_in_minis.ensures ∙ c.if-lies_in_minis.false) base

@@ -1,7 +1,0 @@
-use Rattle.std.proofs.Common.{IfOk, subst, ℕ}
-use Rattle.fault_places.specs.Places.{IsDirectoryExamined}
-use Rattle.fault_places.proofs.finding.examine_directory.Goals as goal
-
-pub returns : goal.returns
-returns c =
-    subst (λ (x : ℕ). IfOk c.examine.result (IsDirectoryExamined c.args.entries.now c.args.taken.now x c.args.fault)) c.first_directory.ensures c.examine.ensures

@@ -1,7 +1,0 @@
-use Rattle.fault_places.proofs.Fats.{none_of, sound_fat}
-use Rattle.file_faults.specs.Faults.{IsFatAtFault}
-use Rattle.fault_places.proofs.finding.find_in_fat.Goals as goal
-
-pub returns-in_ok-tables-in-Ok-clause-nowhere : goal.returns-in_ok-tables-in-Ok-clause-nowhere
-returns-in_ok-tables-in-Ok-clause-nowhere c =
-    none_of c.find_in_directory.result (IsFatAtFault c.args.file.now c.args.fault → ⊥) (sound_fat c.args.file.now c.args.fault c.in_ok-tables-in-Ok.ensures.is_fat)

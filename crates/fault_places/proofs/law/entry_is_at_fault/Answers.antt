@@ -1,5 +1,0 @@
-use Rattle.fault_places.proofs.Steps as steps
-use Rattle.fault_places.proofs.law.entry_is_at_fault.Goals as goal
-
-pub returns : goal.returns
-returns c = steps.entry_is_at_fault

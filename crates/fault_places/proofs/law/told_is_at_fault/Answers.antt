@@ -1,5 +1,0 @@
-use Rattle.fault_places.proofs.Places as places
-use Rattle.fault_places.proofs.law.told_is_at_fault.Goals as goal
-
-pub returns : goal.returns
-returns c = places.told_is_at_fault

@@ -1,5 +1,0 @@
-use Rattle.std.proofs.Common.{rules}
-use Rattle.fault_places.proofs.walking.is_at_fault.Goals as goal
-
-pub returns-in-CrossLinked : goal.returns-in-CrossLinked
-returns-in-CrossLinked c = search rules

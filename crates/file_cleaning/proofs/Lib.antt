@@ -1,2 +1,0 @@
-pub mod Settled
-pub mod Cleaned

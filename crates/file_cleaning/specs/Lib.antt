@@ -1,3 +1,0 @@
-pub mod Cleaning
-pub mod Faults
-pub mod Reports

@@ -1,6 +1,0 @@
-//! Listings of compound files.
-#![tactic(auto)]
-
-pub mod fault;
-pub mod listing;
-pub mod report;

@@ -1,5 +1,0 @@
-use Rattle.std.proofs.Common.{refl}
-use Rattle.file_disk.proofs.opening.find.Goals as goal
-
-pub returns-in-Err-clause-refuses : goal.returns-in-Err-clause-refuses
-returns-in-Err-clause-refuses g c = c.fault_of.ensures (g.N.Names.failed c.args.names.now) (g.N.Names.failed c.is_document.new.names) (c.in-Err.ensures.count.on_failure refl)

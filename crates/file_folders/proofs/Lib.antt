@@ -1,4 +1,0 @@
-pub mod Bytes
-pub mod Components
-pub mod Folded
-pub mod Results

@@ -1,4 +1,0 @@
-pub mod Paths
-pub mod Plan
-pub mod Laws
-pub mod Notes

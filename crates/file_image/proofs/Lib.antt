@@ -1,6 +1,0 @@
-pub mod Numbers
-pub mod Overlaid
-pub mod Same
-pub mod SameSectors
-pub mod Trimmed
-pub mod Undoing

@@ -1,5 +1,0 @@
-pub mod Changed
-pub mod Freed
-pub mod Need
-pub mod Trimmed
-pub mod Undone

@@ -1,5 +1,0 @@
-use Rattle.file_layout.proofs.Contents.{image-denotes}
-use Rattle.file_layout.proofs.law.image_denotes.Goals as goal
-
-pub returns : goal.returns
-returns c = image-denotes

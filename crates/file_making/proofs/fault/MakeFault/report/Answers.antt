@@ -1,5 +1,0 @@
-use Rattle.std.proofs.Common.{rules}
-use Rattle.file_making.proofs.fault.MakeFault.report.Goals as goal
-
-pub returns-in-Line : goal.returns-in-Line
-returns-in-Line c = search rules

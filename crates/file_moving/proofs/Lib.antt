@@ -1,4 +1,0 @@
-pub mod Blank
-pub mod Sources
-pub mod Walks
-pub mod Weights

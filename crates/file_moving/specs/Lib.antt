@@ -1,4 +1,0 @@
-pub mod Sizes
-pub mod Opened
-pub mod Sources
-pub mod Moves

@@ -1,5 +1,0 @@
-use Rattle.std.proofs.Common.{rules}
-use Rattle.file_outline.proofs.filling.bytes_at.Goals as goal
-
-pub returns-else-is_short : goal.returns-else-is_short
-returns-else-is_short c = search rules

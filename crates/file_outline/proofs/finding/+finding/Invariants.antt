@@ -1,8 +1,0 @@
-use Rattle.std.proofs.Common.{◌+◌, ◌*◌, length}
-use Rattle.file_outline.proofs.finding.+finding.Given as goal
-
-abbrev pub decreases-place_at : goal.decreases-place_at
-decreases-place_at l = 2 * length l.path.now
-
-abbrev pub decreases-place_in : goal.decreases-place_in
-decreases-place_in l = 2 * length l.path.now + 1

@@ -1,9 +1,0 @@
-use Rattle.std.proofs.Common.{◌≡◌, ℕ, List, drop}
-use Rattle.storage_tree.specs.Change.{find}
-use Rattle.file_outline.specs.View.{shown_parts}
-use Rattle.file_outline.specs.declared.outline.Place.{Place}
-use Rattle.file_outline.proofs.finding.part_of.Given as goal
-
-abbrev pub invariant-loop-part : goal.invariant-loop-part
-invariant-loop-part l = (content : Place → List ℕ)
-    → find l.wanted (shown_parts content (drop l.part-index l.part-items)) ≡ find l.wanted (shown_parts content l.part-items)

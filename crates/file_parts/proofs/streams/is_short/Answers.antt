@@ -1,5 +1,0 @@
-use Rattle.std.proofs.Common.{rules}
-use Rattle.file_parts.proofs.streams.is_short.Goals as goal
-
-pub returns : goal.returns
-returns c = search rules

@@ -1,6 +1,0 @@
-pub mod Streams
-pub mod Leads
-pub mod Filled
-pub mod Front
-pub mod Counted
-pub mod Sends

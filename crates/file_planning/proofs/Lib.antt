@@ -1,4 +1,0 @@
-pub mod ContentsWalk
-pub mod ContentsSiblings
-pub mod ContentsPush
-pub mod ContentsStreams

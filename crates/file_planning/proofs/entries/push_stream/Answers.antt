@@ -1,5 +1,0 @@
-use Rattle.std.proofs.Common.{rules}
-use Rattle.file_planning.proofs.entries.push_stream.Goals as goal
-
-pub returns-clause-fat : goal.returns-clause-fat
-returns-clause-fat c = search rules

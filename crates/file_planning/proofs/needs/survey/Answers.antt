@@ -1,5 +1,0 @@
-use Rattle.std.proofs.Common.{rules}
-use Rattle.file_planning.proofs.needs.survey.Goals as goal
-
-pub returns : goal.returns
-returns g c = search rules

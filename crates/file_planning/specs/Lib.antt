@@ -1,3 +1,0 @@
-pub mod Siblings
-pub mod Walked
-pub mod Depth

@@ -1,2 +1,0 @@
-pub mod DirectoryWalk
-pub mod StreamsWalk

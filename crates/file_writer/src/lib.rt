@@ -1,5 +1,0 @@
-//! Writing whole compound files.
-#![tactic(auto)]
-
-pub mod sending;
-pub mod write;

@@ -1,7 +1,0 @@
-use Rattle.std.proofs.Common.{◌≡◌, ◌<◌, ℕ, false, get_or}
-use Rattle.directory_model.specs.Entries.{entry_at}
-use Rattle.directory_model.specs.Written.{free_entry_bytes}
-use Rattle.file_zeros.proofs.entries.are_unmarked_free.Given as goal
-
-abbrev pub invariant-loop-id : goal.invariant-loop-id
-invariant-loop-id l = (k : ℕ) → k < l.id → get_or l.marks k false ≡ false → entry_at l.directory k ≡ free_entry_bytes

@@ -1,3 +1,0 @@
-pub mod Read
-pub mod Packed
-pub mod Parsed

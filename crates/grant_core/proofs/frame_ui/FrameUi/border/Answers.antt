@@ -1,5 +1,0 @@
-use Rattle.std.proofs.Common.{rules}
-use Rattle.grant_core.proofs.frame_ui.FrameUi.border.Goals as goal
-
-pub returns-else-has_room : goal.returns-else-has_room
-returns-else-has_room c = search rules

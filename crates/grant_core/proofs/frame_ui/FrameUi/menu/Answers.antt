@@ -1,5 +1,0 @@
-use Rattle.std.proofs.Common.{rules}
-use Rattle.grant_core.proofs.frame_ui.FrameUi.menu.Goals as goal
-
-pub returns : goal.returns
-returns c = search rules

@@ -1,9 +1,0 @@
--- The names of the faults.
-use Rattle.std.specs.Prelude.{ℕ, List, codes}
-use Rattle.grant_core.specs.declared.faults.GrantFault.{GrantFault}
-use Rattle.grant_core.specs.declared.faults.GrantFault.TheVariants.{NoToolSpace, NotHolder, Busy}
-
-abbrev pub fault_name : GrantFault → List ℕ
-fault_name NoToolSpace = codes "NoToolSpace"
-fault_name NotHolder = codes "NotHolder"
-fault_name Busy = codes "Busy"

@@ -1,5 +1,0 @@
-use Rattle.library_calls.proofs.Sound.{checked_as_sound}
-use Rattle.library_calls.proofs.laws.sound_files_are_checked.Goals as goal
-
-pub returns : goal.returns
-returns c = checked_as_sound

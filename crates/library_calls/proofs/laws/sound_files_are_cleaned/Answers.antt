@@ -1,5 +1,0 @@
-use Rattle.library_calls.proofs.Sound.{cleaned_but_memory}
-use Rattle.library_calls.proofs.laws.sound_files_are_cleaned.Goals as goal
-
-pub returns : goal.returns
-returns c = cleaned_but_memory

@@ -1,5 +1,0 @@
-use Rattle.library_calls.proofs.Sound.{listed_but_memory}
-use Rattle.library_calls.proofs.laws.sound_files_are_listed.Goals as goal
-
-pub returns : goal.returns
-returns c = listed_but_memory

@@ -1,5 +1,0 @@
-use Rattle.library_calls.proofs.Sound.{got_but_memory}
-use Rattle.library_calls.proofs.laws.streams_are_got.Goals as goal
-
-pub returns : goal.returns
-returns c = got_but_memory

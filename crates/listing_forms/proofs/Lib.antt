@@ -1,5 +1,0 @@
-pub mod Ascii
-pub mod Told
-pub mod Rows
-pub mod Picked
-pub mod Pushed

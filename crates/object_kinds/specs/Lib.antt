@@ -1,0 +1,6 @@
+pub mod Noted
+pub mod Placed
+pub mod Listed
+pub mod Drawn
+pub mod Canvases
+pub mod Lines

@@ -1,6 +1,0 @@
-use Rattle.std.proofs.Common.{◌≡◌, ◌+◌, drop}
-use Rattle.object_parts.specs.Limits.{total}
-use Rattle.object_parts.proofs.limits.has_room.Given as goal
-
-abbrev pub invariant-loop-stream : goal.invariant-loop-stream
-invariant-loop-stream l = total l.fn.streams + l.fn.more + l.left ≡ 262144 + total (drop l.stream-index l.fn.streams)

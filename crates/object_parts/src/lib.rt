@@ -1,6 +1,0 @@
-//! What documents, messages and a container's record share of an embedded object: its area, and how much may be stored
-//! of it.
-#![tactic(auto)]
-
-pub mod area;
-pub mod limits;

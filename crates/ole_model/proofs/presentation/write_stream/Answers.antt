@@ -1,0 +1,5 @@
+use Rattle.std.proofs.Common.{rules}
+use Rattle.ole_model.proofs.presentation.write_stream.Goals as goal
+
+pub returns : goal.returns
+returns c = search rules

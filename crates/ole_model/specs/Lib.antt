@@ -1,0 +1,10 @@
+pub mod FaultNames
+pub mod Fields
+pub mod OleStreams
+pub mod CompObjs
+pub mod Presentations
+pub mod Laws
+pub mod Documents
+pub mod Layouts
+pub mod DocTree
+pub mod DocOf

@@ -1,5 +1,0 @@
-use Rattle.ole_parts.proofs.Again.{ole_again}
-use Rattle.ole_parts.proofs.laws.ole_is_read_again.Goals as goal
-
-pub returns : goal.returns
-returns c = ole_again

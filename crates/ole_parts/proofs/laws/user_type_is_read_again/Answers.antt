@@ -1,5 +1,0 @@
-use Rattle.ole_parts.proofs.Again.{user_type_again}
-use Rattle.ole_parts.proofs.laws.user_type_is_read_again.Goals as goal
-
-pub returns : goal.returns
-returns c = user_type_again

@@ -1,5 +1,0 @@
-use Rattle.std.proofs.Common.{rules}
-use Rattle.ole_parts.proofs.presentation.write_stream.Goals as goal
-
-pub returns : goal.returns
-returns c = search rules

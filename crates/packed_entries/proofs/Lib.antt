@@ -1,3 +1,0 @@
-pub mod Allowed
-mod Held
-pub mod ReadNames

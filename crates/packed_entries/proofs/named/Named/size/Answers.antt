@@ -1,8 +1,0 @@
-use Rattle.std.proofs.Common.{◌∙◌, ap}
-use Rattle.directory_model.specs.Entries.{size_of}
-use Rattle.packed_entries.specs.Named.{NamedValue, named_bytes}
-use Rattle.packed_entries.proofs.ReadNames.{size_read}
-use Rattle.packed_entries.proofs.named.Named.size.Goals as goal
-
-pub returns : goal.returns
-returns c = c.from_le_bytes.ensures ∙ size_read _ c.self.invariant ∙ ap (λ (n : NamedValue). size_of (named_bytes n)) c.self.view_is

@@ -1,5 +1,0 @@
-use Rattle.packed_entries.proofs.ReadNames.{behind_count}
-use Rattle.packed_entries.proofs.named.units_of.Goals as goal
-
-pub returns : goal.returns
-returns c = behind_count c.args.characters c.args.count c.fits-characters.0

@@ -1,5 +1,0 @@
-use Rattle.std.proofs.Common.{◌≡◌, ◌*◌, ◌++◌, take}
-use Rattle.packed_entries.proofs.packed.PackedEntries.append.Given as goal
-
-abbrev pub invariant-loop-k : goal.invariant-loop-k
-invariant-loop-k l = l.self ≡ l.initial.self ++ take (128 * l.k) l.bytes

@@ -1,6 +1,0 @@
-use Rattle.std.proofs.Common.{ap, arith, length}
-use Rattle.packed_entries.proofs.Held.{length_entries}
-use Rattle.packed_entries.proofs.packed.PackedEntries.count.Goals as goal
-
-pub returns : goal.returns
-returns c = omega (arith, c.len.ensures, c.self.inside.slots.ok.0, length_entries c.self.inside.slots.items, ap length c.self.view_is)

@@ -1,6 +1,0 @@
-use Rattle.std.proofs.Common.{◌∙◌, ◌++◌, ap, drop, replicate}
-use Rattle.packed_entries.proofs.Held.{fronted}
-use Rattle.packed_entries.proofs.packed.front.Goals as goal
-
-pub returns : goal.returns
-returns c = ap (λ xs. xs ++ drop c.min-count.result (replicate 128 0)) c.copy_from_slice.ensures.after ∙ fronted c.args.bytes.now c.min-count.result c.min-count.ensures

@@ -1,6 +1,0 @@
-use Rattle.std.proofs.Common.{◌∙◌, arith}
-use Rattle.packed_entries.proofs.Held.{in_head}
-use Rattle.packed_entries.proofs.packed.head_number.Goals as goal
-
-pub returns : goal.returns
-returns c = c.read_u32.ensures ∙ in_head c.args.short.now c.args.at (omega arith) (omega arith) (omega arith) c.requires.0 c.requires.1

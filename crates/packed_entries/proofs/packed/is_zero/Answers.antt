@@ -1,5 +1,0 @@
-use Rattle.packed_entries.proofs.Held.{zero_of_mask}
-use Rattle.packed_entries.proofs.packed.is_zero.Goals as goal
-
-pub returns : goal.returns
-returns c = zero_of_mask c.args.bytes c.fits-bytes.0

@@ -1,0 +1,10 @@
+use Rattle.std.proofs.Common.{◌≡◌, take}
+use Rattle.cfb_chains.proofs.Marks.{clear_all}
+use Rattle.read_chains.proofs.fat.Fat.clear.Given as goal
+
+abbrev pub invariant-loop-n : goal.invariant-loop-n
+invariant-loop-n l = record {
+  next : l.self-inside.next ≡ l.initial.self-inside.next;
+  pieces : l.self-inside.pieces ≡ l.initial.self-inside.pieces;
+  used : l.self-inside.used.items ≡ clear_all l.initial.self-inside.used.items (take l.n-index l.sectors);
+}

@@ -1,0 +1,24 @@
+use Rattle.std.proofs.Common.{◌≡◌, ◌<◌, ◌+◌, ◌-◌, ◌++◌, ◌∷◌, [], arith, length, length-append, subst}
+use Rattle.std.proofs.lemmas.List.Elements.{All-push}
+use Rattle.cfb_chains.specs.Fat.{followed}
+use Rattle.cfb_chains.proofs.Followed.{followed_more}
+use Rattle.read_chains.proofs.table.follow.Goals as goal
+
+pub loop-sectors-preserved : goal.loop-sectors-preserved
+loop-sectors-preserved c =
+    let i = c.loop-sectors.invariant in
+    let table = c.args.table.now in
+    let met = c.loop-sectors.sectors.items in
+    let at = c.loop-sectors.at in
+    let lt : at < length table = omega arith in
+    let some : 0 < length table - length met = omega arith in
+    let more : length (met ++ at ∷ []) ≡ length met + 1 = length-append met (at ∷ []) in
+    let less : length table - length met - 1 ≡ length table - length (met ++ at ∷ []) = omega (arith, more) in
+    rw c.in_ok-push.ensures.items (
+      subst (λ n. (met ++ at ∷ []) ++ followed table n c.entry-at.result ≡ followed table (length table)
+          c.args.start) less
+          (followed_more table met (length table - length met) at c.entry-at.result
+          (followed table (length table) c.args.start) lt some c.entry-at.ensures i.0),
+      All-push (λ n. n < length table) met at i.1 lt,
+      omega (arith, more, some),
+    )

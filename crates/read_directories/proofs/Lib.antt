@@ -1,0 +1,9 @@
+pub mod Numbers
+pub mod Walk
+pub mod InOrder
+pub mod Kept
+pub mod Characters
+pub mod Lent
+pub mod SortedNames
+pub mod Ordered
+pub mod Refused

@@ -1,0 +1,4 @@
+pub mod Held
+pub mod Streams
+pub mod Reached
+pub mod Sorting

@@ -1,0 +1,4 @@
+pub mod View
+pub mod Streams
+pub mod Keeping
+pub mod Places

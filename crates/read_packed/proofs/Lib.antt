@@ -1,0 +1,5 @@
+pub mod Allowed
+mod Held
+pub mod ReadNames
+pub mod Placed
+pub mod HeldBlocks

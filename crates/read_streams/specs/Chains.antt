@@ -1,0 +1,19 @@
+-- Sectors and mini sectors that follow one another.
+use Rattle.std.specs.Prelude.{◌+◌, ◌*◌, ◌/◌, ◌%◌, ℕ, zero, suc, List, [], ◌∷◌, length, map, nat_lt, if◌then◌else◌}
+use Rattle.std.specs.Prelude.{slice_index}
+use Rattle.std.specs.List.{range_with_len}
+use Rattle.cfb_chains.specs.Chain.{Store}
+
+-- what follows each sector of a store, as a table
+abbrev pub table_of : Store → List ℕ
+table_of s = map s.next (range_with_len 0 s.count)
+
+-- so many numbers from one on, each followed by the next
+abbrev pub walked : (ℕ → ℕ) → ℕ → ℕ → List ℕ
+walked next at zero = []
+walked next at (suc count) = at ∷ walked next (next at) count
+
+-- where a mini sector begins, given the sectors of the mini stream
+abbrev pub begins_at : List ℕ → ℕ → ℕ
+begins_at mini_stream m = if nat_lt (m / 8) (length mini_stream) then 512 * (slice_index mini_stream (m / 8) + 1)
+    + 64 * (m % 8) else 0

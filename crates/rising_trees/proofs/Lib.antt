@@ -1,2 +1,0 @@
-pub mod Ascending
-pub mod Rows

@@ -1,9 +1,0 @@
-use Rattle.std.proofs.Common.{◌∙◌, ◌++◌, ◌∷◌, [], ap}
-use Rattle.rising_trees.proofs.Rows.{pushed}
-use Rattle.rising_trees.proofs.row.Row.push.Goals as goal
-
-pub returns-clause-added : goal.returns-clause-added
-returns-clause-added c =
-    let row = c.self.inside in
-    pushed row.names.items c.reserve.new.self.items c.push_reserved.new.self.items row.contents c.push.new.self c.args.name c.args.bytes.now c.self.invariant c.reserve.ensures.items c.push_reserved.ensures.items c.in_ok-push.ensures.added
-    ∙ ap (λ before. before ++ (c.args.name, c.args.bytes.now) ∷ []) c.self.view_is

@@ -1,3 +1,0 @@
-pub mod Below
-pub mod Rising
-pub mod Row

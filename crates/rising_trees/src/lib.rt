@@ -1,5 +1,0 @@
-//! Trees that are made of streams in name order.
-#![tactic(auto)]
-
-pub mod rising;
-pub mod row;

@@ -1,5 +1,0 @@
-pub mod Lacking
-pub mod Linked
-mod Noted
-mod Parts
-mod Served

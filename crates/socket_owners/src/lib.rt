@@ -1,4 +1,0 @@
-//! Who owns the ends of a connection, by what Linux tells of its sockets.
-#![tactic(auto)]
-
-pub mod sockets;

@@ -1,4 +1,0 @@
-//! Storages and what stands in them.
-#![tactic(auto)]
-
-pub mod storage;

@@ -1,5 +1,0 @@
-use Rattle.std.proofs.Math.Logic.{∥∥₁_map}
-use Rattle.storage_tree.proofs.tree.Tree.into_root.Goals as goal
-
-pub returns-clause-whole : goal.returns-clause-whole
-returns-clause-whole c = ∥∥₁_map c.args.self.whole (λ w. w.0)

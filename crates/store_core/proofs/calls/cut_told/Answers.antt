@@ -1,0 +1,14 @@
+use Rattle.store_core.specs.Steps.{IsInstalling}
+use Rattle.store_core.proofs.Moments.{one_call}
+use Rattle.store_core.proofs.Under.{cut_installs}
+use Rattle.store_core.proofs.calls.cut_told.Goals as goal
+
+pub returns-clause-stays : goal.returns-clause-stays
+returns-clause-stays g c model =
+    let old = c.args.disk.now in
+    let ready = c.requires.ready model in
+    one_call g.D.Disk.may_leave g.D.Disk.moment g.D.Disk.left_since old c.cut.new.self
+    (IsInstalling (g.D.Disk.reads old)) (g.met.D.Disk.only_now old) ready.left (c.cut.ensures.time model)
+    (λ i now. let from = c.cut.ensures.crash model i now in
+    cut_installs (g.D.Disk.reads old) from.0 i c.args.size ready.gate ready.whole (c.requires.told model)
+    (ready.left from.0 from.1) from.2)

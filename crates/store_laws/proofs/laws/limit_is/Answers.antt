@@ -1,5 +1,0 @@
-use Rattle.std.proofs.Common.{refl}
-use Rattle.store_laws.proofs.laws.limit_is.Goals as goal
-
-pub returns : goal.returns
-returns c = refl

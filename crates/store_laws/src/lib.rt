@@ -1,4 +1,0 @@
-//! Laws between the store and the files that it keeps: a file that is laid out is never too long for it.
-#![tactic(auto)]
-
-pub mod laws;

@@ -1,6 +1,0 @@
-use Rattle.std.proofs.Common.{take}
-use Rattle.stored_streams.specs.Streams.{AreInOrder}
-use Rattle.stored_streams.proofs.streams.Streams.from_vec.Given as goal
-
-abbrev pub invariant-loop-at : goal.invariant-loop-at
-invariant-loop-at l = AreInOrder (take l.at l.items.items)

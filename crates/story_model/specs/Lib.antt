@@ -1,3 +1,0 @@
-pub mod Story
-pub mod SafeStory
-pub mod StopRuns

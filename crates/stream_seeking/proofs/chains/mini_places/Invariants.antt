@@ -1,6 +1,0 @@
-use Rattle.std.proofs.Common.{◌≡◌, map, take}
-use Rattle.stream_seeking.specs.Chains.{begins_at}
-use Rattle.stream_seeking.proofs.chains.mini_places.Given as goal
-
-abbrev pub invariant-loop-mini : goal.invariant-loop-mini
-invariant-loop-mini l = l.places.items ≡ map (begins_at l.mini_stream) (take l.mini-index l.minis)

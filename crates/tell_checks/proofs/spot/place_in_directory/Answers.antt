@@ -1,0 +1,8 @@
+use Rattle.tell_faults.specs.Ways.{IsNoEntry}
+use Rattle.tell_faults.proofs.Owned.{none_gives}
+use Rattle.tell_checks.proofs.spot.place_in_directory.Goals as goal
+
+pub returns-in-Ok-None-clause-nowhere : goal.returns-in-Ok-None-clause-nowhere
+returns-in-Ok-None-clause-nowhere c = λ is own.
+    none_gives (IsNoEntry c.args.file.now c.args.fault) c.in-Ok-None.field-0 c.in-Ok-None.field-0-is
+    (c.in-Ok-None.ensures.nowhere is own)

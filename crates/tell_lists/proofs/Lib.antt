@@ -1,0 +1,7 @@
+pub mod Ascii
+pub mod Told
+pub mod Rows
+pub mod Picked
+pub mod Pushed
+pub mod Listed
+pub mod Placed

@@ -1,0 +1,4 @@
+pub mod Asking
+pub mod Inputs
+pub mod LineByLine
+pub mod LineFeeds

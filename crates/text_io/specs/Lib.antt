@@ -1,0 +1,4 @@
+pub mod Lines
+pub mod Faults
+pub mod Input
+pub mod Reading

@@ -1,4 +1,0 @@
-//! Texts that are read line by line.
-#![tactic(auto)]
-
-pub mod reading;

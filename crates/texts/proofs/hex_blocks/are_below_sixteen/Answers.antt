@@ -1,5 +1,0 @@
-use Rattle.texts.proofs.Blocks.{mask-tells}
-use Rattle.texts.proofs.hex_blocks.are_below_sixteen.Goals as goal
-
-pub returns : goal.returns
-returns c = mask-tells c.args.lanes c.fits-lanes.0

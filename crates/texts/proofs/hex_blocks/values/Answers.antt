@@ -1,5 +1,0 @@
-use Rattle.texts.proofs.Blocks.{lanes-told}
-use Rattle.texts.proofs.hex_blocks.values.Goals as goal
-
-pub returns : goal.returns
-returns c = lanes-told 16 c.args.digits c.fits-digits.0 c.fits-digits.1

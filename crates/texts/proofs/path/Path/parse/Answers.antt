@@ -1,7 +1,0 @@
-use Rattle.std.proofs.Common.{sym, ◌∙◌}
-use Rattle.texts.specs.Paths.{path_read}
-use Rattle.texts.proofs.Hex.{absent}
-use Rattle.texts.proofs.path.Path.parse.Goals as goal
-
-pub returns-else-is_path-clause-read : goal.returns-else-is_path-clause-read
-returns-else-is_path-clause-read c = absent (path_read c.args.word.now) (sym c.if-is_path.false ∙ c.is_path.ensures)

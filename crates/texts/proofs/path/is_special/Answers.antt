@@ -1,6 +1,0 @@
-use Rattle.std.proofs.Common.{arith}
-use Rattle.texts.proofs.Digits.{in_specials}
-use Rattle.texts.proofs.path.is_special.Goals as goal
-
-pub returns : goal.returns
-returns c = in_specials c.args.byte c.from.result (grind (arith, c.ranges.byte.fits)) c.from.ensures

@@ -1,6 +1,0 @@
-use Rattle.std.proofs.Common.{arith}
-use Rattle.texts.proofs.Digits.{in_firsts}
-use Rattle.texts.proofs.words.first_value.Goals as goal
-
-pub returns : goal.returns
-returns c = in_firsts c.args.digit c.from.result (grind (arith, c.ranges.digit.fits)) c.from.ensures

@@ -1,6 +1,0 @@
-use Rattle.std.proofs.Common.{arith}
-use Rattle.texts.proofs.Digits.{in_seconds}
-use Rattle.texts.proofs.words.second_value.Goals as goal
-
-pub returns : goal.returns
-returns c = in_seconds c.args.digit c.from.result (grind (arith, c.ranges.digit.fits)) c.from.ensures

@@ -1,7 +1,0 @@
-use Rattle.text_model.specs.Spelled.{byte_hex}
-use Rattle.texts.proofs.Pushed.{push-turn}
-use Rattle.texts.proofs.writing.push_hex.Goals as goal
-
-pub loop-byte-preserved : goal.loop-byte-preserved
-loop-byte-preserved c =
-    push-turn byte_hex c.loop-byte.text.items c.push_byte_hex.new.text.items _ c.args.bytes.now c.loop-byte.byte-index c.loop-byte-test.true c.in_ok-push_byte_hex.ensures c.loop-byte.invariant

@@ -1,7 +1,0 @@
-use Rattle.text_model.specs.Spelled.{byte_text}
-use Rattle.texts.proofs.Pushed.{push-turn}
-use Rattle.texts.proofs.writing.push_name.Goals as goal
-
-pub loop-byte-preserved : goal.loop-byte-preserved
-loop-byte-preserved c =
-    push-turn byte_text c.loop-byte.text.items c.push_byte.new.text.items _ c.args.name.now c.loop-byte.byte-index c.loop-byte-test.true c.in_ok-push_byte.ensures c.loop-byte.invariant

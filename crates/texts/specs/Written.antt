@@ -1,2 +1,0 @@
--- How numbers and bytes are written.
-pub use Rattle.text_model.specs.Spelled.{digit_text, byte_hex, hex, numbered}

@@ -1,3 +1,0 @@
-pub mod Tree
-pub mod Seen
-pub mod Whole

@@ -1,0 +1,4 @@
+pub mod Growing
+pub mod Lying
+pub mod Ascending
+pub mod Rows

@@ -1,0 +1,20 @@
+use Rattle.std.proofs.Math.Logic.{∥∥₁_map}
+use Rattle.tree_storage.proofs.Wholes.{all-front, all-last}
+use Rattle.tree_storage.proofs.tree.Tree.revert.Goals as goal
+
+pub invariant_of-self : goal.invariant_of-self
+invariant_of-self c =
+    record {
+      whole = ∥∥₁_map c.args.self.now.whole
+          (λ w. (
+            all-last c.pop.new.self.items c.in-Some.root (rw c.in-Some.ensures.items at w.1),
+            all-front c.pop.new.self.items _ (rw c.pop.ensures.items at w.1),
+          ));
+    }
+
+pub invariant_of-self-in-None : goal.invariant_of-self-in-None
+invariant_of-self-in-None c =
+    record {
+      whole = ∥∥₁_map c.args.self.now.whole
+          (λ w. (w.0, all-front c.pop.new.self.items _ (rw c.pop.ensures.items at w.1)));
+    }

@@ -1,5 +1,0 @@
-pub mod Serving
-pub mod Speaking
-pub mod Pending
-pub mod Asked
-pub mod Joining

@@ -1,7 +1,0 @@
-use Rattle.std.proofs.Common.{◌≡◌, ◌++◌, drop}
-use Rattle.std.specs.List.{flat_map}
-use Rattle.world_model.specs.Report.{container_line}
-use Rattle.world_report.proofs.report.push_container_done.Given as goal
-
-abbrev pub invariant-loop-entry : goal.invariant-loop-entry
-invariant-loop-entry l = l.text.items ++ flat_map container_line (drop l.entry-index l.done) ≡ l.initial.text.items ++ flat_map container_line l.done

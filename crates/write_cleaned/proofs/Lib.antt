@@ -1,0 +1,11 @@
+pub mod Rows
+pub mod Held
+pub mod Minis
+pub mod Ends
+pub mod Pieces
+pub mod Blank
+pub mod Sources
+pub mod Walks
+pub mod Weights
+pub mod Settled
+pub mod Cleaned

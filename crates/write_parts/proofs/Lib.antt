@@ -1,0 +1,12 @@
+pub mod Children
+pub mod Denoted
+pub mod Lists
+pub mod Numbers
+pub mod Sent
+pub mod Zeros
+pub mod Led
+pub mod Length
+pub mod Whole
+pub mod Blank
+pub mod BlankFront
+pub mod Outlined
