@@ -97,7 +97,7 @@ send_shorts-send_short_part-requires g t c =
     weight-out c.args.outline.now ∙ ap (λ xs. 1 + sum (weights xs)) (sym c.deref-part-items.ensures.value) in
     λ κs within. (
       omega (arith, below, whole, c.decreases),
-      (λ a m. within.0 a m, (λ a m. search rules, c.requires.whole)),
+      (λ a m. within.0 a m, (λ a m. within.1 a m, c.requires.whole)),
     )
 
 pub send_short_part-send_shorts-requires : goal.send_short_part-send_shorts-requires
