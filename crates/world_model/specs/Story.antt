@@ -26,7 +26,8 @@ use Rattle.world_model.specs.declared.logs.File.{File}
 use Rattle.world_model.specs.declared.logs.Sent.{Sent}
 use Rattle.world_model.specs.declared.logs.ServerDone.{ServerDone}
 use Rattle.world_model.specs.declared.logs.Taken.{Taken}
-use Rattle.world_model.specs.World.{Choice, Instance, IsImage, IsImageOf, MOST_EVENTS, World, ask, crash, deliver}
+use Rattle.world_model.specs.World.{Choice, HoldsDocument, Instance, MOST_EVENTS, MayChoose, StopsFor, World, ask}
+use Rattle.world_model.specs.World.{crash, deliver}
 use Rattle.world_model.specs.World.{empty_world, happened, put_file, quiet_outcome, scribble}
 use Rattle.world_model.specs.declared.moment.Moment.{Moment}
 use Rattle.world_model.specs.declared.moment.Moment.TheVariants as moment
@@ -293,20 +294,16 @@ abbrev pub pass : Story → Chosen → Moment → Result Story Stop
 pass s choice m = within s (passed s choice m)
 
 -- What may be chosen: bytes that denote the document of each frame whose commit the disk has kept.
-abbrev pub AreImages : Story → Chosen → Moment → Type 0
-AreImages s choice (moment.Event e) = IsImage s.now choice.here e
-AreImages s choice (moment.Stop fs) = (f : ℕ) → is_among fs f ≡ true → IsImageOf s.now f (choice.images f)
+abbrev pub MayChooseAt : Story → Chosen → Moment → Type 0
+MayChooseAt s choice (moment.Event e) = MayChoose s.now choice.here e
+MayChooseAt s choice (moment.Stop fs) = (f : ℕ) → is_among fs f ≡ true → HoldsDocument s.now f (choice.images f)
 
 -- The stories that these moments reach; they differ in the bytes of files alone.
 abbrev pub Tells : Story → List Moment → Story → Type 0
 Tells s [] after = after ≡ s
-Tells s (m ∷ ms) after = (choice : Chosen) × (next : Story) × AreImages s choice m × (pass s choice m ≡ Ok next)
+Tells s (m ∷ ms) after = (choice : Chosen) × (next : Story) × MayChooseAt s choice m × (pass s choice m ≡ Ok next)
     × Tells next ms after
 
 -- A story stops before a moment that can't be taken, or for want of memory before one that could.
-abbrev pub RefusesMoment : Result Story Stop → Stop → Type 0
-RefusesMoment outcome NoMemory = IsOk outcome
-RefusesMoment outcome stop = outcome ≡ Err stop
-
 abbrev pub EndsAt : Story → Moment → Stop → Type 0
-EndsAt s m stop = (choice : Chosen) → RefusesMoment (pass s choice m) stop
+EndsAt s m stop = (choice : Chosen) → StopsFor (pass s choice m) stop

@@ -98,14 +98,14 @@ messages_of (End inc ∷ rest) = messages_of rest
 messages_of (Commit f ∷ rest) = messages_of rest
 
 -- a server of a session, by its incarnation
-abbrev pub fresh : ℕ → ℕ → ℕ → Instance
-fresh session numbers inc =
+abbrev pub started_instance : ℕ → ℕ → ℕ → Instance
+started_instance session numbers inc =
     record { life = Running; core = record { session = session; inc = inc; numbers = numbers; acts = [] } }
 
 abbrev pub started_by : ℕ → ℕ → List Action → List Instance
 started_by session numbers [] = []
 started_by session numbers (Send m ∷ rest) = started_by session numbers rest
-started_by session numbers (Start inc ∷ rest) = fresh session numbers inc ∷ started_by session numbers rest
+started_by session numbers (Start inc ∷ rest) = started_instance session numbers inc ∷ started_by session numbers rest
 started_by session numbers (End inc ∷ rest) = started_by session numbers rest
 started_by session numbers (Commit f ∷ rest) = started_by session numbers rest
 
@@ -174,18 +174,8 @@ took w (Ok t) = joined w t
 
 -- A command. The object of a new activation is kept.
 abbrev pub owners_by : Command → List ℕ
-owners_by (command.New name width height) = []
-owners_by (command.Insert f kind area) = []
-owners_by command.Session = []
-owners_by command.Start = []
 owners_by (command.Run o inc) = o ∷ []
-owners_by (command.Edit o bytes) = []
-owners_by (command.Save f) = []
-owners_by (command.SaveAs f name) = []
-owners_by (command.Delete o) = []
-owners_by (command.Kill inc) = []
-owners_by (command.Close o option) = []
-owners_by (command.Verb o number) = []
+owners_by _ = []
 
 abbrev pub commanded : World → Command → Result Took ContainerFault → World
 commanded w c (Err fault) = took w (Err fault)
@@ -492,38 +482,30 @@ file_of w name = file_bytes (find (is_file name) w.files)
 
 -- What may be chosen: the bytes that a commit makes the file denote the document, in a tree that holds it; a file gives
 -- what it is read as, where it is looked at: its name is no frame's, and the size is one.
-abbrev pub IsImageOf : World → ℕ → List ℕ → Type 0
-IsImageOf w f bytes = (saved : FrameDocument) → image w.rec f ≡ Ok saved → ∥ Denotes bytes (document_tree saved) ∥₁
+abbrev pub HoldsDocument : World → ℕ → List ℕ → Type 0
+HoldsDocument w f bytes = (saved : FrameDocument) → image w.rec f ≡ Ok saved → ∥ Denotes bytes (document_tree saved) ∥₁
     × DocOf (document_tree saved) (document saved)
 
-abbrev pub IsImage : World → Choice → Event → Type 0
-IsImage w choice (event.Command c) = ⊤
-IsImage w choice (event.Deliver p) = ⊤
-IsImage w choice (event.Forge inc m) = ⊤
-IsImage w choice (event.Crash s inc) = ⊤
-IsImage w choice (event.Reap inc) = ⊤
-IsImage w choice (event.Scribble s inc act) = ⊤
-IsImage w choice (event.Ask s inc act) = ⊤
-IsImage w choice (event.Done f) = IsImageOf w f choice.file
-IsImage w choice (event.Fail f) = ⊤
-IsImage w choice (event.Resolve f true) = IsImageOf w f choice.file
-IsImage w choice (event.Resolve f false) = ⊤
-IsImage w choice (event.Open name width height) = is_named name w.rec.frames ≡ false → is_size width height ≡ true
+abbrev pub MayChoose : World → Choice → Event → Type 0
+MayChoose w choice (event.Done f) = HoldsDocument w f choice.file
+MayChoose w choice (event.Resolve f true) = HoldsDocument w f choice.file
+MayChoose w choice (event.Open name width height) = is_named name w.rec.frames ≡ false → is_size width height ≡ true
     → IsReadAs (file_of w name) choice.given
+MayChoose w choice _ = ⊤
 
 -- The worlds that these events reach; they differ in the bytes of files alone.
 abbrev pub Run : World → List Event → World → Type 0
 Run w [] after = after ≡ w
-Run w (e ∷ es) after = (choice : Choice) × (next : World) × IsImage w choice e × (step w choice e ≡ Ok next)
+Run w (e ∷ es) after = (choice : Choice) × (next : World) × MayChoose w choice e × (step w choice e ≡ Ok next)
     × Run next es after
 
 -- A run stops before an event that can't be taken, or for want of memory before one that could.
-abbrev pub Refuses : Result World Stop → Stop → Type 0
-Refuses told NoMemory = IsOk told
-Refuses told stop = told ≡ Err stop
+abbrev pub StopsFor : {A : Type 0} → Result A Stop → Stop → Type 0
+StopsFor told NoMemory = IsOk told
+StopsFor told stop = told ≡ Err stop
 
 abbrev pub StopsAt : World → Event → Stop → Type 0
-StopsAt w e stop = (choice : Choice) → Refuses (step w choice e) stop
+StopsAt w e stop = (choice : Choice) → StopsFor (step w choice e) stop
 
 -- The file of a frame, where it is known which: not while it is in doubt whether its last commit was done.
 abbrev pub frame_file_in : World → Option Frame → Option (List ℕ)

@@ -19,7 +19,8 @@ use Rattle.world_model.specs.declared.event.Stop.{Stop}
 use Rattle.world_model.specs.declared.life.Life.{Life}
 use Rattle.world_model.specs.declared.life.Life.TheVariants.{Ended, Reaped}
 use Rattle.world_model.specs.declared.event.Stop.TheVariants.{EventLimit}
-use Rattle.world_model.specs.World.{World, Instance, joined, took, commanded, started_by, ended, ended_by, fresh}
+use Rattle.world_model.specs.World.{World, Instance, joined, took, commanded, started_by, ended, ended_by}
+use Rattle.world_model.specs.World.{started_instance}
 use Rattle.world_model.specs.World.{limited, reap, done, done_in, done_imaged, done_taken, kept_commit, only_taken}
 use Rattle.world_model.specs.World.{resolved, MOST_EVENTS, link_to}
 use Rattle.world_host.specs.Logging.{heard, heard_as, forged, forged_as, brought}
@@ -36,7 +37,7 @@ use Rattle.container_model.specs.declared.server_link.ServerLink.{ServerLink}
 abbrev pub finished : World → World → List ℕ → List ℕ → World
 finished w b ends starts =
     record b {
-      instances = ends_by ends w.instances ++ map (fresh b.rec.session b.rec.numbers) starts;
+      instances = ends_by ends w.instances ++ map (started_instance b.rec.session b.rec.numbers) starts;
       stock = w.stock;
     }
 
@@ -174,7 +175,7 @@ reap_some : (w b m v : World) (inc : ℕ) (life : Life) (z : Instance) (ends sta
     → nth w.instances inc ≡ Some z → z.life ≡ Ended → nat_le MOST_EVENTS (length w.answers) ≡ false
     → took (emptied w) (on_reap w.rec inc) ≡ started b starts → ends ≡ ends_in (on_reap w.rec inc)
     → m ≡ record b { instances = set_nth w.instances inc (record z { life = Reaped }); stock = w.stock }
-    → v ≡ record m { instances = ends_by ends m.instances ++ map (fresh m.rec.session m.rec.numbers) starts }
+    → v ≡ record m { instances = ends_by ends m.instances ++ map (started_instance m.rec.session m.rec.numbers) starts }
     → limited w (reap w inc (nth w.instances inc)) ≡ Ok v
 reap_some w b m v inc life z ends starts e r room h en em ev =
     let u : World = record w { instances = set_nth w.instances inc (record z { life = Reaped }) } in
@@ -185,7 +186,7 @@ reap_some w b m v inc life z ends starts e r room h en em ev =
     (ev
     ∙ ap (λ (x : World). record x {
       instances = ends_by ends x.instances
-          ++ map (fresh x.rec.session x.rec.numbers) starts;
+          ++ map (started_instance x.rec.session x.rec.numbers) starts;
     }) em))))
 
 pub reap_taken : (w b m v : World) (inc : ℕ) (life : Life) (o : Option Instance) (ends starts : List ℕ)
@@ -197,7 +198,7 @@ pub reap_taken : (w b m v : World) (inc : ℕ) (life : Life) (o : Option Instanc
       stock = w.stock;
     }) → v ≡ record m {
       instances = ends_by ends m.instances
-          ++ map (fresh m.rec.session m.rec.numbers) starts;
+          ++ map (started_instance m.rec.session m.rec.numbers) starts;
     }
     → limited w (reap w inc (nth w.instances inc)) ≡ Ok v
 reap_taken w b m v inc life None ends starts e is i l room h en em ev = cc

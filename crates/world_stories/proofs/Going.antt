@@ -46,7 +46,7 @@ use Rattle.world_model.specs.Safe.{Among, BringsBy, IsGranted, IsHonest, WasSent
 use Rattle.world_model.proofs.InRun.{in_run_ok}
 use Rattle.world_facts.proofs.Honest.{honest_before}
 use Rattle.world_facts.proofs.Lookups.{among_join, among_map, among_mapped, among_new, among_old, nth_old}
-use Rattle.world_files.specs.Files.{MakesImage}
+use Rattle.world_files.specs.Files.{MakesDocument}
 use Rattle.world_safety.specs.Holding.{Holds}
 use Rattle.world_safety.proofs.Events.{sent_place}
 use Rattle.world_safety.proofs.Held.{held_happened}
@@ -385,7 +385,7 @@ module _ (w : World) (mine : List File) (choice : Choice) (h : Holds (mirror w m
 
   -- where nothing is taken
   quiet_goes : (e : Event) (v : World) → Both w xs (made_by w choice e mine) (made_by w choice e w.files) v
-      (happened (mirror w mine) choice e) → MakesImage (mirror w mine) choice e
+      (happened (mirror w mine) choice e) → MakesDocument (mirror w mine) choice e
       → v.rec.numbers ≡ w.rec.numbers → Goes w v mine choice e
   quiet_goes e v b im n = record {
     more = b.twins.more;
@@ -567,7 +567,7 @@ module _ (w : World) (mine : List File) (choice : Choice) (h : Holds (mirror w m
   own_server : (inc : ℕ) (j : Instance) → nth w.instances inc ≡ Some j → IsOf w.rec.session j.core.session
   own_server inc j e = h.in_session.servers inc j e
 
-  all_go : (e : Event) (v : World) → MakesImage w choice e → session_of w e ≡ w.rec.session
+  all_go : (e : Event) (v : World) → MakesDocument w choice e → session_of w e ≡ w.rec.session
       → happened w choice e ≡ Ok v → v.rec.numbers ≡ w.rec.numbers → Goes w v mine choice e
   all_go (event.Command c) v im is ok n = quiet_goes (event.Command c) v
       (landed _ _ v ok (twins_commanded w mine xs h.in_session.holds c (on_command w.rec c) refl)) im n
@@ -607,7 +607,7 @@ module _ (w : World) (mine : List File) (choice : Choice) (h : Holds (mirror w m
 
 -- An event of the present run goes on as in the run by itself.
 pub goes : (w : World) (mine : List File) (choice : Choice) (e : Event) (v : World) → Holds (mirror w mine)
-    → MakesImage w choice e → session_of w e ≡ w.rec.session → happened w choice e ≡ Ok v
+    → MakesDocument w choice e → session_of w e ≡ w.rec.session → happened w choice e ≡ Ok v
     → Goes w v mine choice e
 goes w mine choice e v h im is ok = all_go w mine choice h e v im is ok
     (numbers_by w choice e v h.agrees.steady h.numbers.recorded (steps w choice e v ok))
