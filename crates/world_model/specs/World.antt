@@ -400,21 +400,14 @@ kept_commit w f frame saved done bytes = record w {
   counted = set_nth w.counted f (Some (record { k = frame.k; session = saved.session; parts = saved.parts }));
 }
 
-abbrev pub done_taken : World → ℕ → List ℕ → Frame → FrameDocument → Result Took ContainerFault → Result World Stop
-done_taken w f bytes frame saved (Err fault) = Err NotEnabled
-done_taken w f bytes frame saved (Ok t) = Ok (joined (kept_commit w f frame saved t.counted bytes) t)
-
-abbrev pub done_imaged : World → ℕ → List ℕ → Frame → Result Took ContainerFault
-    → Result FrameDocument ContainerFault → Result World Stop
-done_imaged w f bytes frame counted (Err fault) = Err NotEnabled
-done_imaged w f bytes frame counted (Ok saved) = done_taken w f bytes frame saved counted
-
-abbrev pub done_in : World → ℕ → List ℕ → Result Took ContainerFault → Option Frame → Result World Stop
-done_in w f bytes counted None = Err NotEnabled
-done_in w f bytes counted (Some frame) = done_imaged w f bytes frame counted (image w.rec f)
+-- It happens only where the frame is there, its document can be written and the step is taken.
+abbrev pub done_with : World → ℕ → List ℕ → Option Frame → Result FrameDocument ContainerFault
+    → Result Took ContainerFault → Result World Stop
+done_with w f bytes (Some frame) (Ok saved) (Ok t) = Ok (joined (kept_commit w f frame saved t.counted bytes) t)
+done_with w f bytes _ _ _ = Err NotEnabled
 
 abbrev pub done : World → ℕ → List ℕ → Result World Stop
-done w f bytes = done_in w f bytes (commit_done w.rec f) (nth w.rec.frames f)
+done w f bytes = done_with w f bytes (nth w.rec.frames f) (image w.rec f) (commit_done w.rec f)
 
 -- A step of the container that happens only where it is taken: a commit that fails, and one in doubt that is resolved
 -- as lost. No file changes, and nothing is counted.
@@ -424,7 +417,7 @@ only_taken w (Ok t) = Ok (joined w t)
 
 -- A commit in doubt that is resolved as kept acts as one that is done.
 abbrev pub resolved : World → ℕ → Bool → List ℕ → Result World Stop
-resolved w f true bytes = done_in w f bytes (resolve w.rec f true) (nth w.rec.frames f)
+resolved w f true bytes = done_with w f bytes (nth w.rec.frames f) (image w.rec f) (resolve w.rec f true)
 resolved w f false bytes = only_taken w (resolve w.rec f false)
 
 -- What happens at a server of this session: as yet a world has those of its container's session alone.

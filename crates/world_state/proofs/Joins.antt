@@ -21,8 +21,8 @@ use Rattle.world_model.specs.declared.life.Life.TheVariants.{Ended, Reaped}
 use Rattle.world_model.specs.declared.event.Stop.TheVariants.{EventLimit}
 use Rattle.world_model.specs.World.{World, Instance, joined, took, commanded, started_by, ended, ended_by}
 use Rattle.world_model.specs.World.{started_instance}
-use Rattle.world_model.specs.World.{limited, reap, done, done_in, done_imaged, done_taken, kept_commit, only_taken}
-use Rattle.world_model.specs.World.{resolved, MOST_EVENTS, link_to}
+use Rattle.world_model.specs.World.{limited, reap, done, kept_commit, only_taken}
+use Rattle.world_model.specs.World.{resolved, MOST_EVENTS, link_to, done_with}
 use Rattle.world_host.specs.Logging.{heard, heard_as, forged, forged_as, brought}
 use Rattle.world_host.specs.Servers.{ends_by, ends_in, ends_of}
 use Rattle.world_host.specs.View.{started}
@@ -109,30 +109,16 @@ limit_lifted w b u t true ends starts i s h e = cc
 limit_lifted w b u t false ends starts i s h e =
     ap Ok (took_lifted u b (Ok t) ends starts (ok_is _ _ h) e ∙ rw (i, s) refl)
 
-taken_lifted : (w b : World) (f : ℕ) (bytes : List ℕ) (frame : Frame) (saved : FrameDocument)
-    (told : Result Took ContainerFault) (ends starts : List ℕ)
-    → limited (emptied w) (done_taken (emptied w) f bytes frame saved told) ≡ Ok (started b starts)
-    → ends ≡ ends_in told → limited w (done_taken w f bytes frame saved told) ≡ Ok (finished w b ends starts)
-taken_lifted w b f bytes frame saved (Err fault) ends starts h e = cc
-taken_lifted w b f bytes frame saved (Ok t) ends starts h e =
+with_lifted : (w b : World) (f : ℕ) (bytes : List ℕ) (frame : Option Frame)
+    (saved : Result FrameDocument ContainerFault) (told : Result Took ContainerFault) (ends starts : List ℕ)
+    → limited (emptied w) (done_with (emptied w) f bytes frame saved told) ≡ Ok (started b starts)
+    → ends ≡ ends_in told → limited w (done_with w f bytes frame saved told) ≡ Ok (finished w b ends starts)
+with_lifted w b f bytes None saved told ends starts h e = cc
+with_lifted w b f bytes (Some frame) (Err fault) told ends starts h e = cc
+with_lifted w b f bytes (Some frame) (Ok saved) (Err fault) ends starts h e = cc
+with_lifted w b f bytes (Some frame) (Ok saved) (Ok t) ends starts h e =
     limit_lifted w b (kept_commit w f frame saved t.counted bytes) t (nat_le MOST_EVENTS (length w.answers)) ends
     starts refl refl h e
-
-imaged_lifted : (w b : World) (f : ℕ) (bytes : List ℕ) (frame : Frame) (told : Result Took ContainerFault)
-    (saved : Result FrameDocument ContainerFault) (ends starts : List ℕ)
-    → limited (emptied w) (done_imaged (emptied w) f bytes frame told saved) ≡ Ok (started b starts)
-    → ends ≡ ends_in told → limited w (done_imaged w f bytes frame told saved) ≡ Ok (finished w b ends starts)
-imaged_lifted w b f bytes frame told (Err fault) ends starts h e = cc
-imaged_lifted w b f bytes frame told (Ok saved) ends starts h e =
-    taken_lifted w b f bytes frame saved told ends starts h e
-
-in_lifted : (w b : World) (f : ℕ) (bytes : List ℕ) (told : Result Took ContainerFault) (frame : Option Frame)
-    (ends starts : List ℕ)
-    → limited (emptied w) (done_in (emptied w) f bytes told frame) ≡ Ok (started b starts) → ends ≡ ends_in told
-    → limited w (done_in w f bytes told frame) ≡ Ok (finished w b ends starts)
-in_lifted w b f bytes told None ends starts h e = cc
-in_lifted w b f bytes told (Some frame) ends starts h e = imaged_lifted w b f bytes frame told (image w.rec f) ends
-    starts h e
 
 only_lifted : (w b : World) (told : Result Took ContainerFault) (ends starts : List ℕ)
     → limited (emptied w) (only_taken (emptied w) told) ≡ Ok (started b starts) → ends ≡ ends_in told
@@ -208,15 +194,15 @@ reap_taken w b m v inc life (Some z) ends starts e is i l room h en em ev =
 pub done_taken_all : (w b v : World) (f : ℕ) (bytes : List ℕ) (ends starts : List ℕ)
     → limited (emptied w) (done (emptied w) f bytes) ≡ Ok (started b starts) → ends ≡ ends_in (commit_done w.rec f)
     → v ≡ finished w b ends starts → limited w (done w f bytes) ≡ Ok v
-done_taken_all w b v f bytes ends starts h e is = in_lifted w b f bytes (commit_done w.rec f) (nth w.rec.frames f)
-    ends starts h e ∙ ap Ok (sym is)
+done_taken_all w b v f bytes ends starts h e is = with_lifted w b f bytes (nth w.rec.frames f) (image w.rec f)
+    (commit_done w.rec f) ends starts h e ∙ ap Ok (sym is)
 
 pub kept_taken_all : (w b v : World) (f : ℕ) (bytes : List ℕ) (ends starts : List ℕ)
     → limited (emptied w) (resolved (emptied w) f true bytes) ≡ Ok (started b starts)
     → ends ≡ ends_in (resolve w.rec f true)
     → v ≡ finished w b ends starts → limited w (resolved w f true bytes) ≡ Ok v
-kept_taken_all w b v f bytes ends starts h e is = in_lifted w b f bytes (resolve w.rec f true) (nth w.rec.frames f)
-    ends starts h e ∙ ap Ok (sym is)
+kept_taken_all w b v f bytes ends starts h e is = with_lifted w b f bytes (nth w.rec.frames f) (image w.rec f)
+    (resolve w.rec f true) ends starts h e ∙ ap Ok (sym is)
 
 pub only_taken_all : (w b v : World) (told : Result Took ContainerFault) (ends starts : List ℕ)
     → limited (emptied w) (only_taken (emptied w) told) ≡ Ok (started b starts) → ends ≡ ends_in told
