@@ -123,13 +123,4 @@ pub record AreSameFrames (old new : List Frame) : Type 0 where
 abbrev pub MakesDocument : World → Choice → Event → Type 0
 MakesDocument w choice (event.Done f) = HoldsDocument w f choice.file
 MakesDocument w choice (event.Resolve f true) = HoldsDocument w f choice.file
-MakesDocument w choice (event.Resolve f false) = Unit {0}
-MakesDocument w choice (event.Command c) = Unit {0}
-MakesDocument w choice (event.Deliver p) = Unit {0}
-MakesDocument w choice (event.Forge inc m) = Unit {0}
-MakesDocument w choice (event.Crash s inc) = Unit {0}
-MakesDocument w choice (event.Reap inc) = Unit {0}
-MakesDocument w choice (event.Fail f) = Unit {0}
-MakesDocument w choice (event.Open name x y) = Unit {0}
-MakesDocument w choice (event.Scribble s inc act) = Unit {0}
-MakesDocument w choice (event.Ask s inc act) = Unit {0}
+MakesDocument w choice _ = Unit {0}

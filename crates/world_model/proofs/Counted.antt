@@ -150,7 +150,8 @@ reap-taken w inc None = tt
 reap-taken w inc (Some i) = ended-taken w inc i i.life
 
 done_with-taken : (w : World) (f : ℕ) (bytes : List ℕ) (frame : Option Frame)
-    (saved : Result FrameDocument ContainerFault) (r : Result Took ContainerFault) → IfTaken w (done_with w f bytes frame saved r)
+    (saved : Result FrameDocument ContainerFault) (r : Result Took ContainerFault)
+    → IfTaken w (done_with w f bytes frame saved r)
 done_with-taken w f bytes None saved r = tt
 done_with-taken w f bytes (Some frame) (Err fault) r = tt
 done_with-taken w f bytes (Some frame) (Ok saved) (Err fault) = tt

@@ -78,26 +78,18 @@ epochs s = s.past ++ epoch_of s.now ∷ []
 -- call; all others happen in the present one
 abbrev pub session_of_call : ℕ → Message → Said → ℕ
 session_of_call present m (Call inc act n op) = m.session
-session_of_call present m (Reply inc act n answer) = present
-session_of_call present m (Write inc act s number content) = present
-session_of_call present m (Ask inc act g) = present
+session_of_call present m _ = present
 
 abbrev pub session_at : ℕ → Option Sent → ℕ
 session_at present None = present
 session_at present (Some x) = session_of_call present x.message x.message.said
 
 abbrev pub session_of : World → Event → ℕ
-session_of w (event.Command c) = w.rec.session
 session_of w (event.Deliver p) = session_at w.rec.session (nth w.sent p)
-session_of w (event.Forge inc m) = w.rec.session
 session_of w (event.Crash session inc) = session
-session_of w (event.Reap inc) = w.rec.session
-session_of w (event.Done f) = w.rec.session
-session_of w (event.Fail f) = w.rec.session
-session_of w (event.Resolve f is_kept) = w.rec.session
-session_of w (event.Open name width height) = w.rec.session
 session_of w (event.Scribble session inc act) = session
 session_of w (event.Ask session inc act) = session
+session_of w _ = w.rec.session
 
 -- the world as an earlier run has it: with its servers and its logs
 abbrev pub as_of : World → Epoch → World
@@ -125,17 +117,11 @@ left_by s e (Ok v) = Ok (record s {
 -- Servers of earlier runs act on calls, crash, write and ask; nothing else happens at them. What is delivered to one is
 -- a call, as no other message is of an earlier session here.
 abbrev pub goes_on : World → Event → Result World Stop
-goes_on w (event.Command c) = Err NotEnabled
 goes_on w (event.Deliver p) = deliver w p (nth w.sent p)
-goes_on w (event.Forge inc m) = Err NotEnabled
 goes_on w (event.Crash session inc) = crash w inc (nth w.instances inc)
-goes_on w (event.Reap inc) = Err NotEnabled
-goes_on w (event.Done f) = Err NotEnabled
-goes_on w (event.Fail f) = Err NotEnabled
-goes_on w (event.Resolve f is_kept) = Err NotEnabled
-goes_on w (event.Open name width height) = Err NotEnabled
 goes_on w (event.Scribble session inc act) = scribble w inc act (nth w.instances inc)
 goes_on w (event.Ask session inc act) = ask w inc act (nth w.instances inc)
+goes_on w _ = Err NotEnabled
 
 abbrev pub earlier : Story → Event → Option Epoch → Result Story Stop
 earlier s e None = Err NotEnabled
@@ -192,16 +178,7 @@ committed_by s f next = record {
 abbrev pub followed : Story → Event → World → Story
 followed s (event.Done f) next = committed_by s f next
 followed s (event.Resolve f true) next = committed_by s f next
-followed s (event.Resolve f false) next = record s { now = next }
-followed s (event.Command c) next = record s { now = next }
-followed s (event.Deliver p) next = record s { now = next }
-followed s (event.Forge inc m) next = record s { now = next }
-followed s (event.Crash session inc) next = record s { now = next }
-followed s (event.Reap inc) next = record s { now = next }
-followed s (event.Fail f) next = record s { now = next }
-followed s (event.Open name width height) next = record s { now = next }
-followed s (event.Scribble session inc act) next = record s { now = next }
-followed s (event.Ask session inc act) next = record s { now = next }
+followed s _ next = record s { now = next }
 
 abbrev pub follow : Story → Event → Result World Stop → Result Story Stop
 follow s e (Err stop) = Err stop

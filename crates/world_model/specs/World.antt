@@ -93,9 +93,7 @@ empty_world numbers stock = record {
 abbrev pub messages_of : List Action → List Message
 messages_of [] = []
 messages_of (Send m ∷ rest) = m ∷ messages_of rest
-messages_of (Start inc ∷ rest) = messages_of rest
-messages_of (End inc ∷ rest) = messages_of rest
-messages_of (Commit f ∷ rest) = messages_of rest
+messages_of (_ ∷ rest) = messages_of rest
 
 -- a server of a session, by its incarnation
 abbrev pub started_instance : ℕ → ℕ → ℕ → Instance
@@ -104,10 +102,8 @@ started_instance session numbers inc =
 
 abbrev pub started_by : ℕ → ℕ → List Action → List Instance
 started_by session numbers [] = []
-started_by session numbers (Send m ∷ rest) = started_by session numbers rest
 started_by session numbers (Start inc ∷ rest) = started_instance session numbers inc ∷ started_by session numbers rest
-started_by session numbers (End inc ∷ rest) = started_by session numbers rest
-started_by session numbers (Commit f ∷ rest) = started_by session numbers rest
+started_by session numbers (_ ∷ rest) = started_by session numbers rest
 
 -- a server that is to be ended has ended at once; one that had ended stays so
 abbrev pub end_of : Life → Life
@@ -121,17 +117,13 @@ ended_at inc instances (Some i) = set_nth instances inc (record i { life = end_o
 
 abbrev pub ended_by : List Action → List Instance → List Instance
 ended_by [] instances = instances
-ended_by (Send m ∷ rest) instances = ended_by rest instances
-ended_by (Start inc ∷ rest) instances = ended_by rest instances
 ended_by (End inc ∷ rest) instances = ended_by rest (ended_at inc instances (nth instances inc))
-ended_by (Commit f ∷ rest) instances = ended_by rest instances
+ended_by (_ ∷ rest) instances = ended_by rest instances
 
 abbrev pub commits_of : List Action → List ℕ
 commits_of [] = []
-commits_of (Send m ∷ rest) = commits_of rest
-commits_of (Start inc ∷ rest) = commits_of rest
-commits_of (End inc ∷ rest) = commits_of rest
 commits_of (Commit f ∷ rest) = f ∷ commits_of rest
+commits_of (_ ∷ rest) = commits_of rest
 
 -- the places of so many messages that are sent next
 abbrev pub places : List Sent → ℕ → List ℕ
@@ -247,8 +239,7 @@ called_wanting w s inc act n op i (Some class) = stocked w s inc act n op i clas
 abbrev pub called_in : World → ℕ → ℕ → ℕ → ℕ → Operation → Instance → Life → Result World Stop
 called_in w s inc act n op i Running = called_wanting w s inc act n op i
     (wanted i.core (in_session s (Call inc act n op)))
-called_in w s inc act n op i Ended = Ok (record w { answers = w.answers ++ told.Took quiet_outcome ∷ [] })
-called_in w s inc act n op i Reaped = Ok (record w { answers = w.answers ++ told.Took quiet_outcome ∷ [] })
+called_in w s inc act n op i _ = Ok (record w { answers = w.answers ++ told.Took quiet_outcome ∷ [] })
 
 -- a call to a server that has ended does nothing
 abbrev pub called : World → ℕ → ℕ → ℕ → ℕ → Operation → Option Instance → Result World Stop
@@ -268,9 +259,7 @@ link_of m = record { session = m.session; inc = server_of m.said }
 -- Delivery of a message that was sent, for the first time or again.
 abbrev pub delivered_said : World → Message → Said → Result World Stop
 delivered_said w m (Call inc act n op) = called w m.session inc act n op (nth w.instances inc)
-delivered_said w m (Reply inc act n answer) = Ok (took w (on_message w.rec (link_of m) m))
-delivered_said w m (Write inc act s number content) = Ok (took w (on_message w.rec (link_of m) m))
-delivered_said w m (Ask inc act g) = Ok (took w (on_message w.rec (link_of m) m))
+delivered_said w m _ = Ok (took w (on_message w.rec (link_of m) m))
 
 abbrev pub delivered : World → Message → Result World Stop
 delivered w m = delivered_said w m m.said
@@ -329,9 +318,8 @@ forged_on w inc m = record (took w (on_message w.rec (link_to w inc) m)) {
 }
 
 abbrev pub forged : World → ℕ → Message → Life → Result World Stop
-forged w inc m Running = Ok (forged_on w inc m)
-forged w inc m Ended = Ok (forged_on w inc m)
 forged w inc m Reaped = Err NotEnabled
+forged w inc m _ = Ok (forged_on w inc m)
 
 abbrev pub forge : World → ℕ → Message → Option Instance → Result World Stop
 forge w inc m None = Err NotEnabled
@@ -348,8 +336,7 @@ spoken_by w inc act i (Ok t) = record w {
 
 abbrev pub spoken : World → ℕ → ℕ → Instance → Life → Result Told ServerFault → Result World Stop
 spoken w inc act i Running told = Ok (spoken_by w inc act i told)
-spoken w inc act i Ended told = Err NotEnabled
-spoken w inc act i Reaped told = Err NotEnabled
+spoken w inc act i _ told = Err NotEnabled
 
 abbrev pub scribble : World → ℕ → ℕ → Option Instance → Result World Stop
 scribble w inc act None = Err NotEnabled
@@ -366,8 +353,7 @@ crashed w inc i Running =
       instances = set_nth w.instances inc (record i { life = Ended });
       answers = w.answers ++ told.Took quiet_outcome ∷ [];
     })
-crashed w inc i Ended = Err NotEnabled
-crashed w inc i Reaped = Err NotEnabled
+crashed w inc i _ = Err NotEnabled
 
 abbrev pub crash : World → ℕ → Option Instance → Result World Stop
 crash w inc None = Err NotEnabled
@@ -375,10 +361,9 @@ crash w inc (Some i) = crashed w inc i i.life
 
 -- The end of a server is told, once it has ended.
 abbrev pub ended : World → ℕ → Instance → Life → Result World Stop
-ended w inc i Running = Err NotEnabled
 ended w inc i Ended = Ok (took (record w { instances = set_nth w.instances inc (record i { life = Reaped }) })
     (on_reap w.rec inc))
-ended w inc i Reaped = Err NotEnabled
+ended w inc i _ = Err NotEnabled
 
 abbrev pub reap : World → ℕ → Option Instance → Result World Stop
 reap w inc None = Err NotEnabled

@@ -15,7 +15,6 @@ use Rattle.container_model.specs.Record.{Record, Took, is_linked}
 use Rattle.container_model.specs.Commands.{on_command}
 use Rattle.container_model.specs.Inputs.{Input, on_input}
 use Rattle.container_model.specs.Messages.{on_message, on_reap}
-use Rattle.container_model.specs.Saves.{image}
 use Rattle.container_model.specs.declared.answer.Action.{Action}
 use Rattle.container_model.specs.declared.answer.Action.TheVariants.{Send, Start, End, Commit}
 use Rattle.container_model.specs.declared.answer.FrameDocument.{FrameDocument}
