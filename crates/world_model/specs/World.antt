@@ -95,7 +95,7 @@ messages_of [] = []
 messages_of (Send m ∷ rest) = m ∷ messages_of rest
 messages_of (_ ∷ rest) = messages_of rest
 
--- a server of a session, by its incarnation
+-- a server that starts in a session, by its incarnation
 abbrev pub started_instance : ℕ → ℕ → ℕ → Instance
 started_instance session numbers inc =
     record { life = Running; core = record { session = session; inc = inc; numbers = numbers; acts = [] } }
@@ -458,12 +458,13 @@ file_bytes (Some file) = Some file.bytes
 abbrev pub file_of : World → List ℕ → Option (List ℕ)
 file_of w name = file_bytes (find (is_file name) w.files)
 
--- What may be chosen: the bytes that a commit makes the file denote the document, in a tree that holds it; a file gives
--- what it is read as, where it is looked at: its name is no frame's, and the size is one.
+-- These bytes hold the document that a frame's commit saves: they denote its tree, and the tree holds it.
 abbrev pub HoldsDocument : World → ℕ → List ℕ → Type 0
 HoldsDocument w f bytes = (saved : FrameDocument) → image w.rec f ≡ Ok saved → ∥ Denotes bytes (document_tree saved) ∥₁
     × DocOf (document_tree saved) (document saved)
 
+-- What may be chosen: bytes that hold the document, where a commit makes them the file; what a file is read as, where
+-- it is looked at, as its name is no frame's and the size is one. Other events leave nothing open.
 abbrev pub MayChoose : World → Choice → Event → Type 0
 MayChoose w choice (event.Done f) = HoldsDocument w f choice.file
 MayChoose w choice (event.Resolve f true) = HoldsDocument w f choice.file
