@@ -1,6 +1,6 @@
 -- The files of a world and the container's log of counted saves: the facts that each event keeps. No reader has to
 -- believe them; what they are for stands in Safe.
-use Rattle.std.specs.Prelude.{◌≡◌, ◌≢◌, ◌⊎◌, ◌≤◌, ◌<◌, ℕ, true, false, List, [], ◌∷◌, length, map, Option, Some, ⊤}
+use Rattle.std.specs.Prelude.{◌≡◌, ◌≢◌, ◌⊎◌, ◌≤◌, ◌<◌, ℕ, true, List, [], ◌∷◌, length, map, Option, Some, ⊤}
 use Rattle.std.specs.List.{flat_map}
 use Rattle.message_values.specs.Found.{find, nth}
 use Rattle.cfb_file.specs.Denotes.{Denotes}

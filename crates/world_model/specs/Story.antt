@@ -1,12 +1,12 @@
 -- A story: a container that stops and starts again. The world of its present run, and what is left of the runs before
 -- it.
 use Rattle.std.specs.Prelude.{◌≡◌, ◌++◌, ◌+◌, ℕ, Bool, true, false, List, [], ◌∷◌, length, Option, Some, None, is_some}
-use Rattle.std.specs.Prelude.{Result, Ok, Err, IsOk, if◌then◌else◌, nat_le, ◌==◌}
+use Rattle.std.specs.Prelude.{Result, Ok, Err, if◌then◌else◌, nat_le, ◌==◌}
 use Rattle.std.specs.Str.{bytes_eq}
 use Rattle.message_values.specs.Found.{find, nth, put}
 use Rattle.message_values.specs.declared.message.Message.{Message}
 use Rattle.message_values.specs.declared.message.Said.{Said}
-use Rattle.message_values.specs.declared.message.Said.TheVariants.{Call, Reply, Write, Ask}
+use Rattle.message_values.specs.declared.message.Said.TheVariants.{Call}
 use Rattle.object_core.specs.Kinds.{Kind}
 use Rattle.container_model.specs.Record.{Record, empty}
 use Rattle.container_model.specs.Saves.{image, name_after}
@@ -19,7 +19,7 @@ use Rattle.container_model.specs.declared.record.Frame.{Frame}
 use Rattle.world_model.specs.declared.event.Event.{Event}
 use Rattle.world_model.specs.declared.event.Event.TheVariants as event
 use Rattle.world_model.specs.declared.event.Stop.{Stop}
-use Rattle.world_model.specs.declared.event.Stop.TheVariants.{EventLimit, NoMemory, NotEnabled}
+use Rattle.world_model.specs.declared.event.Stop.TheVariants.{EventLimit, NotEnabled}
 use Rattle.world_model.specs.declared.logs.Document.{Document}
 use Rattle.world_model.specs.declared.logs.EventAnswer.TheVariants as told
 use Rattle.world_model.specs.declared.logs.File.{File}

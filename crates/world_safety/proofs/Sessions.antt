@@ -44,7 +44,6 @@ use Rattle.world_model.specs.declared.logs.Taken.{Taken}
 use Rattle.world_model.specs.World.{World, Instance, Choice, ask, called, called_in, called_wanting, commanded, crash}
 use Rattle.world_model.specs.World.{crashed, deliver, delivered, delivered_said}
 use Rattle.world_model.specs.World.{empty_world, end_of, ended, ended_at, ended_by, forge, forged, forged_on}
-use Rattle.world_model.specs.World.{started_instance}
 use Rattle.world_model.specs.World.{happened, in_session, is_of, joined, link_of, link_to, messages_of, of_container}
 use Rattle.world_model.specs.World.{only_taken, reap, resolved, scribble, served, spoken, spoken_by, started_by}
 use Rattle.world_model.specs.World.{stocked, taken_at, took, view_in, with_taken, done_with}

@@ -37,12 +37,11 @@ use Rattle.world_model.specs.declared.logs.ServerDone.{ServerDone}
 use Rattle.world_model.specs.declared.logs.Taken.{Taken}
 use Rattle.world_model.specs.World.{World, Instance, ask, called, called_in, called_wanting, commanded, counted_by}
 use Rattle.world_model.specs.World.{crash, crashed, delivered_said, ended, in_run}
-use Rattle.world_model.specs.World.{in_session, is_of, link_of, messages_of, of_container, only_taken, put_file, reap}
+use Rattle.world_model.specs.World.{in_session, is_of, link_of, messages_of, of_container, only_taken, reap}
 use Rattle.world_model.specs.World.{scribble, served, spoken, spoken_by, stocked, taken_at, taken_by, taken_link}
 use Rattle.world_model.specs.World.{taken_of, taken_said, took, view_in, with_taken, done_with}
 use Rattle.world_model.specs.Safe.{Among, messages}
 use Rattle.world_safety.proofs.Speaking.{IsTelling, asking_is, writing_is}
-use Rattle.world_model.specs.Story.{made_name}
 use Rattle.world_stories.specs.Steps.{put_committed, quieted, twin}
 
 pub ok_is : (x y : World) → ◌≡◌ {A = Result World Stop} (Ok x) (Ok y) → x ≡ y
