@@ -14,11 +14,12 @@ use Rattle.world_model.specs.declared.event.Stop.{Stop}
 use Rattle.world_model.specs.declared.event.Stop.TheVariants.{EventLimit, NotEnabled}
 use Rattle.world_model.specs.declared.logs.EventAnswer.TheVariants as told
 use Rattle.world_model.specs.declared.logs.Sent.{Sent}
-use Rattle.world_model.specs.World.{Choice, IsImage, MOST_EVENTS, World, ask, crash, deliver, delivered_said, happened}
+use Rattle.world_model.specs.World.{Choice, MayChoose, MOST_EVENTS, World, ask, crash, deliver, delivered_said}
+use Rattle.world_model.specs.World.{happened}
 use Rattle.world_model.specs.World.{link_of, limited, quiet_outcome, scribble, taken_at, with_taken}
 use Rattle.world_model.specs.declared.moment.Moment.{Moment}
 use Rattle.world_model.specs.declared.moment.Moment.TheVariants as moment
-use Rattle.world_model.specs.Story.{AreImages, Chosen, Epoch, Story, Tells, as_of, earlier, follow, followed, goes_on}
+use Rattle.world_model.specs.Story.{Chosen, Epoch, MayChooseAt, Story, Tells, as_of, earlier, follow, followed, goes_on}
 use Rattle.world_model.specs.Story.{is_session, left_by, may_begin, may_stop, passed, present, session_of, stopped}
 use Rattle.world_model.specs.Story.{within}
 
@@ -37,7 +38,7 @@ open_few : (w : World) → IsOpen w → Few w
 open_few w under = let below : length w.answers < MOST_EVENTS = grind (arith, nat_tests) in omega (arith, below)
 
 -- an event of a world
-happened_few : (w : World) (choice : Choice) (e : Event) (v : World) → IsOpen w → IsImage w choice e
+happened_few : (w : World) (choice : Choice) (e : Event) (v : World) → IsOpen w → MayChoose w choice e
     → happened w choice e ≡ Ok v → Few v
 happened_few w choice e v under image is =
     let limit : (Bool → Result World Stop) = λ b. if b then Err EventLimit else Ok v in
@@ -45,7 +46,7 @@ happened_few w choice e v under image is =
 
 -- an event at a server of an earlier run is one of the world as that run has it
 in_run_few : (w : World) (choice : Choice) (e : Event) (r : Result World Stop) (v : World) → IsOpen w
-    → IsImage w choice e
+    → MayChoose w choice e
     → happened w choice e ≡ (if w.rec.session == w.rec.session then r else Err NotEnabled) → r ≡ Ok v → Few v
 in_run_few w choice e r v under image told is =
     happened_few w choice e v under image
@@ -108,7 +109,7 @@ either : {A : Type 0} (b : Bool) (x y z : A) (P : Type 0) → (if b then x else 
 either true x y z P is f g = f is
 either false x y z P is f g = g is
 
-passed_few : (s : Story) (choice : Chosen) (m : Moment) (next : Story) → IsOpen s.now → AreImages s choice m
+passed_few : (s : Story) (choice : Chosen) (m : Moment) (next : Story) → IsOpen s.now → MayChooseAt s choice m
     → passed s choice m ≡ Ok next → Few next.now
 passed_few s choice (moment.Event e) next under image is =
     either (session_of s.now e == s.now.rec.session) (present s choice.here e)

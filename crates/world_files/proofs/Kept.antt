@@ -40,13 +40,14 @@ use Rattle.world_model.specs.declared.event.Stop.TheVariants.{EventLimit}
 use Rattle.world_model.specs.World.{World, Instance, document_in, empty_world, joined, took, commanded, served, stocked}
 use Rattle.world_model.specs.World.{called_wanting, called_in, called, delivered, taken_at, with_taken, deliver}
 use Rattle.world_model.specs.World.{forged_on, forged, forge, spoken_by, spoken, scribble, ask, crashed, crash, ended}
-use Rattle.world_model.specs.World.{reap, kept_commit, done_taken, done_imaged, done_in, only_taken, resolved, happened}
-use Rattle.world_model.specs.World.{limited, IsImage, IsImageOf, is_of, MOST_EVENTS, Choice, in_session, delivered_said}
-use Rattle.world_model.specs.World.{link_of, link_to}
+use Rattle.world_model.specs.World.{reap, kept_commit, only_taken, resolved, happened}
+use Rattle.world_model.specs.World.{limited, MayChoose, HoldsDocument, is_of, MOST_EVENTS, Choice, in_session}
+use Rattle.world_model.specs.World.{delivered_said}
+use Rattle.world_model.specs.World.{link_of, link_to, done_with}
 use Rattle.world_model.specs.Safe.{IsCounted}
 use Rattle.container_queues.specs.Steady.{Steady}
 use Rattle.container_steady.proofs.Settling.{IsCommitOf, done_commits, is_dropped, is_failed, kept_commits, not_idle}
-use Rattle.world_files.specs.Files.{CountedBounded, Files, FilesCounted, HasCommits, MakesImage, id_of}
+use Rattle.world_files.specs.Files.{CountedBounded, Files, FilesCounted, HasCommits, MakesDocument, id_of}
 use Rattle.world_facts.proofs.Lookups.{among_map, find_among, find_passes, map_map_same}
 use Rattle.world_files.proofs.Numbering.{numbered}
 use Rattle.world_files.proofs.Moving.{id_asked}
@@ -439,12 +440,12 @@ image_is_at r f frame got e =
       | false ↦ (λ g. cc)
     ] e
 
-files_done_taken : (w : World) (f : ℕ) (bytes : List ℕ) (frame : Frame) (saved : FrameDocument)
+files_committed : (w : World) (f : ℕ) (bytes : List ℕ) (frame : Frame) (saved : FrameDocument)
     (told : Result Took ContainerFault) (v : World) → Steady w.rec → Files w → nth w.rec.frames f ≡ Some frame
     → image w.rec f ≡ Ok saved → IsCommitOf w.rec f frame told → ∥ Denotes bytes (document_tree saved) ∥₁
-    → DocOf (document_tree saved) (document saved) → done_taken w f bytes frame saved told ≡ Ok v → Files v
-files_done_taken w f bytes frame saved (Err fault) v s k at im commits den held e = cc
-files_done_taken w f bytes frame saved (Ok t) v s k at im commits den held e =
+    → DocOf (document_tree saved) (document saved) → done_with w f bytes (Some frame) (Ok saved) told ≡ Ok v → Files v
+files_committed w f bytes frame saved (Err fault) v s k at im commits den held e = cc
+files_committed w f bytes frame saved (Ok t) v s k at im commits den held e =
     let r = w.rec in
     let c = commits t refl in
     let mine : FrameDocument = frame_document frame (parts_in f r.objects) in
@@ -480,21 +481,14 @@ files_done_taken w f bytes frame saved (Ok t) v s k at im commits den held e =
     subst (λ x. Files (joined (kept_commit w f frame saved x.counted bytes) x)) c.1 one in
     subst Files (ok_is _ v e) two
 
-files_imaged : (w : World) (f : ℕ) (bytes : List ℕ) (frame : Frame) (counted : Result Took ContainerFault)
-    (told : Result FrameDocument ContainerFault) (v : World) → Steady w.rec → Files w
-    → nth w.rec.frames f ≡ Some frame → image w.rec f ≡ told
-    → IsCommitOf w.rec f frame counted → IsImageOf w f bytes → done_imaged w f bytes frame counted told ≡ Ok v → Files v
-files_imaged w f bytes frame counted (Err fault) v s k at im commits den e = cc
-files_imaged w f bytes frame counted (Ok saved) v s k at im commits den e =
-    (let d = den saved im in files_done_taken w f bytes frame saved counted v s k at im commits d.0 d.1 e)
-
-files_done_in : (w : World) (f : ℕ) (bytes : List ℕ) (counted : Result Took ContainerFault) (frame : Option Frame)
-    (v : World) → Steady w.rec → Files w → nth w.rec.frames f ≡ frame
-    → ((x : Frame) → nth w.rec.frames f ≡ Some x → IsCommitOf w.rec f x counted) → IsImageOf w f bytes
-    → done_in w f bytes counted frame ≡ Ok v → Files v
-files_done_in w f bytes counted None v s k at commits den e = cc
-files_done_in w f bytes counted (Some frame) v s k at commits den e =
-    files_imaged w f bytes frame counted (image w.rec f) v s k at refl (commits frame at) den e
+files_done : (w : World) (f : ℕ) (bytes : List ℕ) (frame : Option Frame) (told : Result FrameDocument ContainerFault)
+    (counted : Result Took ContainerFault) (v : World) → Steady w.rec → Files w → nth w.rec.frames f ≡ frame
+    → image w.rec f ≡ told → ((x : Frame) → nth w.rec.frames f ≡ Some x → IsCommitOf w.rec f x counted)
+    → HoldsDocument w f bytes → done_with w f bytes frame told counted ≡ Ok v → Files v
+files_done w f bytes None told counted v s k at im commits den e = cc
+files_done w f bytes (Some frame) (Err fault) counted v s k at im commits den e = cc
+files_done w f bytes (Some frame) (Ok saved) counted v s k at im commits den e =
+    (let d = den saved im in files_committed w f bytes frame saved counted v s k at im (commits frame at) d.0 d.1 e)
 
 -- a step that happens only where it is taken
 files_only : (w : World) (told : Result Took ContainerFault) (v : World) → Files w
@@ -510,13 +504,13 @@ lost_quiet : (r : Record) (f : ℕ) (t : Took) → resolve r f false ≡ Ok t �
 lost_quiet r f t e = (let h = is_dropped r f t e in subst (IsQuiet r) h.made (drop_quiet r f h.frame h.there))
 
 files_resolved : (w : World) (choice : Choice) (f : ℕ) (is_kept : Bool) (v : World) → Steady w.rec → Files w
-    → MakesImage w choice (event.Resolve f is_kept) → resolved w f is_kept choice.file ≡ Ok v → Files v
-files_resolved w choice f true v s k im e = files_done_in w f choice.file (resolve w.rec f true)
-    (nth w.rec.frames f) v s k refl (λ x at. kept_commits w.rec f x at) im e
+    → MakesDocument w choice (event.Resolve f is_kept) → resolved w f is_kept choice.file ≡ Ok v → Files v
+files_resolved w choice f true v s k im e = files_done w f choice.file (nth w.rec.frames f)
+    (image w.rec f) (resolve w.rec f true) v s k refl refl (λ x at. kept_commits w.rec f x at) im e
 files_resolved w choice f false v s k im e = files_only w (resolve w.rec f false) v k (lost_quiet w.rec f) e
 
 -- what may be chosen for an event makes a file of a document, if any
-pub images_make : (w : World) (choice : Choice) (e : Event) → IsImage w choice e → MakesImage w choice e
+pub images_make : (w : World) (choice : Choice) (e : Event) → MayChoose w choice e → MakesDocument w choice e
 images_make w choice (event.Command c) im = tt
 images_make w choice (event.Deliver p) im = tt
 images_make w choice (event.Forge inc m) im = tt
@@ -531,7 +525,7 @@ images_make w choice (event.Resolve f false) im = tt
 images_make w choice (event.Open name x y) im = tt
 
 pub files_happened : (w : World) (choice : Choice) (e : Event) (v : World) → Steady w.rec → Files w
-    → MakesImage w choice e → happened w choice e ≡ Ok v → Files v
+    → MakesDocument w choice e → happened w choice e ≡ Ok v → Files v
 files_happened w choice (event.Command c) v s k im e =
     subst Files (ok_is _ v e) (files_commanded w c (on_command w.rec c) k (λ t g. files_command w c t s k g))
 files_happened w choice (event.Deliver p) v s k im e = files_deliver w p (nth w.sent p) v k e
@@ -544,8 +538,8 @@ files_happened w choice (event.Scribble s inc act) v st k im e =
     (in_run_ok w s (scribble w inc act (nth w.instances inc)) v e)
 files_happened w choice (event.Ask s inc act) v st k im e = files_ask w inc act (nth w.instances inc) v k
     (in_run_ok w s (ask w inc act (nth w.instances inc)) v e)
-files_happened w choice (event.Done f) v s k im e = files_done_in w f choice.file (commit_done w.rec f)
-    (nth w.rec.frames f) v s k refl (λ x at. done_commits w.rec f x at) im e
+files_happened w choice (event.Done f) v s k im e = files_done w f choice.file (nth w.rec.frames f) (image w.rec f)
+    (commit_done w.rec f) v s k refl refl (λ x at. done_commits w.rec f x at) im e
 files_happened w choice (event.Fail f) v s k im e = files_only w (commit_failed w.rec f) v k (failed_quiet w.rec f) e
 files_happened w choice (event.Resolve f is_kept) v s k im e = files_resolved w choice f is_kept v s k im e
 files_happened w choice (event.Open name x y) v s k im e =

@@ -1,6 +1,6 @@
 -- The files of a world and the container's log of counted saves: the facts that each event keeps. No reader has to
 -- believe them; what they are for stands in Safe.
-use Rattle.std.specs.Prelude.{◌≡◌, ◌≢◌, ◌⊎◌, ◌≤◌, ◌<◌, ℕ, true, false, List, [], ◌∷◌, length, map, Option, Some, ⊤}
+use Rattle.std.specs.Prelude.{◌≡◌, ◌≢◌, ◌⊎◌, ◌≤◌, ◌<◌, ℕ, true, List, [], ◌∷◌, length, map, Option, Some, ⊤}
 use Rattle.std.specs.List.{flat_map}
 use Rattle.message_values.specs.Found.{find, nth}
 use Rattle.cfb_file.specs.Denotes.{Denotes}
@@ -16,7 +16,7 @@ use Rattle.world_model.specs.declared.logs.Document.{Document}
 use Rattle.world_model.specs.declared.logs.File.{File}
 use Rattle.world_model.specs.declared.event.Event.{Event}
 use Rattle.world_model.specs.declared.event.Event.TheVariants as event
-use Rattle.world_model.specs.World.{Choice, IsImageOf, World, document_in, done_entry, is_file}
+use Rattle.world_model.specs.World.{Choice, HoldsDocument, World, document_in, done_entry, is_file}
 use Rattle.world_model.specs.Safe.{Among, AreInTurn, Commit, CountedOnce, entries_of, last_commit, saved_in, saved_of}
 
 -- the objects by their numbers and frames, which no step changes
@@ -120,16 +120,7 @@ pub record AreSameFrames (old new : List Frame) : Type 0 where
       × IsSameFrame before frame
 
 -- Of a commit that is done, or was kept after all, the bytes denote the frame's document; other events make no file.
-abbrev pub MakesImage : World → Choice → Event → Type 0
-MakesImage w choice (event.Done f) = IsImageOf w f choice.file
-MakesImage w choice (event.Resolve f true) = IsImageOf w f choice.file
-MakesImage w choice (event.Resolve f false) = Unit {0}
-MakesImage w choice (event.Command c) = Unit {0}
-MakesImage w choice (event.Deliver p) = Unit {0}
-MakesImage w choice (event.Forge inc m) = Unit {0}
-MakesImage w choice (event.Crash s inc) = Unit {0}
-MakesImage w choice (event.Reap inc) = Unit {0}
-MakesImage w choice (event.Fail f) = Unit {0}
-MakesImage w choice (event.Open name x y) = Unit {0}
-MakesImage w choice (event.Scribble s inc act) = Unit {0}
-MakesImage w choice (event.Ask s inc act) = Unit {0}
+abbrev pub MakesDocument : World → Choice → Event → Type 0
+MakesDocument w choice (event.Done f) = HoldsDocument w f choice.file
+MakesDocument w choice (event.Resolve f true) = HoldsDocument w f choice.file
+MakesDocument w choice _ = Unit {0}

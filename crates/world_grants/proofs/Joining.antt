@@ -10,7 +10,7 @@ use Rattle.container_model.specs.declared.answer.Action.TheVariants.{Send, Start
 use Rattle.container_queues.proofs.SteadyLookups.{each_nth, each_set}
 use Rattle.container_numbers.specs.Sound.{IsNumbered}
 use Rattle.world_model.specs.declared.logs.Sent.{Sent}
-use Rattle.world_model.specs.World.{World, Instance, end_of, ended_at, ended_by, fresh, joined, messages_of}
+use Rattle.world_model.specs.World.{World, Instance, end_of, ended_at, ended_by, started_instance, joined, messages_of}
 use Rattle.world_model.specs.World.{of_container, started_by}
 use Rattle.world_model.specs.Safe.{Among, IsWithin, WasSent, links_of, messages}
 use Rattle.world_facts.specs.Words.{all_said, sayings_of}
@@ -103,7 +103,7 @@ sent_one limit w x h k m g =
 
 -- a new server is numbered by the record
 pub fresh_within : (limit : ℕ) (r : Record) (inc : ℕ) → IsNumbered limit r → inc ≤ length r.servers
-    → IsServerWithin limit (fresh r.session r.numbers inc).core
+    → IsServerWithin limit (started_instance r.session r.numbers inc).core
 fresh_within limit r inc h le = record {
   inc = (let most = h.servers in let e = h.limit in omega arith);
   numbers = (let e = h.limit in omega arith);

@@ -12,14 +12,15 @@ use Rattle.world_model.specs.declared.logs.Document.{Document}
 use Rattle.world_model.specs.declared.logs.EventAnswer.{EventAnswer}
 use Rattle.world_model.specs.declared.logs.EventAnswer.TheVariants as told
 use Rattle.world_model.specs.World.{World, Instance, joined, started_by, ended_by, ended_at, messages_of, commits_of}
-use Rattle.world_model.specs.World.{of_container, uncounted, fresh}
+use Rattle.world_model.specs.World.{of_container, uncounted, started_instance}
 use Rattle.world_host.specs.Servers.{starts_of, ends_of, ends_by}
 use Rattle.world_host.specs.View.{started}
 
-pub started_starts : (s n : ℕ) (actions : List Action) → started_by s n actions ≡ map (fresh s n) (starts_of actions)
+pub started_starts : (s n : ℕ) (actions : List Action)
+    → started_by s n actions ≡ map (started_instance s n) (starts_of actions)
 started_starts s n [] = refl
 started_starts s n (Send m ∷ rest) = started_starts s n rest
-started_starts s n (Start inc ∷ rest) = ap (λ xs. fresh s n inc ∷ xs) (started_starts s n rest)
+started_starts s n (Start inc ∷ rest) = ap (λ xs. started_instance s n inc ∷ xs) (started_starts s n rest)
 started_starts s n (End inc ∷ rest) = started_starts s n rest
 started_starts s n (Commit f ∷ rest) = started_starts s n rest
 

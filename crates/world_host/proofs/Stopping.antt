@@ -14,7 +14,7 @@ use Rattle.container_model.specs.Saves.{image, image_at}
 use Rattle.container_model.specs.declared.record.Frame.{Frame}
 use Rattle.world_model.specs.declared.logs.EventAnswer.TheVariants as told
 use Rattle.world_model.specs.declared.logs.File.{File}
-use Rattle.world_model.specs.World.{IsImageOf, World, put_file, quiet_outcome}
+use Rattle.world_model.specs.World.{HoldsDocument, World, put_file, quiet_outcome}
 use Rattle.world_model.specs.Story.{begun, has_image, is_among, made_name, may_stop, put_kept, rested}
 use Rattle.world_host.specs.declared.host.Host.{Host}
 use Rattle.world_host.specs.declared.stops.Left.{Left}
@@ -205,24 +205,24 @@ puts w fs images f (frame ∷ frames) (x ∷ xs) files same h =
     else files) (λ g le. same g (omega arith) ∙ image_behind f g x xs le) h.1
 
 own_image : (w : World) (fs : List ℕ) (f : ℕ) (frame : Frame) (x : Option File) → is_among fs f ≡ true
-    → IsMade w fs f frame x → IsImageOf w f (bytes_of x)
+    → IsMade w fs f frame x → HoldsDocument w f (bytes_of x)
 own_image w fs f frame None m is = absurd (cc)
 own_image w fs f frame (Some file) m is = is.2
 
 image_by : (w : World) (fs : List ℕ) (n : ℕ) (frame : Frame) (x : Option File) (xs : List (Option File)) (f : ℕ)
     → is_among fs f ≡ true → IsMade w fs n frame x → n ≤ f
-    → (n + 1 ≤ f → IsImageOf w f (image_from (n + 1) xs f)) → IsImageOf w f (image_from n (x ∷ xs) f)
+    → (n + 1 ≤ f → HoldsDocument w f (image_from (n + 1) xs f)) → HoldsDocument w f (image_from n (x ∷ xs) f)
 image_by w fs n frame x xs f m is low next = elim (eqb_tells n f) [
-  | inl same ↦ subst (λ g. IsImageOf w g (image_from n (x ∷ xs) g)) same.1
-      (subst (λ bytes. IsImageOf w n bytes) (sym (image_here n x xs))
+  | inl same ↦ subst (λ g. HoldsDocument w g (image_from n (x ∷ xs) g)) same.1
+      (subst (λ bytes. HoldsDocument w n bytes) (sym (image_here n x xs))
       (own_image w fs n frame x (subst (λ g. is_among fs g ≡ true) (sym same.1) m) is))
   | inr other ↦ (let apart = other.1 in let le : n + 1 ≤ f = omega arith in
-      subst (λ bytes. IsImageOf w f bytes) (sym (image_behind n f x xs le)) (next le))
+      subst (λ bytes. HoldsDocument w f bytes) (sym (image_behind n f x xs le)) (next le))
 ]
 
 images_are : (w : World) (fs : List ℕ) (n : ℕ) (frames : List Frame) (made : List (Option File)) (f : ℕ)
     → AreMade w fs n frames made → n ≤ f → f < n + length frames
-    → is_among fs f ≡ true → IsImageOf w f (image_from n made f)
+    → is_among fs f ≡ true → HoldsDocument w f (image_from n made f)
 images_are w fs n [] [] f h low high m = absurd (omega arith)
 images_are w fs n [] (x ∷ xs) f h low high m = absurd h
 images_are w fs n (frame ∷ frames) [] f h low high m = absurd h
@@ -232,7 +232,7 @@ images_are w fs n (frame ∷ frames) (x ∷ xs) f h low high m = image_by w fs n
 -- a frame that isn't there has no document
 image_at_any : (w : World) (fs : List ℕ) (made : List (Option File)) (f : ℕ) → AreMade w fs 1 w.rec.frames made
     → is_among fs f ≡ true
-    → (frame : Option Frame) → nth w.rec.frames f ≡ frame → IsImageOf w f (image_from 1 made f)
+    → (frame : Option Frame) → nth w.rec.frames f ≡ frame → HoldsDocument w f (image_from 1 made f)
 image_at_any w fs made f h m None none = λ saved e. absurd (no_image w.rec f saved none e)
 image_at_any w fs made f h m (Some frame) there =
     let bounds = within w.rec.frames f frame there in
@@ -243,7 +243,8 @@ image_at_any w fs made f h m (Some frame) there =
 -- what a stop leaves, put together from its parts
 pub rests : (w v after : World) (fs : List ℕ) (made : List (Option File)) → v ≡ w → AreMade w fs 1 w.rec.frames made
     → after ≡ record (begun v) { files = put_each made v.files; answers = v.answers ++ told.Took quiet_outcome ∷ [] }
-    → (images : ℕ → List ℕ) × ((f : ℕ) → is_among fs f ≡ true → IsImageOf w f (images f)) × (after ≡ rested w images fs)
+    → (images : ℕ → List ℕ) × ((f : ℕ) → is_among fs f ≡ true → HoldsDocument w f (images f))
+    × (after ≡ rested w images fs)
 rests w v after fs made same h e = (
   image_from 1 made,
   (λ f m. image_at_any w fs made f h m (nth w.rec.frames f) refl),

@@ -8,7 +8,7 @@ use Rattle.container_model.specs.declared.record.Frame.{Frame}
 use Rattle.world_model.specs.declared.event.Stop.{Stop}
 use Rattle.world_model.specs.declared.event.Stop.TheVariants.{NotEnabled, OutOfStock, EventLimit, NoMemory}
 use Rattle.world_model.specs.declared.logs.File.{File}
-use Rattle.world_model.specs.World.{IsImageOf, World, put_file}
+use Rattle.world_model.specs.World.{HoldsDocument, World, put_file}
 use Rattle.world_model.specs.Story.{has_image, is_among, made_name}
 use Rattle.world_host.specs.declared.host.Host.{Host}
 use Rattle.world_host.specs.declared.stops.Left.{Left}
@@ -31,7 +31,7 @@ made_names fs f (frame ∷ frames) = if is_among fs f then made_name frame ∷ m
 -- the file that is made of a frame, none where it isn't among these
 abbrev pub IsMade : World → List ℕ → ℕ → Frame → Option File → Type 0
 IsMade w fs f frame None = is_among fs f ≡ false
-IsMade w fs f frame (Some file) = (is_among fs f ≡ true) × (file.name ≡ made_name frame) × IsImageOf w f file.bytes
+IsMade w fs f frame (Some file) = (is_among fs f ≡ true) × (file.name ≡ made_name frame) × HoldsDocument w f file.bytes
 
 -- the same of all frames, by rising number, the first of them of number f
 abbrev pub AreMade : World → List ℕ → ℕ → List Frame → List (Option File) → Type 0

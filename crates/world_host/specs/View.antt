@@ -1,7 +1,7 @@
 -- The host of a container as a part of a world.
 use Rattle.std.specs.Prelude.{ℕ, List, [], map}
 use Rattle.world_host.specs.declared.host.Host.{Host}
-use Rattle.world_model.specs.World.{World, fresh}
+use Rattle.world_model.specs.World.{World, started_instance}
 
 -- a host as a world without servers and stock
 abbrev pub bare : Host → World
@@ -22,4 +22,4 @@ bare l = record {
 
 -- a world with new servers of these incarnations alone
 abbrev pub started : World → List ℕ → World
-started w starts = record w { instances = map (fresh w.rec.session w.rec.numbers) starts }
+started w starts = record w { instances = map (started_instance w.rec.session w.rec.numbers) starts }

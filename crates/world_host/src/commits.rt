@@ -10,7 +10,8 @@ ghost use Rattle.container_model.specs.Saves.{name_after};
 ghost use Rattle.container_model.specs.declared.record.Phase.TheVariants as phase;
 ghost use Rattle.ole_model.specs.DocOf.{DocOf};
 ghost use Rattle.cfb_file.specs.Denotes.{Denotes};
-ghost use Rattle.world_model.specs.World.{IsImage, Refuses, done, frame_file, is_file, kept_commit, limited, put_file};
+ghost use Rattle.world_model.specs.World.{MayChoose, StopsFor, done, frame_file, is_file, kept_commit, limited};
+ghost use Rattle.world_model.specs.World.{put_file};
 ghost use Rattle.world_model.specs.World.{making};
 ghost use Rattle.world_model.specs.declared.event.Event.TheVariants as event;
 ghost use Rattle.world_host.specs.Files.{IsFileAt, IsNoFile, is_committing_in};
@@ -214,13 +215,13 @@ impl Host {
     /// changes.
     pub fn done(&mut self, alloc: Global, f: u32, room: bool) -> Result<Servers, Stop>
         ensures room { OnOk result (room ≡ true) }
-        ensures taken { IfOk result (λ s. (bytes : List ℕ) × IsImage (bare self.old) (making bytes) (event.Done f)
+        ensures taken { IfOk result (λ s. (bytes : List ℕ) × MayChoose (bare self.old) (making bytes) (event.Done f)
             × (limited (bare self.old) (done (bare self.old) f bytes)
             ≡ Ok (started (bare self.new) s.starts.items))) }
         ensures ends { IfOk result (λ s. s.ends.items ≡ ends_in (commit_done self.old.core f)) }
         ensures few { IfOk result (λ s. vec_len s.starts ≤ most self.old.core) }
         ensures refused { IfErr result (λ stop. (bytes : List ℕ)
-            → Refuses (limited (bare self.old) (done (bare self.old) f bytes)) stop) }
+            → StopsFor (limited (bare self.old) (done (bare self.old) f bytes)) stop) }
         ensures kept { OnErr result (bare self.new ≡ bare self.old) }
     {
         if !self.is_committing(f) {

@@ -4,7 +4,7 @@ ghost use Rattle.std.specs.Prelude.{◌≡◌, ◌≤◌, IfErr, IfOk, List, Ok,
 ghost use Rattle.message_values.specs.Found.{nth};
 ghost use Rattle.container_model.specs.Saves as saves;
 ghost use Rattle.container_model.specs.Saves.{commit_failed, resolve};
-ghost use Rattle.world_model.specs.World.{IsImage, Refuses, limited, making, only_taken, resolved};
+ghost use Rattle.world_model.specs.World.{MayChoose, StopsFor, limited, making, only_taken, resolved};
 ghost use Rattle.world_model.specs.declared.event.Event.TheVariants as event;
 ghost use Rattle.world_host.specs.Files.{is_committing_in, is_doubtful_in};
 ghost use Rattle.world_host.specs.Rooms.{most};
@@ -117,7 +117,7 @@ impl Host {
         ensures ends { IfOk result (λ s. s.ends.items ≡ ends_in (commit_failed self.old.core f)) }
         ensures few { IfOk result (λ s. vec_len s.starts ≤ most self.old.core) }
         ensures refused { IfErr result
-            (Refuses (limited (bare self.old) (only_taken (bare self.old) (commit_failed self.old.core f)))) }
+            (StopsFor (limited (bare self.old) (only_taken (bare self.old) (commit_failed self.old.core f)))) }
         ensures kept { OnErr result (bare self.new ≡ bare self.old) }
     {
         if !self.is_committing(f) {
@@ -148,7 +148,7 @@ impl Host {
         ensures ends { IfOk result (λ s. s.ends.items ≡ ends_in (resolve self.old.core f false)) }
         ensures few { IfOk result (λ s. vec_len s.starts ≤ most self.old.core) }
         ensures refused { IfErr result
-            (Refuses (limited (bare self.old) (only_taken (bare self.old) (resolve self.old.core f false)))) }
+            (StopsFor (limited (bare self.old) (only_taken (bare self.old) (resolve self.old.core f false)))) }
         ensures kept { OnErr result (bare self.new ≡ bare self.old) }
     {
         if !self.is_doubtful(f) {
@@ -173,13 +173,13 @@ impl Host {
     /// changes.
     pub fn resolve_kept(&mut self, alloc: Global, f: u32, room: bool) -> Result<Servers, Stop>
         ensures room { OnOk result (room ≡ true) }
-        ensures taken { IfOk result (λ s. (bytes : List ℕ) × IsImage (bare self.old) (making bytes)
+        ensures taken { IfOk result (λ s. (bytes : List ℕ) × MayChoose (bare self.old) (making bytes)
             (event.Resolve f true) × (limited (bare self.old) (resolved (bare self.old) f true bytes)
             ≡ Ok (started (bare self.new) s.starts.items))) }
         ensures ends { IfOk result (λ s. s.ends.items ≡ ends_in (resolve self.old.core f true)) }
         ensures few { IfOk result (λ s. vec_len s.starts ≤ most self.old.core) }
         ensures refused { IfErr result (λ stop. (bytes : List ℕ)
-            → Refuses (limited (bare self.old) (resolved (bare self.old) f true bytes)) stop) }
+            → StopsFor (limited (bare self.old) (resolved (bare self.old) f true bytes)) stop) }
         ensures kept { OnErr result (bare self.new ≡ bare self.old) }
     {
         if !self.is_doubtful(f) {

@@ -3,7 +3,7 @@
 ghost use Rattle.std.specs.Prelude.{◌≡◌, ◌≤◌, [], IfOk, OnErr, option_copied, vec_len};
 ghost use Rattle.message_values.specs.Found.{find};
 ghost use Rattle.container_model.specs.Opens.{Given, opened};
-ghost use Rattle.world_model.specs.World.{IsImage, file_bytes, giving, is_file, took};
+ghost use Rattle.world_model.specs.World.{MayChoose, file_bytes, giving, is_file, took};
 ghost use Rattle.world_model.specs.declared.event.Event.TheVariants as event;
 ghost use Rattle.world_host.specs.Rooms.{most};
 ghost use Rattle.world_host.specs.View.{bare, started};
@@ -37,7 +37,7 @@ impl Host {
         width: u16,
         height: u16,
     ) -> Result<Servers, AllocError>
-        ensures taken { IfOk result (λ s. (given : Given) × IsImage (bare self.old) (giving given)
+        ensures taken { IfOk result (λ s. (given : Given) × MayChoose (bare self.old) (giving given)
             (event.Open name.now width height)
             × (took (bare self.old) (opened self.old.core name.now width height given)
             ≡ started (bare self.new) s.starts.items)) }

@@ -6,7 +6,7 @@ ghost use Rattle.std.specs.Prelude.{nat_le, true, vec_capacity, vec_len, ℕ};
 ghost use Rattle.message_values.specs.Found.{nth};
 ghost use Rattle.container_model.specs.Record.{empty};
 ghost use Rattle.container_model.specs.Saves.{image};
-ghost use Rattle.world_model.specs.World.{IsImageOf, MOST_EVENTS, quiet_outcome};
+ghost use Rattle.world_model.specs.World.{HoldsDocument, MOST_EVENTS, quiet_outcome};
 ghost use Rattle.world_model.specs.declared.logs.EventAnswer.TheVariants as told;
 ghost use Rattle.world_model.specs.Story.{begun, has_image, is_among, may_stop, rested};
 ghost use Rattle.world_host.specs.Stops.{AreMade, IsLeft, IsMade, MayGive, are_there, lacks_image, made_names, named};
@@ -266,7 +266,7 @@ impl Host {
         requires few { length self.old.core.frames ≤ 1000000 }
         requires fresh { core ≡ empty self.old.core.numbers }
         ensures stopped { OnOk result ((images : ℕ → List ℕ)
-            × ((f : ℕ) → is_among frames.now f ≡ true → IsImageOf (bare self.old) f (images f))
+            × ((f : ℕ) → is_among frames.now f ≡ true → HoldsDocument (bare self.old) f (images f))
             × (bare self.new ≡ rested (bare self.old) images frames.now)) }
         ensures left { IfOk result (IsLeft self.old (made_names frames.now 1 self.old.core.frames)) }
         ensures kept { OnErr result (bare self.new ≡ bare self.old) }
@@ -293,7 +293,7 @@ impl Host {
         requires fresh { core ≡ empty self.old.core.numbers }
         ensures room { OnOk result (room ≡ true) }
         ensures stopped { OnOk result ((images : ℕ → List ℕ)
-            × ((f : ℕ) → is_among frames.now f ≡ true → IsImageOf (bare self.old) f (images f))
+            × ((f : ℕ) → is_among frames.now f ≡ true → HoldsDocument (bare self.old) f (images f))
             × (bare self.new ≡ rested (bare self.old) images frames.now)) }
         ensures left { IfOk result (IsLeft self.old (made_names frames.now 1 self.old.core.frames)) }
         ensures may { MayGive (may_stop self.old.core frames.now)

@@ -3,24 +3,26 @@ use Rattle.std.proofs.Common.{refl}
 use Rattle.std.specs.Fmt.{digits}
 use Rattle.server_model.specs.Pictures.{picture_of}
 use Rattle.world_model.specs.Report.{frame_line, object_line, done_line, session_line}
-use Rattle.world_model.specs.Runs.{IsSaved, IsLost, IsKept, IsResolved, IsRepeated, IsReloaded, IsMisedited, IsLimited}
-use Rattle.world_model.specs.Runs.{IsDeleted, IsWritten, IsClosed, IsRaised, IsSpelled, HasFile, IsWorked}
+use Rattle.world_model.specs.Runs.{WorkedSave, WorkedEarlyCrash, WorkedLateCrash, WorkedDoubt, WorkedRepeats}
+use Rattle.world_model.specs.Runs.{WorkedReload, WorkedBadEdit, WorkedLimits}
+use Rattle.world_model.specs.Runs.{WorkedDelete, WorkedWrites, WorkedClose, WorkedSession, WorkedSpelling, WorkedFile}
+use Rattle.world_model.specs.Runs.{WorkedRuns}
 
-pub is_saved : IsSaved
+pub worked_save : WorkedSave
 unfolding digits frame_line object_line done_line session_line picture_of
-is_saved = record { answers = refl; told = refl }
+worked_save = record { answers = refl; told = refl }
 
-pub is_lost : IsLost
+pub worked_early_crash : WorkedEarlyCrash
 unfolding digits frame_line object_line done_line session_line picture_of
-is_lost = record { answers = refl; told = refl }
+worked_early_crash = record { answers = refl; told = refl }
 
-pub is_kept : IsKept
+pub worked_late_crash : WorkedLateCrash
 unfolding digits frame_line object_line done_line session_line picture_of
-is_kept = record { answers = refl; told = refl }
+worked_late_crash = record { answers = refl; told = refl }
 
-pub is_resolved : IsResolved
+pub worked_doubt : WorkedDoubt
 unfolding digits frame_line object_line done_line session_line picture_of
-is_resolved = record {
+worked_doubt = record {
   kept_answers = refl;
   kept_told = refl;
   lost_answers = refl;
@@ -31,20 +33,20 @@ is_resolved = record {
   not_done = refl;
 }
 
-pub is_repeated : IsRepeated
+pub worked_repeats : WorkedRepeats
 unfolding picture_of
-is_repeated = record { answers = refl; told = refl }
+worked_repeats = record { answers = refl; told = refl }
 
-pub is_reloaded : IsReloaded
+pub worked_reload : WorkedReload
 unfolding digits frame_line object_line done_line session_line picture_of
-is_reloaded = record { answers = refl; told = refl; out_of_stock = refl }
+worked_reload = record { answers = refl; told = refl; out_of_stock = refl }
 
-pub is_misedited : IsMisedited
+pub worked_bad_edit : WorkedBadEdit
 unfolding digits frame_line object_line done_line session_line picture_of
-is_misedited = record { answers = refl; told = refl }
+worked_bad_edit = record { answers = refl; told = refl }
 
-pub is_limited : IsLimited
-is_limited = record {
+pub worked_limits : WorkedLimits
+worked_limits = record {
   frames = refl;
   objects = refl;
   servers = refl;
@@ -53,21 +55,21 @@ is_limited = record {
   undelivered = refl;
 }
 
-pub is_deleted : IsDeleted
+pub worked_delete : WorkedDelete
 unfolding digits frame_line object_line done_line session_line picture_of
-is_deleted = record { answers = refl; told = refl }
+worked_delete = record { answers = refl; told = refl }
 
-pub is_written : IsWritten
+pub worked_writes : WorkedWrites
 unfolding digits frame_line object_line done_line session_line picture_of
-is_written = record { answers = refl; told = refl }
+worked_writes = record { answers = refl; told = refl }
 
-pub is_closed : IsClosed
+pub worked_close : WorkedClose
 unfolding digits frame_line object_line done_line session_line picture_of
-is_closed = record { answers = refl; told = refl }
+worked_close = record { answers = refl; told = refl }
 
-pub is_raised : IsRaised
+pub worked_session : WorkedSession
 unfolding digits frame_line session_line picture_of
-is_raised = record {
+worked_session = record {
   answers = refl;
   told = refl;
   kept_answers = refl;
@@ -78,27 +80,27 @@ is_raised = record {
   spent_told = refl;
 }
 
-pub is_spelled : IsSpelled
+pub worked_spelling : WorkedSpelling
 unfolding digits frame_line
-is_spelled = record { in_doubt = refl; streams = refl; empty = refl }
+worked_spelling = record { in_doubt = refl; streams = refl; empty = refl }
 
-pub has_file : HasFile
-has_file = record { stored = refl; in_doubt = refl }
+pub worked_file : WorkedFile
+worked_file = record { stored = refl; in_doubt = refl }
 
-pub is_worked : IsWorked
-is_worked = record {
-  is_saved = is_saved;
-  is_lost = is_lost;
-  is_kept = is_kept;
-  is_resolved = is_resolved;
-  is_repeated = is_repeated;
-  is_reloaded = is_reloaded;
-  is_misedited = is_misedited;
-  is_limited = is_limited;
-  is_deleted = is_deleted;
-  is_written = is_written;
-  is_closed = is_closed;
-  is_raised = is_raised;
-  is_spelled = is_spelled;
-  has_file = has_file;
+pub worked_runs : WorkedRuns
+worked_runs = record {
+  save = worked_save;
+  early_crash = worked_early_crash;
+  late_crash = worked_late_crash;
+  doubt = worked_doubt;
+  repeats = worked_repeats;
+  reload = worked_reload;
+  bad_edit = worked_bad_edit;
+  limits = worked_limits;
+  delete = worked_delete;
+  writes = worked_writes;
+  close = worked_close;
+  session = worked_session;
+  spelling = worked_spelling;
+  file = worked_file;
 }

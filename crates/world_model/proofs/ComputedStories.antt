@@ -4,23 +4,23 @@ use Rattle.std.specs.Fmt.{digits}
 use Rattle.uuid.specs.Text.{by_index}
 use Rattle.server_model.specs.Pictures.{picture_of}
 use Rattle.world_model.specs.Report.{frame_line, object_line, done_line, session_line}
-use Rattle.world_model.specs.StopRuns.{AreStopped, IsKeptByStop, IsLostByStop, IsRaisedAgain}
+use Rattle.world_model.specs.StopRuns.{WorkedKeptStop, WorkedLostStop, WorkedRaisingStop, WorkedStops}
 
-pub is_kept_by_stop : IsKeptByStop
+pub worked_kept_stop : WorkedKeptStop
 unfolding digits by_index frame_line object_line done_line session_line picture_of
-is_kept_by_stop = record { answers = refl; told = refl }
+worked_kept_stop = record { answers = refl; told = refl }
 
-pub is_lost_by_stop : IsLostByStop
+pub worked_lost_stop : WorkedLostStop
 unfolding digits by_index frame_line object_line done_line session_line picture_of
-is_lost_by_stop = record { told = refl; none_made = refl; none_opened = refl; goes_on = refl }
+worked_lost_stop = record { told = refl; none_made = refl; none_opened = refl; goes_on = refl }
 
-pub is_raised_again : IsRaisedAgain
+pub worked_raising_stop : WorkedRaisingStop
 unfolding digits by_index frame_line object_line done_line session_line picture_of
-is_raised_again = record { kept = refl; lost = refl; unasked = refl }
+worked_raising_stop = record { kept = refl; lost = refl; unasked = refl }
 
-pub are_stopped : AreStopped
-are_stopped = record {
-  is_kept_by_stop = is_kept_by_stop;
-  is_lost_by_stop = is_lost_by_stop;
-  is_raised_again = is_raised_again;
+pub worked_stops : WorkedStops
+worked_stops = record {
+  kept_stop = worked_kept_stop;
+  lost_stop = worked_lost_stop;
+  raising_stop = worked_raising_stop;
 }

@@ -21,9 +21,9 @@ use Rattle.container_model.specs.declared.fault.ContainerFault.{ContainerFault}
 use Rattle.container_model.specs.declared.record.Frame.{Frame}
 use Rattle.world_model.specs.World.{World, Instance, took, commanded, served, stocked, called_wanting, called_in}
 use Rattle.world_model.specs.World.{called, delivered, taken_at, with_taken, deliver, forged, forge, spoken_by, spoken}
-use Rattle.world_model.specs.World.{scribble, ask, crashed, crash, ended, reap, done_taken, done_imaged, done_in}
+use Rattle.world_model.specs.World.{scribble, ask, crashed, crash, ended, reap}
 use Rattle.world_model.specs.World.{only_taken, resolved, happened, limited, Run, MOST_EVENTS, is_of, Choice}
-use Rattle.world_model.specs.World.{in_session, delivered_said, link_of, link_to, in_run}
+use Rattle.world_model.specs.World.{in_session, delivered_said, link_of, link_to, in_run, done_with}
 use Rattle.world_model.specs.declared.event.Event.{Event}
 use Rattle.world_model.specs.declared.event.Event.TheVariants as event
 use Rattle.world_model.specs.declared.event.Stop.{Stop}
@@ -149,27 +149,20 @@ reap-taken : (w : World) (inc : ℕ) (i : Option Instance) → IfTaken w (reap w
 reap-taken w inc None = tt
 reap-taken w inc (Some i) = ended-taken w inc i i.life
 
-done_taken-taken : (w : World) (f : ℕ) (bytes : List ℕ) (frame : Frame) (saved : FrameDocument)
-    (r : Result Took ContainerFault) → IfTaken w (done_taken w f bytes frame saved r)
-done_taken-taken w f bytes frame saved (Err fault) = tt
-done_taken-taken w f bytes frame saved (Ok t) = more w.answers _
-
-done_imaged-taken : (w : World) (f : ℕ) (bytes : List ℕ) (frame : Frame) (counted : Result Took ContainerFault)
-    (r : Result FrameDocument ContainerFault) → IfTaken w (done_imaged w f bytes frame counted r)
-done_imaged-taken w f bytes frame counted (Err fault) = tt
-done_imaged-taken w f bytes frame counted (Ok saved) = done_taken-taken w f bytes frame saved counted
-
-done_in-taken : (w : World) (f : ℕ) (bytes : List ℕ) (counted : Result Took ContainerFault) (frame : Option Frame)
-    → IfTaken w (done_in w f bytes counted frame)
-done_in-taken w f bytes counted None = tt
-done_in-taken w f bytes counted (Some frame) = done_imaged-taken w f bytes frame counted (image w.rec f)
+done_with-taken : (w : World) (f : ℕ) (bytes : List ℕ) (frame : Option Frame)
+    (saved : Result FrameDocument ContainerFault) (r : Result Took ContainerFault)
+    → IfTaken w (done_with w f bytes frame saved r)
+done_with-taken w f bytes None saved r = tt
+done_with-taken w f bytes (Some frame) (Err fault) r = tt
+done_with-taken w f bytes (Some frame) (Ok saved) (Err fault) = tt
+done_with-taken w f bytes (Some frame) (Ok saved) (Ok t) = more w.answers _
 
 only_taken-taken : (w : World) (r : Result Took ContainerFault) → IfTaken w (only_taken w r)
 only_taken-taken w (Err fault) = tt
 only_taken-taken w (Ok t) = more w.answers _
 
 resolved-taken : (w : World) (f : ℕ) (is_kept : Bool) (bytes : List ℕ) → IfTaken w (resolved w f is_kept bytes)
-resolved-taken w f true bytes = done_in-taken w f bytes (resolve w.rec f true) (nth w.rec.frames f)
+resolved-taken w f true bytes = done_with-taken w f bytes (nth w.rec.frames f) (image w.rec f) (resolve w.rec f true)
 resolved-taken w f false bytes = only_taken-taken w (resolve w.rec f false)
 
 run-taken : (w : World) (s : ℕ) (r : Result World Stop) → IfTaken w r → IfTaken w (in_run w s r)
@@ -186,7 +179,8 @@ happened-taken w choice (event.Forge inc m) = forge-taken w inc m (nth w.instanc
 happened-taken w choice (event.Crash s inc) = run-taken w s (crash w inc (nth w.instances inc))
     (crash-taken w inc (nth w.instances inc))
 happened-taken w choice (event.Reap inc) = reap-taken w inc (nth w.instances inc)
-happened-taken w choice (event.Done f) = done_in-taken w f choice.file (commit_done w.rec f) (nth w.rec.frames f)
+happened-taken w choice (event.Done f) = done_with-taken w f choice.file (nth w.rec.frames f) (image w.rec f)
+    (commit_done w.rec f)
 happened-taken w choice (event.Fail f) = only_taken-taken w (commit_failed w.rec f)
 happened-taken w choice (event.Resolve f is_kept) = resolved-taken w f is_kept choice.file
 happened-taken w choice (event.Open name width height) = took-more w (opened w.rec name width height choice.given)

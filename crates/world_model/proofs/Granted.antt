@@ -3,23 +3,28 @@ use Rattle.std.proofs.Common.{refl}
 use Rattle.std.specs.Fmt.{digits}
 use Rattle.server_model.specs.Pictures.{picture_of}
 use Rattle.world_model.specs.Report.{frame_line, object_line, done_line, hold_line, session_line}
-use Rattle.world_model.specs.GrantRuns.{IsInTurn, IsFreed, IsOffered, IsClosed, IsGranted}
+use Rattle.world_model.specs.GrantRuns.{WorkedTurns, WorkedFreeing, WorkedOffer, WorkedHeldClose, WorkedGrants}
 
-pub is_in_turn : IsInTurn
+pub worked_turns : WorkedTurns
 unfolding digits frame_line object_line done_line hold_line session_line picture_of
-is_in_turn = record { answers = refl; told = refl }
+worked_turns = record { answers = refl; told = refl }
 
-pub is_freed : IsFreed
+pub worked_freeing : WorkedFreeing
 unfolding digits frame_line object_line done_line hold_line session_line picture_of
-is_freed = record { answers = refl; crashed = refl; told = refl }
+worked_freeing = record { answers = refl; crashed = refl; told = refl }
 
-pub is_offered : IsOffered
+pub worked_offer : WorkedOffer
 unfolding digits frame_line object_line done_line hold_line session_line picture_of
-is_offered = record { answers = refl; held = refl; wide = refl }
+worked_offer = record { answers = refl; held = refl; wide = refl }
 
-pub is_closed : IsClosed
+pub worked_held_close : WorkedHeldClose
 unfolding digits frame_line object_line done_line hold_line session_line picture_of
-is_closed = record { answers = refl; told = refl }
+worked_held_close = record { answers = refl; told = refl }
 
-pub is_granted : IsGranted
-is_granted = record { is_in_turn = is_in_turn; is_freed = is_freed; is_offered = is_offered; is_closed = is_closed }
+pub worked_grants : WorkedGrants
+worked_grants = record {
+  turns = worked_turns;
+  freeing = worked_freeing;
+  offer = worked_offer;
+  held_close = worked_held_close;
+}

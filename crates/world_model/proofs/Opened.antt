@@ -4,15 +4,15 @@ use Rattle.std.specs.Fmt.{digits}
 use Rattle.uuid.specs.Text.{by_index}
 use Rattle.server_model.specs.Pictures.{picture_of}
 use Rattle.world_model.specs.Report.{frame_line, object_line, done_line, session_line}
-use Rattle.world_model.specs.OpenRuns.{IsOpened, IsOpenedBeside, IsRaisedFurther, IsUnopened}
+use Rattle.world_model.specs.OpenRuns.{WorkedFirstOpen, WorkedOpenBeside, WorkedOpens, WorkedRefusedOpens}
 
-pub is_opened_beside : IsOpenedBeside
+pub worked_open_beside : WorkedOpenBeside
 unfolding digits by_index frame_line object_line done_line session_line picture_of
-is_opened_beside = record { answers = refl; session = refl; told = refl; run = refl; run_told = refl }
+worked_open_beside = record { answers = refl; session = refl; told = refl; run = refl; run_told = refl }
 
-pub is_unopened : IsUnopened
+pub worked_refused_opens : WorkedRefusedOpens
 unfolding picture_of
-is_unopened = record {
+worked_refused_opens = record {
   borne = refl;
   no_size = refl;
   missing = refl;
@@ -23,13 +23,13 @@ is_unopened = record {
   three_objects = refl;
 }
 
-pub is_raised_further : IsRaisedFurther
+pub worked_first_open : WorkedFirstOpen
 unfolding digits by_index frame_line object_line done_line session_line picture_of
-is_raised_further = record { session = refl; told = refl; spent = refl }
+worked_first_open = record { session = refl; told = refl; spent = refl }
 
-pub is_opened : IsOpened
-is_opened = record {
-  is_opened_beside = is_opened_beside;
-  is_unopened = is_unopened;
-  is_raised_further = is_raised_further;
+pub worked_opens : WorkedOpens
+worked_opens = record {
+  open_beside = worked_open_beside;
+  refused_opens = worked_refused_opens;
+  first_open = worked_first_open;
 }

@@ -7,12 +7,13 @@ use Rattle.container_model.specs.declared.fault.ContainerFault.TheVariants.{Busy
 use Rattle.world_model.specs.declared.logs.EventAnswer.TheVariants.{Refused}
 use Rattle.world_model.specs.OpenRuns.{stored_note}
 use Rattle.world_model.specs.Report.{frame_line, object_line, done_line, session_line}
-use Rattle.world_model.specs.RenameRuns.{AreRenamed, IsNamed, IsRenamed, IsRenamedPassive, IsReopened, IsUnrenamed}
+use Rattle.world_model.specs.RenameRuns.{WorkedLostRename, WorkedNames, WorkedPassiveRename, WorkedRename}
+use Rattle.world_model.specs.RenameRuns.{WorkedRenames, WorkedReopen}
 use Rattle.world_model.specs.RenameRuns.{opened_again, opened_as, renamed_answers}
 
-pub is_renamed : IsRenamed
+pub worked_rename : WorkedRename
 unfolding digits frame_line object_line done_line session_line picture_of
-is_renamed = record { answers = refl; told = refl; away = refl }
+worked_rename = record { answers = refl; told = refl; away = refl }
 
 borne : opened_as (codes "b") Given.Missing ≡ renamed_answers ++ Refused Busy ∷ []
 unfolding picture_of
@@ -27,27 +28,27 @@ missing : opened_as (codes "c") Given.Missing ≡ renamed_answers ++ Refused NoS
 unfolding picture_of
 missing = refl
 
-pub is_reopened : IsReopened
+pub worked_reopen : WorkedReopen
 unfolding picture_of
-is_reopened = record { borne = borne; old = old; missing = missing; undelivered = refl }
+worked_reopen = record { borne = borne; old = old; missing = missing; undelivered = refl }
 
-pub is_renamed_passive : IsRenamedPassive
+pub worked_passive_rename : WorkedPassiveRename
 unfolding digits frame_line object_line done_line session_line picture_of
-is_renamed_passive = record { answers = refl; told = refl; passive_answers = refl; passive_told = refl }
+worked_passive_rename = record { answers = refl; told = refl; passive_answers = refl; passive_told = refl }
 
-pub is_unrenamed : IsUnrenamed
+pub worked_lost_rename : WorkedLostRename
 unfolding digits frame_line object_line done_line session_line picture_of
-is_unrenamed = record { answers = refl; told = refl }
+worked_lost_rename = record { answers = refl; told = refl }
 
-pub is_named : IsNamed
+pub worked_names : WorkedNames
 unfolding picture_of
-is_named = record { busy = refl; asked = refl }
+worked_names = record { busy = refl; asked = refl }
 
-pub are_renamed : AreRenamed
-are_renamed = record {
-  is_renamed = is_renamed;
-  is_reopened = is_reopened;
-  is_renamed_passive = is_renamed_passive;
-  is_unrenamed = is_unrenamed;
-  is_named = is_named;
+pub worked_renames : WorkedRenames
+worked_renames = record {
+  rename = worked_rename;
+  reopen = worked_reopen;
+  passive_rename = worked_passive_rename;
+  lost_rename = worked_lost_rename;
+  names = worked_names;
 }

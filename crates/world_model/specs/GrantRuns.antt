@@ -17,8 +17,8 @@ use Rattle.world_model.specs.World.{World, empty_world, quiet_outcome}
 use Rattle.world_model.specs.Runs.{answered, begun, begun_answers, commit, edited, frame, lines, new_note, object, ok}
 use Rattle.world_model.specs.Runs.{ran, reported, sent, server, taken}
 
-abbrev pub stocked : List Event → Result World Stop
-stocked es = ran (Ok (empty_world 1000 (Note ∷ Table ∷ Drawing ∷ Note ∷ []))) es
+abbrev pub from_stock : List Event → Result World Stop
+from_stock es = ran (Ok (empty_world 1000 (Note ∷ Table ∷ Drawing ∷ Note ∷ []))) es
 
 abbrev pub two_sent : ℕ → ℕ → EventAnswer
 two_sent p q = Took (record quiet_outcome { sent = p ∷ q ∷ [] })
@@ -52,11 +52,11 @@ abbrev pub table_held : List Event
 table_held = note_held ++ activating 2 ∷ Deliver 10 ∷ Deliver 11 ∷ activating 1 ∷ Deliver 9 ∷ Deliver 12
     ∷ Deliver 12 ∷ Deliver 9 ∷ Deliver 14 ∷ Deliver 13 ∷ Deliver 15 ∷ []
 
-pub record IsInTurn : Type 0 where
-  pub answers : answered (stocked table_held) ≡ begun_answers ++ object 1 ∷ object 2 ∷ server 1 ∷ sent 1 ∷ sent 2
+pub record WorkedTurns : Type 0 where
+  pub answers : answered (from_stock table_held) ≡ begun_answers ++ object 1 ∷ object 2 ∷ server 1 ∷ sent 1 ∷ sent 2
       ∷ ok ∷ sent 3 ∷ sent 4 ∷ ok ∷ sent 5 ∷ sent 6 ∷ sent 7 ∷ sent 8 ∷ ok ∷ two_sent 9 10 ∷ sent 11 ∷ ok
       ∷ Refused Busy ∷ sent 12 ∷ sent 13 ∷ Refused Stale ∷ sent 14 ∷ Refused Stale ∷ sent 15 ∷ ok ∷ []
-  pub told : reported (stocked table_held) ≡ lines (
+  pub told : reported (from_stock table_held) ≡ lines (
       codes "session 1"
       ∷ codes "frame 1 a Held 2 k 1 stored"
       ∷ codes "object 1 frame 1 Note InPlaceActive Normal act 1 s 1 -"
@@ -72,16 +72,16 @@ held_lost = edited ++ Scribble 1 1 1 ∷ Deliver 5 ∷ Command (Edit 1 (codes "i
 abbrev pub held_again : List Event
 held_again = held_lost ++ Reap 1 ∷ Command Start ∷ Command (Run 1 2) ∷ Deliver 13 ∷ Deliver 14 ∷ Deliver 12 ∷ []
 
-pub record IsFreed : Type 0 where
-  pub answers : answered (stocked held_again) ≡ answered (stocked edited) ++ sent 5 ∷ taken ∷ sent 6 ∷ sent 7 ∷ ok
+pub record WorkedFreeing : Type 0 where
+  pub answers : answered (from_stock held_again) ≡ answered (from_stock edited) ++ sent 5 ∷ taken ∷ sent 6 ∷ sent 7 ∷ ok
       ∷ sent 8 ∷ taken ∷ sent 9 ∷ sent 10 ∷ sent 11 ∷ sent 12 ∷ ok ∷ ok ∷ ok ∷ server 2 ∷ sent 13 ∷ sent 14 ∷ ok
       ∷ Refused Stale ∷ []
-  pub crashed : reported (stocked held_lost) ≡ lines (
+  pub crashed : reported (from_stock held_lost) ≡ lines (
       codes "session 1"
       ∷ codes "frame 1 a Held 1 k 1 stored"
       ∷ codes "object 1 frame 1 Note UiActive Normal act 1 s 1 Text=616263"
       ∷ [])
-  pub told : reported (stocked held_again) ≡ lines (
+  pub told : reported (from_stock held_again) ≡ lines (
       codes "session 1"
       ∷ codes "frame 1 a Free k 1 stored"
       ∷ codes "object 1 frame 1 Note Running Normal act 2 s 1 Text=616263"
@@ -97,16 +97,16 @@ drawn_in w = Command (New (codes "a") w 10) ∷ Command Session ∷ Done 1
 abbrev pub offered : List Event
 offered = drawn_in 3 ++ Ask 1 1 1 ∷ Deliver 7 ∷ Deliver 8 ∷ Deliver 9 ∷ Deliver 7 ∷ Ask 1 1 1 ∷ []
 
-pub record IsOffered : Type 0 where
-  pub answers : answered (stocked offered) ≡ begun_answers ++ object 1 ∷ server 1 ∷ sent 1 ∷ sent 2 ∷ ok ∷ sent 3
+pub record WorkedOffer : Type 0 where
+  pub answers : answered (from_stock offered) ≡ begun_answers ++ object 1 ∷ server 1 ∷ sent 1 ∷ sent 2 ∷ ok ∷ sent 3
       ∷ sent 4 ∷ sent 5 ∷ sent 6 ∷ no_tools ∷ sent 7 ∷ sent 8 ∷ sent 9 ∷ ok ∷ Refused Stale ∷ Dropped Ignored ∷ []
-  pub held : reported (stocked (drawn_in 3)) ≡ lines (
+  pub held : reported (from_stock (drawn_in 3)) ≡ lines (
       codes "session 1"
       ∷ codes "frame 1 a Held 1 k 1 stored"
       ∷ codes "object 1 frame 1 Drawing UiActive Normal act 1 s 1 -"
       ∷ codes "holds server 1 act 1 grant 1"
       ∷ [])
-  pub wide : answered (stocked (drawn_in 4)) ≡ begun_answers ++ object 1 ∷ server 1 ∷ sent 1 ∷ sent 2 ∷ ok ∷ sent 3
+  pub wide : answered (from_stock (drawn_in 4)) ≡ begun_answers ++ object 1 ∷ server 1 ∷ sent 1 ∷ sent 2 ∷ ok ∷ sent 3
       ∷ sent 4 ∷ sent 5 ∷ sent 6 ∷ ok ∷ []
 
 -- A save of a note that holds the frame; then it is closed: it gives the frame up, is hidden, and ends. Verbs that it
@@ -119,12 +119,12 @@ held_closed = note_held ++ activating 1 ∷ Command (Verb 1 (pos 7)) ∷ opening
     ∷ Command (Close 1 NoSave) ∷ Deliver 19 ∷ Deliver 20 ∷ Deliver 21 ∷ Deliver 22 ∷ Deliver 23 ∷ Deliver 24
     ∷ hiding 1 ∷ []
 
-pub record IsClosed : Type 0 where
-  pub answers : answered (stocked held_closed) ≡ answered (stocked note_held) ++ ok ∷ Refused WrongState ∷ sent 9
+pub record WorkedHeldClose : Type 0 where
+  pub answers : answered (from_stock held_closed) ≡ answered (from_stock note_held) ++ ok ∷ Refused WrongState ∷ sent 9
       ∷ sent 10 ∷ ok ∷ ok ∷ Refused WrongState
       ∷ two_sent 11 12 ∷ sent 13 ∷ sent 14 ∷ ok ∷ commit 1 ∷ two_sent 15 16 ∷ sent 17 ∷ sent 18 ∷ ok ∷ ok
       ∷ sent 19 ∷ sent 20 ∷ sent 21 ∷ sent 22 ∷ sent 23 ∷ sent 24 ∷ ok ∷ Refused NotRunning ∷ []
-  pub told : reported (stocked held_closed) ≡ lines (
+  pub told : reported (from_stock held_closed) ≡ lines (
       codes "session 1"
       ∷ codes "frame 1 a Free k 2 stored"
       ∷ codes "object 1 frame 1 Note Passive Text="
@@ -135,8 +135,8 @@ pub record IsClosed : Type 0 where
       ∷ codes "done server 2 2"
       ∷ [])
 
-pub record IsGranted : Type 0 where
-  pub is_in_turn : IsInTurn
-  pub is_freed : IsFreed
-  pub is_offered : IsOffered
-  pub is_closed : IsClosed
+pub record WorkedGrants : Type 0 where
+  pub turns : WorkedTurns
+  pub freeing : WorkedFreeing
+  pub offer : WorkedOffer
+  pub held_close : WorkedHeldClose

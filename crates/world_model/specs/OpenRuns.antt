@@ -58,7 +58,7 @@ sessions (Ok w) = map (λ (f : Frame). f.session) w.rec.frames
 abbrev pub opened_answer : EventAnswer
 opened_answer = Took (record quiet_outcome { frame = Some 2; objects = 2 ∷ 3 ∷ [] })
 
-pub record IsOpenedBeside : Type 0 where
+pub record WorkedOpenBeside : Type 0 where
   pub answers : answered opened_beside ≡ answered (from_two edited) ++ opened_answer ∷ []
   pub session : sessions opened_beside ≡ 1 ∷ 7 ∷ []
   pub told : reported opened_beside ≡ lines (
@@ -90,7 +90,7 @@ refused_with answers told = answers ≡ answered (from_two edited) ++ told ∷ [
 abbrev pub opened_as : List ℕ → ℕ → Given → List EventAnswer
 opened_as name width given = answered (opens name width 10 given (from_two edited))
 
-pub record IsUnopened : Type 0 where
+pub record WorkedRefusedOpens : Type 0 where
   pub borne : refused_with (opened_as (codes "a") 0 Given.Missing) (Refused Busy)
   pub no_size : refused_with (opened_as (codes "b") 0 Given.Missing) (Refused WrongState)
   pub missing : refused_with (opened_as (codes "b") 40 Given.Missing) (Refused NoSuch)
@@ -114,7 +114,7 @@ opened_first numbers = opens (codes "b") 40 10 both (numbered numbers [])
 abbrev pub raised : Result World Stop
 raised = ran (opened_first 8) (Command Session ∷ Done 1 ∷ [])
 
-pub record IsRaisedFurther : Type 0 where
+pub record WorkedFirstOpen : Type 0 where
   pub session : sessions raised ≡ 8 ∷ []
   pub told : reported raised ≡ lines (
       codes "session 8"
@@ -127,7 +127,7 @@ pub record IsRaisedFurther : Type 0 where
   pub spent : answered (ran (opened_first 7) (Command Session ∷ [])) ≡ answered (opened_first 7)
       ++ Refused NumbersSpent ∷ []
 
-pub record IsOpened : Type 0 where
-  pub is_opened_beside : IsOpenedBeside
-  pub is_unopened : IsUnopened
-  pub is_raised_further : IsRaisedFurther
+pub record WorkedOpens : Type 0 where
+  pub open_beside : WorkedOpenBeside
+  pub refused_opens : WorkedRefusedOpens
+  pub first_open : WorkedFirstOpen

@@ -36,7 +36,7 @@ renamed_answers = begun_answers ++ object 1 ∷ server 1 ∷ sent 1 ∷ sent 2 �
     ∷ sent 6 ∷ commit 1 ∷ sent 7 ∷ sent 8 ∷ ok ∷ sent 9 ∷ sent 10 ∷ sent 11 ∷ sent 12 ∷ commit 1 ∷ sent 13 ∷ sent 14
     ∷ ok ∷ []
 
-pub record IsRenamed : Type 0 where
+pub record WorkedRename : Type 0 where
   pub answers : answered (from_start renamed) ≡ renamed_answers
   pub told : reported (from_start renamed) ≡ lines (
       codes "session 1"
@@ -59,7 +59,7 @@ pub record IsRenamed : Type 0 where
 abbrev pub opened_as : List ℕ → Given → List EventAnswer
 opened_as name given = answered (opens name 40 10 given (from_start renamed))
 
-pub record IsReopened : Type 0 where
+pub record WorkedReopen : Type 0 where
   pub borne : opened_as (codes "b") Given.Missing ≡ renamed_answers ++ Refused Busy ∷ []
   pub old : opened_as (codes "a") (Given.Holding (record { session = 0; objects = stored_note ∷ [] }))
       ≡ renamed_answers ++ opened_again ∷ []
@@ -74,7 +74,7 @@ crashed_away = asked_away ++ Crash 1 1 ∷ Reap 1 ∷ Done 1 ∷ []
 abbrev pub renamed_passive : List Event
 renamed_passive = crashed_late ++ renaming ∷ Done 1 ∷ []
 
-pub record IsRenamedPassive : Type 0 where
+pub record WorkedPassiveRename : Type 0 where
   pub answers : answered (from_start crashed_away) ≡ answered (from_start asked_away) ++ ok ∷ commit 1 ∷ ok ∷ []
   pub told : reported (from_start crashed_away) ≡ lines (
       codes "session 1"
@@ -97,7 +97,7 @@ pub record IsRenamedPassive : Type 0 where
 abbrev pub unrenamed : List Event
 unrenamed = handed_off ++ Fail 1 ∷ renaming ∷ Resolve 1 false ∷ Deliver 13 ∷ Deliver 14 ∷ []
 
-pub record IsUnrenamed : Type 0 where
+pub record WorkedLostRename : Type 0 where
   pub answers : answered (from_start unrenamed) ≡ answered (from_start handed_off) ++ ok ∷ Refused InDoubt ∷ sent 13
       ∷ sent 14 ∷ ok ∷ []
   pub told : reported (from_start unrenamed) ≡ lines (
@@ -118,15 +118,15 @@ abbrev pub named_away : List Event
 named_away = asked_away ++ frame_named 98 ∷ frame_named 97 ∷ frame_named 99 ∷ Command (SaveAs 2 (codes "b"))
     ∷ Command (SaveAs 2 (codes "a")) ∷ renaming ∷ Command (Save 1) ∷ []
 
-pub record IsNamed : Type 0 where
+pub record WorkedNames : Type 0 where
   pub busy : answered (from_start named) ≡ answered (from_start completed) ++ frame 2 ∷ Refused Busy
       ∷ Refused WrongState ∷ Refused NoSuch ∷ []
   pub asked : answered (from_start named_away) ≡ answered (from_start asked_away) ++ Refused Busy ∷ Refused Busy
       ∷ frame 2 ∷ Refused Busy ∷ Refused Busy ∷ Refused Busy ∷ Refused Busy ∷ []
 
-pub record AreRenamed : Type 0 where
-  pub is_renamed : IsRenamed
-  pub is_reopened : IsReopened
-  pub is_renamed_passive : IsRenamedPassive
-  pub is_unrenamed : IsUnrenamed
-  pub is_named : IsNamed
+pub record WorkedRenames : Type 0 where
+  pub rename : WorkedRename
+  pub reopen : WorkedReopen
+  pub passive_rename : WorkedPassiveRename
+  pub lost_rename : WorkedLostRename
+  pub names : WorkedNames

@@ -104,7 +104,7 @@ abbrev pub from_start : List Event → Result World Stop
 from_start es = ran (Ok (empty_world 1000 (Note ∷ []))) es
 
 -- What each event of the whole run is answered, and what is reported then.
-pub record IsSaved : Type 0 where
+pub record WorkedSave : Type 0 where
   pub answers : answered (from_start completed) ≡ begun_answers ++ object 1 ∷ server 1 ∷ sent 1 ∷ sent 2 ∷ ok
       ∷ sent 3 ∷ sent 4 ∷ ok ∷ sent 5 ∷ sent 6 ∷ commit 1 ∷ sent 7 ∷ sent 8 ∷ ok ∷ []
   pub told : reported (from_start completed) ≡ lines (
@@ -119,7 +119,7 @@ pub record IsSaved : Type 0 where
 abbrev pub crashed_early : List Event
 crashed_early = edited ++ Crash 1 1 ∷ Reap 1 ∷ Command Start ∷ []
 
-pub record IsLost : Type 0 where
+pub record WorkedEarlyCrash : Type 0 where
   pub answers : answered (from_start crashed_early) ≡ answered (from_start edited) ++ ok ∷ ok ∷ server 2 ∷ []
   pub told : reported (from_start crashed_early) ≡ lines (
       codes "session 1"
@@ -131,7 +131,7 @@ pub record IsLost : Type 0 where
 abbrev pub crashed_late : List Event
 crashed_late = saved ++ Crash 1 1 ∷ Reap 1 ∷ Done 1 ∷ []
 
-pub record IsKept : Type 0 where
+pub record WorkedLateCrash : Type 0 where
   pub answers : answered (from_start crashed_late) ≡ answered (from_start saved) ++ ok ∷ ok ∷ ok ∷ []
   pub told : reported (from_start crashed_late) ≡ lines (
       codes "session 1"
@@ -151,7 +151,7 @@ resolved_as is_kept = saved ++ Fail 1 ∷ typing_more ∷ Resolve 1 is_kept ∷ 
 abbrev pub resolved_answers : List EventAnswer
 resolved_answers = answered (from_start saved) ++ ok ∷ Refused Doubtful ∷ sent 7 ∷ sent 8 ∷ ok ∷ []
 
-pub record IsResolved : Type 0 where
+pub record WorkedDoubt : Type 0 where
   pub kept_answers : answered (from_start (resolved_as true)) ≡ resolved_answers
   pub kept_told : reported (from_start (resolved_as true)) ≡ reported (from_start completed)
   pub lost_answers : answered (from_start (resolved_as false)) ≡ resolved_answers
@@ -173,7 +173,7 @@ pub record IsResolved : Type 0 where
 abbrev pub repeated : List Event
 repeated = completed ++ Deliver 7 ∷ Deliver 9 ∷ Deliver 8 ∷ Deliver 6 ∷ []
 
-pub record IsRepeated : Type 0 where
+pub record WorkedRepeats : Type 0 where
   pub answers : answered (from_start repeated) ≡ answered (from_start completed) ++ sent 9 ∷ Refused Stale
       ∷ Refused Stale ∷ Refused Stale ∷ []
   pub told : reported (from_start repeated) ≡ reported (from_start completed)
@@ -185,7 +185,7 @@ from_two es = ran (Ok (empty_world 1000 (Note ∷ Note ∷ []))) es
 abbrev pub reloaded : List Event
 reloaded = crashed_late ++ Command Start ∷ Command (Run 1 2) ∷ Deliver 7 ∷ Deliver 8 ∷ []
 
-pub record IsReloaded : Type 0 where
+pub record WorkedReload : Type 0 where
   pub answers : answered (from_two reloaded) ≡ answered (from_two crashed_late) ++ server 2 ∷ sent 7 ∷ sent 8 ∷ ok ∷ []
   pub told : reported (from_two reloaded) ≡ lines (
       codes "session 1"
@@ -203,7 +203,7 @@ misedited = begun ++ new_note ∷ Command Start ∷ Command (Run 1 1) ∷ typing
 abbrev pub refused : EventAnswer
 refused = Took (record quiet_outcome { refused = Some BadEdit })
 
-pub record IsMisedited : Type 0 where
+pub record WorkedBadEdit : Type 0 where
   pub answers : answered (from_start misedited) ≡ begun_answers ++ object 1 ∷ server 1 ∷ sent 1 ∷ Refused Busy
       ∷ sent 2 ∷ ok ∷ sent 3 ∷ Refused Busy ∷ sent 4 ∷ refused ∷ []
   pub told : reported (from_start misedited) ≡ lines (
@@ -223,7 +223,7 @@ frame_named letter = Command (New (letter ∷ []) 40 10)
 abbrev pub numbered : ℕ → List Event → Result World Stop
 numbered numbers es = ran (Ok (empty_world numbers [])) es
 
-pub record IsLimited : Type 0 where
+pub record WorkedLimits : Type 0 where
   pub frames : answered (from_start (map frame_named (range_with_len 97 9) ++ new_frame ∷ []))
       ≡ map frame (range_with_len 1 8) ++ Refused Full ∷ Refused Busy ∷ []
   pub objects : answered (from_start (new_frame ∷ times 65 new_note)) ≡ frame 1 ∷ map object (range_with_len 1 64)
@@ -242,7 +242,7 @@ abbrev pub deleted : List Event
 deleted = edited ++ Command (Delete 1) ∷ Command (Kill 1) ∷ Deliver 3 ∷ Command (Kill 1) ∷ Reap 1 ∷ Command (Kill 1)
     ∷ Command (Delete 1) ∷ Command (Delete 1) ∷ new_note ∷ []
 
-pub record IsDeleted : Type 0 where
+pub record WorkedDelete : Type 0 where
   pub answers : answered (from_start deleted) ≡ answered (from_start edited) ++ Refused WrongState ∷ ok ∷ ok ∷ ok
       ∷ ok ∷ Refused NoSuch ∷ ok ∷ Refused NoSuch ∷ object 2 ∷ []
   pub told : reported (from_start deleted) ≡ lines (
@@ -260,7 +260,7 @@ abbrev pub written : List Event
 written = edited ++ Scribble 1 1 1 ∷ Command (Save 1) ∷ Deliver 6 ∷ Deliver 5 ∷ Deliver 7 ∷ Done 1 ∷ Deliver 8
     ∷ Deliver 9 ∷ Deliver 5 ∷ Scribble 1 1 1 ∷ Deliver 10 ∷ Deliver 10 ∷ []
 
-pub record IsWritten : Type 0 where
+pub record WorkedWrites : Type 0 where
   pub answers : answered (from_start written) ≡ answered (from_start edited) ++ sent 5 ∷ sent 6 ∷ sent 7
       ∷ Refused Stale ∷ commit 1 ∷ sent 8 ∷ sent 9 ∷ ok ∷ Refused Stale ∷ sent 10 ∷ taken ∷ Refused Stale ∷ []
   pub told : reported (from_start written) ≡ reported (from_start completed)
@@ -271,7 +271,7 @@ abbrev pub closed : List Event
 closed = edited ++ Command (Close 1 SaveIfDirty) ∷ Deliver 5 ∷ Deliver 6 ∷ Deliver 1 ∷ Deliver 5 ∷ Deliver 7
     ∷ Command (Run 1 1) ∷ Deliver 8 ∷ Deliver 9 ∷ []
 
-pub record IsClosed : Type 0 where
+pub record WorkedClose : Type 0 where
   pub answers : answered (from_two closed) ≡ answered (from_two edited) ++ sent 5 ∷ sent 6 ∷ taken ∷ Dropped Ignored
       ∷ sent 7 ∷ Refused Stale ∷ sent 8 ∷ sent 9 ∷ ok ∷ []
   pub told : reported (from_two closed) ≡ lines (
@@ -299,7 +299,7 @@ frameless = Command Session ∷ Command Start ∷ Command (Save 1) ∷ Command (
 abbrev pub raised_spent : List Event
 raised_spent = new_frame ∷ Command Session ∷ Fail 1 ∷ Resolve 1 false ∷ Command Session ∷ []
 
-pub record IsRaised : Type 0 where
+pub record WorkedSession : Type 0 where
   pub answers : answered (from_start raised_late) ≡ frame 1 ∷ commit 1 ∷ Refused Busy ∷ ok ∷ Refused Doubtful
       ∷ Refused WrongState ∷ ok ∷ Refused WrongState ∷ Refused WrongState
       ∷ commit 1 ∷ ok ∷ Refused WrongState ∷ server 1 ∷ []
@@ -330,7 +330,7 @@ granting = record {
 abbrev pub stream : List ℕ → List ℕ → NamedStream
 stream name bytes = record { name = name; bytes = bytes }
 
-pub record IsSpelled : Type 0 where
+pub record WorkedSpelling : Type 0 where
   pub in_doubt : frame_line 2 granting ≡ codes "frame 2 b" ++ 92 ∷ ended (codes "20c Granting 3 k 12 doubt")
   pub streams : content_text (stream (1 ∷ 65 ∷ []) [] ∷ stream (codes "Cells") (195 ∷ 191 ∷ 48 ∷ []) ∷ [])
       ≡ 92 ∷ codes "01A= Cells=c3bf30"
@@ -340,22 +340,22 @@ pub record IsSpelled : Type 0 where
 abbrev pub filed : World
 filed = record (empty_world 1 []) { files = record { name = codes "b c"; bytes = 7 ∷ [] } ∷ [] }
 
-pub record HasFile : Type 0 where
+pub record WorkedFile : Type 0 where
   pub stored : frame_file_in filed (Some (record granting { phase = Idle })) ≡ Some (7 ∷ [])
   pub in_doubt : frame_file_in filed (Some granting) ≡ None
 
-pub record IsWorked : Type 0 where
-  pub is_saved : IsSaved
-  pub is_lost : IsLost
-  pub is_kept : IsKept
-  pub is_resolved : IsResolved
-  pub is_repeated : IsRepeated
-  pub is_reloaded : IsReloaded
-  pub is_misedited : IsMisedited
-  pub is_limited : IsLimited
-  pub is_deleted : IsDeleted
-  pub is_written : IsWritten
-  pub is_closed : IsClosed
-  pub is_raised : IsRaised
-  pub is_spelled : IsSpelled
-  pub has_file : HasFile
+pub record WorkedRuns : Type 0 where
+  pub save : WorkedSave
+  pub early_crash : WorkedEarlyCrash
+  pub late_crash : WorkedLateCrash
+  pub doubt : WorkedDoubt
+  pub repeats : WorkedRepeats
+  pub reload : WorkedReload
+  pub bad_edit : WorkedBadEdit
+  pub limits : WorkedLimits
+  pub delete : WorkedDelete
+  pub writes : WorkedWrites
+  pub close : WorkedClose
+  pub session : WorkedSession
+  pub spelling : WorkedSpelling
+  pub file : WorkedFile

@@ -30,7 +30,7 @@ use Rattle.world_model.specs.Safe.{IsHolder, IsHonest, IsKept, IsShared, IsWithi
 use Rattle.world_model.specs.Safe.{entries_of, last_commit, links_of, messages}
 use Rattle.world_model.specs.World.{Instance, World, called, document_in, done_entry, file_of, in_session}
 use Rattle.world_model.specs.declared.moment.Moment.TheVariants as moment
-use Rattle.world_model.specs.Story.{AreImages, Chosen, Epoch, Story, as_of, epoch_of, epochs, is_among, made_name}
+use Rattle.world_model.specs.Story.{Chosen, Epoch, MayChooseAt, Story, as_of, epoch_of, epochs, is_among, made_name}
 use Rattle.world_model.specs.Story.{passed}
 
 -- each number is greater than this one, and than those before it
@@ -200,6 +200,6 @@ pub record SafeStory (s : Story) : Type 0 where
   pub forged : (inc : ℕ) (m : Message) (choice : Chosen) (next : Story) → m.session ≢ s.now.rec.session
       → passed s choice (moment.Event (event.Forge inc m)) ≡ Ok next → IsSameButHostile s.now inc next.now
   -- and a stop keeps what the disk has kept
-  pub stopped : (fs : List ℕ) (choice : Chosen) (next : Story) → AreImages s choice (moment.Stop fs)
+  pub stopped : (fs : List ℕ) (choice : Chosen) (next : Story) → MayChooseAt s choice (moment.Stop fs)
       → passed s choice (moment.Stop fs) ≡ Ok next
       → IsStopped s fs next

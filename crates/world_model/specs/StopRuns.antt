@@ -65,7 +65,7 @@ kept_answers = ok
     ∷ Took (record quiet_outcome { frame = Some 1; objects = 1 ∷ [] })
     ∷ Refused WrongState ∷ commit 1 ∷ ok ∷ server 1 ∷ Refused Stale ∷ sent 7 ∷ sent 8 ∷ sent 9 ∷ ok ∷ []
 
-pub record IsKeptByStop : Type 0 where
+pub record WorkedKeptStop : Type 0 where
   pub answers : answers_of stopped_kept ≡ answers_of (from_empty (happen saved)) ++ kept_answers
   pub told : report_of stopped_kept ≡ lines (
       codes "session 2"
@@ -83,7 +83,7 @@ stopped_lost ms = told_by empty_file (from_empty (happen saved ++ moment.Stop []
 abbrev pub stopped_early : List Event → Result Story Stop
 stopped_early es = told_by empty_file (from_empty (happen edited ++ moment.Stop [] ∷ [])) (happen es)
 
-pub record IsLostByStop : Type 0 where
+pub record WorkedLostStop : Type 0 where
   pub told : report_of (stopped_lost (happen (opens ∷ [])))
       ≡ lines (codes "session 0" ∷ codes "frame 1 a Free k 0 stored" ∷ [])
   pub none_made : report_of (stopped_lost (happen (frame_named 98 ∷ []))) ≡ codes "NotEnabled"
@@ -97,7 +97,7 @@ pub record IsLostByStop : Type 0 where
 abbrev pub raising : List Moment
 raising = happen (frame_named 97 ∷ Command Session ∷ [])
 
-pub record IsRaisedAgain : Type 0 where
+pub record WorkedRaisingStop : Type 0 where
   pub kept : report_of (told_by empty_file (from_empty (raising ++ moment.Stop (1 ∷ []) ∷ []))
       (happen (opens ∷ Command Session ∷ Done 1 ∷ [])))
       ≡ lines (codes "session 2" ∷ codes "frame 1 a Free k 1 stored" ∷ [])
@@ -107,7 +107,7 @@ pub record IsRaisedAgain : Type 0 where
   -- a frame without a commit isn't one that a disk could have kept
   pub unasked : report_of (from_empty (happen (frame_named 97 ∷ []) ++ moment.Stop (1 ∷ []) ∷ [])) ≡ codes "NotEnabled"
 
-pub record AreStopped : Type 0 where
-  pub is_kept_by_stop : IsKeptByStop
-  pub is_lost_by_stop : IsLostByStop
-  pub is_raised_again : IsRaisedAgain
+pub record WorkedStops : Type 0 where
+  pub kept_stop : WorkedKeptStop
+  pub lost_stop : WorkedLostStop
+  pub raising_stop : WorkedRaisingStop

@@ -1,12 +1,12 @@
 -- A story: a container that stops and starts again. The world of its present run, and what is left of the runs before
 -- it.
 use Rattle.std.specs.Prelude.{◌≡◌, ◌++◌, ◌+◌, ℕ, Bool, true, false, List, [], ◌∷◌, length, Option, Some, None, is_some}
-use Rattle.std.specs.Prelude.{Result, Ok, Err, IsOk, if◌then◌else◌, nat_le, ◌==◌}
+use Rattle.std.specs.Prelude.{Result, Ok, Err, if◌then◌else◌, nat_le, ◌==◌}
 use Rattle.std.specs.Str.{bytes_eq}
 use Rattle.message_values.specs.Found.{find, nth, put}
 use Rattle.message_values.specs.declared.message.Message.{Message}
 use Rattle.message_values.specs.declared.message.Said.{Said}
-use Rattle.message_values.specs.declared.message.Said.TheVariants.{Call, Reply, Write, Ask}
+use Rattle.message_values.specs.declared.message.Said.TheVariants.{Call}
 use Rattle.object_core.specs.Kinds.{Kind}
 use Rattle.container_model.specs.Record.{Record, empty}
 use Rattle.container_model.specs.Saves.{image, name_after}
@@ -19,14 +19,15 @@ use Rattle.container_model.specs.declared.record.Frame.{Frame}
 use Rattle.world_model.specs.declared.event.Event.{Event}
 use Rattle.world_model.specs.declared.event.Event.TheVariants as event
 use Rattle.world_model.specs.declared.event.Stop.{Stop}
-use Rattle.world_model.specs.declared.event.Stop.TheVariants.{EventLimit, NoMemory, NotEnabled}
+use Rattle.world_model.specs.declared.event.Stop.TheVariants.{EventLimit, NotEnabled}
 use Rattle.world_model.specs.declared.logs.Document.{Document}
 use Rattle.world_model.specs.declared.logs.EventAnswer.TheVariants as told
 use Rattle.world_model.specs.declared.logs.File.{File}
 use Rattle.world_model.specs.declared.logs.Sent.{Sent}
 use Rattle.world_model.specs.declared.logs.ServerDone.{ServerDone}
 use Rattle.world_model.specs.declared.logs.Taken.{Taken}
-use Rattle.world_model.specs.World.{Choice, Instance, IsImage, IsImageOf, MOST_EVENTS, World, ask, crash, deliver}
+use Rattle.world_model.specs.World.{Choice, HoldsDocument, Instance, MOST_EVENTS, MayChoose, StopsFor, World, ask}
+use Rattle.world_model.specs.World.{crash, deliver}
 use Rattle.world_model.specs.World.{empty_world, happened, put_file, quiet_outcome, scribble}
 use Rattle.world_model.specs.declared.moment.Moment.{Moment}
 use Rattle.world_model.specs.declared.moment.Moment.TheVariants as moment
@@ -77,26 +78,18 @@ epochs s = s.past ++ epoch_of s.now ∷ []
 -- call; all others happen in the present one
 abbrev pub session_of_call : ℕ → Message → Said → ℕ
 session_of_call present m (Call inc act n op) = m.session
-session_of_call present m (Reply inc act n answer) = present
-session_of_call present m (Write inc act s number content) = present
-session_of_call present m (Ask inc act g) = present
+session_of_call present m _ = present
 
 abbrev pub session_at : ℕ → Option Sent → ℕ
 session_at present None = present
 session_at present (Some x) = session_of_call present x.message x.message.said
 
 abbrev pub session_of : World → Event → ℕ
-session_of w (event.Command c) = w.rec.session
 session_of w (event.Deliver p) = session_at w.rec.session (nth w.sent p)
-session_of w (event.Forge inc m) = w.rec.session
 session_of w (event.Crash session inc) = session
-session_of w (event.Reap inc) = w.rec.session
-session_of w (event.Done f) = w.rec.session
-session_of w (event.Fail f) = w.rec.session
-session_of w (event.Resolve f is_kept) = w.rec.session
-session_of w (event.Open name width height) = w.rec.session
 session_of w (event.Scribble session inc act) = session
 session_of w (event.Ask session inc act) = session
+session_of w _ = w.rec.session
 
 -- the world as an earlier run has it: with its servers and its logs
 abbrev pub as_of : World → Epoch → World
@@ -124,17 +117,11 @@ left_by s e (Ok v) = Ok (record s {
 -- Servers of earlier runs act on calls, crash, write and ask; nothing else happens at them. What is delivered to one is
 -- a call, as no other message is of an earlier session here.
 abbrev pub goes_on : World → Event → Result World Stop
-goes_on w (event.Command c) = Err NotEnabled
 goes_on w (event.Deliver p) = deliver w p (nth w.sent p)
-goes_on w (event.Forge inc m) = Err NotEnabled
 goes_on w (event.Crash session inc) = crash w inc (nth w.instances inc)
-goes_on w (event.Reap inc) = Err NotEnabled
-goes_on w (event.Done f) = Err NotEnabled
-goes_on w (event.Fail f) = Err NotEnabled
-goes_on w (event.Resolve f is_kept) = Err NotEnabled
-goes_on w (event.Open name width height) = Err NotEnabled
 goes_on w (event.Scribble session inc act) = scribble w inc act (nth w.instances inc)
 goes_on w (event.Ask session inc act) = ask w inc act (nth w.instances inc)
+goes_on w _ = Err NotEnabled
 
 abbrev pub earlier : Story → Event → Option Epoch → Result Story Stop
 earlier s e None = Err NotEnabled
@@ -191,16 +178,7 @@ committed_by s f next = record {
 abbrev pub followed : Story → Event → World → Story
 followed s (event.Done f) next = committed_by s f next
 followed s (event.Resolve f true) next = committed_by s f next
-followed s (event.Resolve f false) next = record s { now = next }
-followed s (event.Command c) next = record s { now = next }
-followed s (event.Deliver p) next = record s { now = next }
-followed s (event.Forge inc m) next = record s { now = next }
-followed s (event.Crash session inc) next = record s { now = next }
-followed s (event.Reap inc) next = record s { now = next }
-followed s (event.Fail f) next = record s { now = next }
-followed s (event.Open name width height) next = record s { now = next }
-followed s (event.Scribble session inc act) next = record s { now = next }
-followed s (event.Ask session inc act) next = record s { now = next }
+followed s _ next = record s { now = next }
 
 abbrev pub follow : Story → Event → Result World Stop → Result Story Stop
 follow s e (Err stop) = Err stop
@@ -293,20 +271,16 @@ abbrev pub pass : Story → Chosen → Moment → Result Story Stop
 pass s choice m = within s (passed s choice m)
 
 -- What may be chosen: bytes that denote the document of each frame whose commit the disk has kept.
-abbrev pub AreImages : Story → Chosen → Moment → Type 0
-AreImages s choice (moment.Event e) = IsImage s.now choice.here e
-AreImages s choice (moment.Stop fs) = (f : ℕ) → is_among fs f ≡ true → IsImageOf s.now f (choice.images f)
+abbrev pub MayChooseAt : Story → Chosen → Moment → Type 0
+MayChooseAt s choice (moment.Event e) = MayChoose s.now choice.here e
+MayChooseAt s choice (moment.Stop fs) = (f : ℕ) → is_among fs f ≡ true → HoldsDocument s.now f (choice.images f)
 
 -- The stories that these moments reach; they differ in the bytes of files alone.
 abbrev pub Tells : Story → List Moment → Story → Type 0
 Tells s [] after = after ≡ s
-Tells s (m ∷ ms) after = (choice : Chosen) × (next : Story) × AreImages s choice m × (pass s choice m ≡ Ok next)
+Tells s (m ∷ ms) after = (choice : Chosen) × (next : Story) × MayChooseAt s choice m × (pass s choice m ≡ Ok next)
     × Tells next ms after
 
 -- A story stops before a moment that can't be taken, or for want of memory before one that could.
-abbrev pub RefusesMoment : Result Story Stop → Stop → Type 0
-RefusesMoment outcome NoMemory = IsOk outcome
-RefusesMoment outcome stop = outcome ≡ Err stop
-
 abbrev pub EndsAt : Story → Moment → Stop → Type 0
-EndsAt s m stop = (choice : Chosen) → RefusesMoment (pass s choice m) stop
+EndsAt s m stop = (choice : Chosen) → StopsFor (pass s choice m) stop

@@ -93,21 +93,17 @@ empty_world numbers stock = record {
 abbrev pub messages_of : List Action → List Message
 messages_of [] = []
 messages_of (Send m ∷ rest) = m ∷ messages_of rest
-messages_of (Start inc ∷ rest) = messages_of rest
-messages_of (End inc ∷ rest) = messages_of rest
-messages_of (Commit f ∷ rest) = messages_of rest
+messages_of (_ ∷ rest) = messages_of rest
 
--- a server of a session, by its incarnation
-abbrev pub fresh : ℕ → ℕ → ℕ → Instance
-fresh session numbers inc =
+-- a server that starts in a session, by its incarnation
+abbrev pub started_instance : ℕ → ℕ → ℕ → Instance
+started_instance session numbers inc =
     record { life = Running; core = record { session = session; inc = inc; numbers = numbers; acts = [] } }
 
 abbrev pub started_by : ℕ → ℕ → List Action → List Instance
 started_by session numbers [] = []
-started_by session numbers (Send m ∷ rest) = started_by session numbers rest
-started_by session numbers (Start inc ∷ rest) = fresh session numbers inc ∷ started_by session numbers rest
-started_by session numbers (End inc ∷ rest) = started_by session numbers rest
-started_by session numbers (Commit f ∷ rest) = started_by session numbers rest
+started_by session numbers (Start inc ∷ rest) = started_instance session numbers inc ∷ started_by session numbers rest
+started_by session numbers (_ ∷ rest) = started_by session numbers rest
 
 -- a server that is to be ended has ended at once; one that had ended stays so
 abbrev pub end_of : Life → Life
@@ -121,17 +117,13 @@ ended_at inc instances (Some i) = set_nth instances inc (record i { life = end_o
 
 abbrev pub ended_by : List Action → List Instance → List Instance
 ended_by [] instances = instances
-ended_by (Send m ∷ rest) instances = ended_by rest instances
-ended_by (Start inc ∷ rest) instances = ended_by rest instances
 ended_by (End inc ∷ rest) instances = ended_by rest (ended_at inc instances (nth instances inc))
-ended_by (Commit f ∷ rest) instances = ended_by rest instances
+ended_by (_ ∷ rest) instances = ended_by rest instances
 
 abbrev pub commits_of : List Action → List ℕ
 commits_of [] = []
-commits_of (Send m ∷ rest) = commits_of rest
-commits_of (Start inc ∷ rest) = commits_of rest
-commits_of (End inc ∷ rest) = commits_of rest
 commits_of (Commit f ∷ rest) = f ∷ commits_of rest
+commits_of (_ ∷ rest) = commits_of rest
 
 -- the places of so many messages that are sent next
 abbrev pub places : List Sent → ℕ → List ℕ
@@ -174,18 +166,8 @@ took w (Ok t) = joined w t
 
 -- A command. The object of a new activation is kept.
 abbrev pub owners_by : Command → List ℕ
-owners_by (command.New name width height) = []
-owners_by (command.Insert f kind area) = []
-owners_by command.Session = []
-owners_by command.Start = []
 owners_by (command.Run o inc) = o ∷ []
-owners_by (command.Edit o bytes) = []
-owners_by (command.Save f) = []
-owners_by (command.SaveAs f name) = []
-owners_by (command.Delete o) = []
-owners_by (command.Kill inc) = []
-owners_by (command.Close o option) = []
-owners_by (command.Verb o number) = []
+owners_by _ = []
 
 abbrev pub commanded : World → Command → Result Took ContainerFault → World
 commanded w c (Err fault) = took w (Err fault)
@@ -257,8 +239,7 @@ called_wanting w s inc act n op i (Some class) = stocked w s inc act n op i clas
 abbrev pub called_in : World → ℕ → ℕ → ℕ → ℕ → Operation → Instance → Life → Result World Stop
 called_in w s inc act n op i Running = called_wanting w s inc act n op i
     (wanted i.core (in_session s (Call inc act n op)))
-called_in w s inc act n op i Ended = Ok (record w { answers = w.answers ++ told.Took quiet_outcome ∷ [] })
-called_in w s inc act n op i Reaped = Ok (record w { answers = w.answers ++ told.Took quiet_outcome ∷ [] })
+called_in w s inc act n op i _ = Ok (record w { answers = w.answers ++ told.Took quiet_outcome ∷ [] })
 
 -- a call to a server that has ended does nothing
 abbrev pub called : World → ℕ → ℕ → ℕ → ℕ → Operation → Option Instance → Result World Stop
@@ -278,9 +259,7 @@ link_of m = record { session = m.session; inc = server_of m.said }
 -- Delivery of a message that was sent, for the first time or again.
 abbrev pub delivered_said : World → Message → Said → Result World Stop
 delivered_said w m (Call inc act n op) = called w m.session inc act n op (nth w.instances inc)
-delivered_said w m (Reply inc act n answer) = Ok (took w (on_message w.rec (link_of m) m))
-delivered_said w m (Write inc act s number content) = Ok (took w (on_message w.rec (link_of m) m))
-delivered_said w m (Ask inc act g) = Ok (took w (on_message w.rec (link_of m) m))
+delivered_said w m _ = Ok (took w (on_message w.rec (link_of m) m))
 
 abbrev pub delivered : World → Message → Result World Stop
 delivered w m = delivered_said w m m.said
@@ -339,9 +318,8 @@ forged_on w inc m = record (took w (on_message w.rec (link_to w inc) m)) {
 }
 
 abbrev pub forged : World → ℕ → Message → Life → Result World Stop
-forged w inc m Running = Ok (forged_on w inc m)
-forged w inc m Ended = Ok (forged_on w inc m)
 forged w inc m Reaped = Err NotEnabled
+forged w inc m _ = Ok (forged_on w inc m)
 
 abbrev pub forge : World → ℕ → Message → Option Instance → Result World Stop
 forge w inc m None = Err NotEnabled
@@ -358,8 +336,7 @@ spoken_by w inc act i (Ok t) = record w {
 
 abbrev pub spoken : World → ℕ → ℕ → Instance → Life → Result Told ServerFault → Result World Stop
 spoken w inc act i Running told = Ok (spoken_by w inc act i told)
-spoken w inc act i Ended told = Err NotEnabled
-spoken w inc act i Reaped told = Err NotEnabled
+spoken w inc act i _ told = Err NotEnabled
 
 abbrev pub scribble : World → ℕ → ℕ → Option Instance → Result World Stop
 scribble w inc act None = Err NotEnabled
@@ -376,8 +353,7 @@ crashed w inc i Running =
       instances = set_nth w.instances inc (record i { life = Ended });
       answers = w.answers ++ told.Took quiet_outcome ∷ [];
     })
-crashed w inc i Ended = Err NotEnabled
-crashed w inc i Reaped = Err NotEnabled
+crashed w inc i _ = Err NotEnabled
 
 abbrev pub crash : World → ℕ → Option Instance → Result World Stop
 crash w inc None = Err NotEnabled
@@ -385,10 +361,9 @@ crash w inc (Some i) = crashed w inc i i.life
 
 -- The end of a server is told, once it has ended.
 abbrev pub ended : World → ℕ → Instance → Life → Result World Stop
-ended w inc i Running = Err NotEnabled
 ended w inc i Ended = Ok (took (record w { instances = set_nth w.instances inc (record i { life = Reaped }) })
     (on_reap w.rec inc))
-ended w inc i Reaped = Err NotEnabled
+ended w inc i _ = Err NotEnabled
 
 abbrev pub reap : World → ℕ → Option Instance → Result World Stop
 reap w inc None = Err NotEnabled
@@ -410,21 +385,14 @@ kept_commit w f frame saved done bytes = record w {
   counted = set_nth w.counted f (Some (record { k = frame.k; session = saved.session; parts = saved.parts }));
 }
 
-abbrev pub done_taken : World → ℕ → List ℕ → Frame → FrameDocument → Result Took ContainerFault → Result World Stop
-done_taken w f bytes frame saved (Err fault) = Err NotEnabled
-done_taken w f bytes frame saved (Ok t) = Ok (joined (kept_commit w f frame saved t.counted bytes) t)
-
-abbrev pub done_imaged : World → ℕ → List ℕ → Frame → Result Took ContainerFault
-    → Result FrameDocument ContainerFault → Result World Stop
-done_imaged w f bytes frame counted (Err fault) = Err NotEnabled
-done_imaged w f bytes frame counted (Ok saved) = done_taken w f bytes frame saved counted
-
-abbrev pub done_in : World → ℕ → List ℕ → Result Took ContainerFault → Option Frame → Result World Stop
-done_in w f bytes counted None = Err NotEnabled
-done_in w f bytes counted (Some frame) = done_imaged w f bytes frame counted (image w.rec f)
+-- It happens only where the frame is there, its document can be written and the step is taken.
+abbrev pub done_with : World → ℕ → List ℕ → Option Frame → Result FrameDocument ContainerFault
+    → Result Took ContainerFault → Result World Stop
+done_with w f bytes (Some frame) (Ok saved) (Ok t) = Ok (joined (kept_commit w f frame saved t.counted bytes) t)
+done_with w f bytes _ _ _ = Err NotEnabled
 
 abbrev pub done : World → ℕ → List ℕ → Result World Stop
-done w f bytes = done_in w f bytes (commit_done w.rec f) (nth w.rec.frames f)
+done w f bytes = done_with w f bytes (nth w.rec.frames f) (image w.rec f) (commit_done w.rec f)
 
 -- A step of the container that happens only where it is taken: a commit that fails, and one in doubt that is resolved
 -- as lost. No file changes, and nothing is counted.
@@ -434,7 +402,7 @@ only_taken w (Ok t) = Ok (joined w t)
 
 -- A commit in doubt that is resolved as kept acts as one that is done.
 abbrev pub resolved : World → ℕ → Bool → List ℕ → Result World Stop
-resolved w f true bytes = done_in w f bytes (resolve w.rec f true) (nth w.rec.frames f)
+resolved w f true bytes = done_with w f bytes (nth w.rec.frames f) (image w.rec f) (resolve w.rec f true)
 resolved w f false bytes = only_taken w (resolve w.rec f false)
 
 -- What happens at a server of this session: as yet a world has those of its container's session alone.
@@ -490,40 +458,33 @@ file_bytes (Some file) = Some file.bytes
 abbrev pub file_of : World → List ℕ → Option (List ℕ)
 file_of w name = file_bytes (find (is_file name) w.files)
 
--- What may be chosen: the bytes that a commit makes the file denote the document, in a tree that holds it; a file gives
--- what it is read as, where it is looked at: its name is no frame's, and the size is one.
-abbrev pub IsImageOf : World → ℕ → List ℕ → Type 0
-IsImageOf w f bytes = (saved : FrameDocument) → image w.rec f ≡ Ok saved → ∥ Denotes bytes (document_tree saved) ∥₁
+-- These bytes hold the document that a frame's commit saves: they denote its tree, and the tree holds it.
+abbrev pub HoldsDocument : World → ℕ → List ℕ → Type 0
+HoldsDocument w f bytes = (saved : FrameDocument) → image w.rec f ≡ Ok saved → ∥ Denotes bytes (document_tree saved) ∥₁
     × DocOf (document_tree saved) (document saved)
 
-abbrev pub IsImage : World → Choice → Event → Type 0
-IsImage w choice (event.Command c) = ⊤
-IsImage w choice (event.Deliver p) = ⊤
-IsImage w choice (event.Forge inc m) = ⊤
-IsImage w choice (event.Crash s inc) = ⊤
-IsImage w choice (event.Reap inc) = ⊤
-IsImage w choice (event.Scribble s inc act) = ⊤
-IsImage w choice (event.Ask s inc act) = ⊤
-IsImage w choice (event.Done f) = IsImageOf w f choice.file
-IsImage w choice (event.Fail f) = ⊤
-IsImage w choice (event.Resolve f true) = IsImageOf w f choice.file
-IsImage w choice (event.Resolve f false) = ⊤
-IsImage w choice (event.Open name width height) = is_named name w.rec.frames ≡ false → is_size width height ≡ true
+-- What may be chosen: bytes that hold the document, where a commit makes them the file; what a file is read as, where
+-- it is looked at, as its name is no frame's and the size is one. Other events leave nothing open.
+abbrev pub MayChoose : World → Choice → Event → Type 0
+MayChoose w choice (event.Done f) = HoldsDocument w f choice.file
+MayChoose w choice (event.Resolve f true) = HoldsDocument w f choice.file
+MayChoose w choice (event.Open name width height) = is_named name w.rec.frames ≡ false → is_size width height ≡ true
     → IsReadAs (file_of w name) choice.given
+MayChoose w choice _ = ⊤
 
 -- The worlds that these events reach; they differ in the bytes of files alone.
 abbrev pub Run : World → List Event → World → Type 0
 Run w [] after = after ≡ w
-Run w (e ∷ es) after = (choice : Choice) × (next : World) × IsImage w choice e × (step w choice e ≡ Ok next)
+Run w (e ∷ es) after = (choice : Choice) × (next : World) × MayChoose w choice e × (step w choice e ≡ Ok next)
     × Run next es after
 
 -- A run stops before an event that can't be taken, or for want of memory before one that could.
-abbrev pub Refuses : Result World Stop → Stop → Type 0
-Refuses told NoMemory = IsOk told
-Refuses told stop = told ≡ Err stop
+abbrev pub StopsFor : {A : Type 0} → Result A Stop → Stop → Type 0
+StopsFor told NoMemory = IsOk told
+StopsFor told stop = told ≡ Err stop
 
 abbrev pub StopsAt : World → Event → Stop → Type 0
-StopsAt w e stop = (choice : Choice) → Refuses (step w choice e) stop
+StopsAt w e stop = (choice : Choice) → StopsFor (step w choice e) stop
 
 -- The file of a frame, where it is known which: not while it is in doubt whether its last commit was done.
 abbrev pub frame_file_in : World → Option Frame → Option (List ℕ)

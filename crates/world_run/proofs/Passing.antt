@@ -9,10 +9,11 @@ use Rattle.world_model.specs.declared.event.Event.{Event}
 use Rattle.world_model.specs.declared.event.Event.TheVariants as event
 use Rattle.world_model.specs.declared.event.Stop.{Stop}
 use Rattle.world_model.specs.declared.event.Stop.TheVariants.{EventLimit, NoMemory, NotEnabled, OutOfStock}
-use Rattle.world_model.specs.World.{Choice, IsImage, Instance, MOST_EVENTS, Refuses, StopsAt, World, happened, limited}
+use Rattle.world_model.specs.World.{Choice, MayChoose, Instance, MOST_EVENTS, StopsFor, StopsAt, World, happened}
+use Rattle.world_model.specs.World.{limited}
 use Rattle.world_model.specs.World.{no_choice, step}
 use Rattle.world_model.specs.declared.moment.Moment.TheVariants as moment
-use Rattle.world_model.specs.Story.{Chosen, EndsAt, Epoch, RefusesMoment, Story, as_of, earlier, follow, followed}
+use Rattle.world_model.specs.Story.{Chosen, EndsAt, Epoch, Story, as_of, earlier, follow, followed}
 use Rattle.world_model.specs.Story.{is_session, left_by, may_begin, present, session_of, within}
 use Rattle.world_host.specs.declared.host.Host.{Host}
 use Rattle.world_host.specs.View.{bare}
@@ -53,11 +54,11 @@ passes_here s e after here f =
 
 pub ends_here : (s : Story) (e : Event) → session_of s.now e ≡ s.now.rec.session → (stop : Stop)
     → HoldsBack s e stop → EndsAt s (moment.Event e) stop
-ends_here s e here stop h choice = subst (λ b. RefusesMoment (within s (In s choice.here e b)) stop)
+ends_here s e here stop h choice = subst (λ b. StopsFor (within s (In s choice.here e b)) stop)
     (sym (same (session_of s.now e) s.now.rec.session here)) (h choice.here)
 
 -- what happens elsewhere leaves nothing open
-no_image : (w : World) (choice : Choice) (e : Event) → (session_of w e ≡ w.rec.session → ⊥) → IsImage w choice e
+no_image : (w : World) (choice : Choice) (e : Event) → (session_of w e ≡ w.rec.session → ⊥) → MayChoose w choice e
 no_image w choice (event.Command c) other = tt
 no_image w choice (event.Deliver p) other = tt
 no_image w choice (event.Forge inc m) other = tt
@@ -84,16 +85,16 @@ passes_there s e n after is other h =
     )
 
 pub ends_there : (s : Story) (e : Event) (n : ℕ) → n ≡ session_of s.now e → (n ≡ s.now.rec.session → ⊥)
-    → (stop : Stop) → RefusesMoment (within s (earlier s e (find (is_session n) s.past))) stop
+    → (stop : Stop) → StopsFor (within s (earlier s e (find (is_session n) s.past))) stop
     → EndsAt s (moment.Event e) stop
 ends_there s e n is other stop h choice =
-    subst (λ b. RefusesMoment (within s (In s choice.here e b)) stop)
+    subst (λ b. StopsFor (within s (In s choice.here e b)) stop)
     (sym (apart (session_of s.now e) s.now.rec.session (λ q. other (is ∙ q))))
-    (subst (λ x. RefusesMoment (within s (earlier s e (find (is_session x) s.past))) stop) is h)
+    (subst (λ x. StopsFor (within s (earlier s e (find (is_session x) s.past))) stop) is h)
 
 -- what a world's step is made into, or why it isn't taken
 refused_as : (b : Bool) (u : World) (after : Story) (stop : Stop)
-    → Refuses (if b then Err EventLimit else Ok u) stop → RefusesMoment (if b then Err EventLimit else Ok after)
+    → StopsFor (if b then Err EventLimit else Ok u) stop → StopsFor (if b then Err EventLimit else Ok after)
     stop
 refused_as true u after NotEnabled h = cc
 refused_as true u after OutOfStock h = cc
@@ -104,7 +105,7 @@ refused_as false u after OutOfStock h = cc
 refused_as false u after EventLimit h = cc
 refused_as false u after NoMemory h = refl
 
-refused_so : (stop why : Stop) → Refuses (Err stop) why → RefusesMoment (Err stop) why
+refused_so : (stop why : Stop) → StopsFor {A = World} (Err stop) why → StopsFor {A = Story} (Err stop) why
 refused_so stop NotEnabled h = (let is : stop ≡ NotEnabled = cc in ap Err is)
 refused_so stop OutOfStock h = (let is : stop ≡ OutOfStock = cc in ap Err is)
 refused_so stop EventLimit h = (let is : stop ≡ EventLimit = cc in ap Err is)
@@ -132,8 +133,8 @@ follow_taken s e (Ok u) v h =
       | false ↦ (λ g. (let is : u ≡ v = cc in ap (λ (x : World). Ok (followed s e x)) is))
     ] h
 
-follow_refused : (s : Story) (e : Event) (r : Result World Stop) (stop : Stop) → Refuses (limited s.now r) stop
-    → RefusesMoment (within s (follow s e r)) stop
+follow_refused : (s : Story) (e : Event) (r : Result World Stop) (stop : Stop) → StopsFor (limited s.now r) stop
+    → StopsFor (within s (follow s e r)) stop
 follow_refused s e (Err x) stop h = refused_so x stop h
 follow_refused s e (Ok u) stop h = refused_as (nat_le MOST_EVENTS (length s.now.answers)) u (followed s e u) stop h
 
@@ -141,7 +142,7 @@ abbrev Begins : Story → Choice → Event → Bool → Result Story Stop
 Begins s choice e b = if b then follow s e (happened s.now choice e) else Err NotEnabled
 
 pub follows : (s : Story) (e : Event) (v : World) (after : Story) → may_begin s e ≡ true → (choice : Choice)
-    × IsImage s.now choice e × (step s.now choice e ≡ Ok v)
+    × MayChoose s.now choice e × (step s.now choice e ≡ Ok v)
     → ((choice : Choice) → happened s.now choice e ≡ Ok v → followed s e v ≡ after) → Follows s e after
 follows s e v after may h same = (
   h.0,
@@ -153,7 +154,7 @@ follows s e v after may h same = (
 
 pub holds_back : (s : Story) (e : Event) (stop : Stop) → may_begin s e ≡ true → StopsAt s.now e stop
     → HoldsBack s e stop
-holds_back s e stop may h choice = subst (λ b. RefusesMoment (within s (Begins s choice e b)) stop) (sym may)
+holds_back s e stop may h choice = subst (λ b. StopsFor (within s (Begins s choice e b)) stop) (sym may)
     (follow_refused s e (happened s.now choice e) stop (h choice))
 
 pub begins_not : (s : Story) (e : Event) → may_begin s e ≡ false → HoldsBack s e NotEnabled
@@ -178,6 +179,6 @@ left_taken s x (Ok u) v h =
     ] h
 
 pub left_refused : (s : Story) (x : Epoch) (r : Result World Stop) (stop : Stop)
-    → Refuses (limited (as_of s.now x) r) stop → RefusesMoment (within s (left_by s x r)) stop
+    → StopsFor (limited (as_of s.now x) r) stop → StopsFor (within s (left_by s x r)) stop
 left_refused s x (Err y) stop h = refused_so y stop h
 left_refused s x (Ok u) stop h = refused_as (nat_le MOST_EVENTS (length s.now.answers)) u (left s x u) stop h

@@ -9,9 +9,9 @@ use Rattle.server_core.specs.declared.server.Seat.{Seat}
 use Rattle.container_model.specs.declared.record.Frame.{Frame}
 use Rattle.world_model.specs.declared.event.Stop.{Stop}
 use Rattle.world_model.specs.declared.event.Stop.TheVariants.{EventLimit, NoMemory, NotEnabled, OutOfStock}
-use Rattle.world_model.specs.World.{Instance, IsImageOf, MOST_EVENTS, World, no_choice}
+use Rattle.world_model.specs.World.{HoldsDocument, Instance, MOST_EVENTS, StopsFor, World, no_choice}
 use Rattle.world_model.specs.declared.moment.Moment.TheVariants as moment
-use Rattle.world_model.specs.Story.{EndsAt, RefusesMoment, Story, document_kept, epoch_of, is_among, made_name}
+use Rattle.world_model.specs.Story.{EndsAt, Story, document_kept, epoch_of, is_among, made_name}
 use Rattle.world_model.specs.Story.{may_stop, names_kept, rested, stopped, within}
 use Rattle.world_host.specs.Stops.{IsLeft, MayGive, made_names}
 use Rattle.world_host.specs.View.{bare}
@@ -54,7 +54,7 @@ stop_refused s fs r EventLimit is h choice =
     ap (λ b. within s (Stops s fs choice.images b)) k.0 ∙ ap (λ b. Within b (stopped s choice.images fs)) k.1)
 stop_refused s fs r NoMemory is h choice =
     (let k = subst (MayGive (may_stop s.now.rec fs) (nat_le MOST_EVENTS (length s.now.answers))) is h in
-    subst (λ (o : Result Story Stop). RefusesMoment o NoMemory)
+    subst (λ (o : Result Story Stop). StopsFor o NoMemory)
     (sym (ap (λ b. within s (Stops s fs choice.images b)) k.0 ∙ ap (λ b. Within b (stopped s choice.images fs))
     k.1)) refl)
 
@@ -96,7 +96,7 @@ epoch_left h instances stock names l k =
 -- a stop that is
 pub stops_so : (s after : Story) (fs : List ℕ) (images : ℕ → List ℕ)
     → may_stop s.now.rec fs ≡ true → nat_le MOST_EVENTS (length s.now.answers) ≡ false
-    → ((f : ℕ) → is_among fs f ≡ true → IsImageOf s.now f (images f))
+    → ((f : ℕ) → is_among fs f ≡ true → HoldsDocument s.now f (images f))
     → stopped s images fs ≡ after
     → Passes s (moment.Stop fs) after
 stops_so s after fs images may free are is = (
@@ -220,7 +220,7 @@ module _ {X : Type 0} {V : X → Type 0} (content : Seat X V → Content) where
       }) e
 
   pub stop_taken : (mid new : Runs X V) (h : Host) (l : code.Left) (name : Option (List ℕ)) (fs : List ℕ)
-      → (images : ℕ → List ℕ) × ((f : ℕ) → is_among fs f ≡ true → IsImageOf (bare mid.state.host) f (images f))
+      → (images : ℕ → List ℕ) × ((f : ℕ) → is_among fs f ≡ true → HoldsDocument (bare mid.state.host) f (images f))
       × (bare h ≡ rested (bare mid.state.host) images fs)
       → (may_stop mid.state.host.core fs ≡ true) × (nat_le MOST_EVENTS (length mid.state.host.answers.items) ≡ false)
       → IsLeft mid.state.host (made_names fs 1 mid.state.host.core.frames) l

@@ -8,8 +8,8 @@ use Rattle.message_values.specs.Found.{IsPlace, find, put}
 use Rattle.world_model.specs.declared.event.Event.{Event}
 use Rattle.world_model.specs.declared.event.Stop.{Stop}
 use Rattle.world_model.specs.declared.event.Stop.TheVariants.{NotEnabled}
-use Rattle.world_model.specs.World.{Refuses, World, limited}
-use Rattle.world_model.specs.Story.{Epoch, RefusesMoment, Story, as_of, earlier, goes_on, is_session, session_of}
+use Rattle.world_model.specs.World.{StopsFor, World, limited}
+use Rattle.world_model.specs.Story.{Epoch, Story, as_of, earlier, goes_on, is_session, session_of}
 use Rattle.world_model.specs.Story.{within}
 use Rattle.world_stories.proofs.GoingOn.{goes_left}
 use Rattle.world_run.specs.Passes.{left_at, swapped}
@@ -141,14 +141,14 @@ module _ (s : Story) (n i : ℕ) (e : Event) (p : IsPlace (is_session n) s.past 
         ∙ (ap (λ w. record s { now = as_of w away; past = set s.past i (left_at x.session w) }) same
         ∙ ap (λ es. record s { past = es }) (set_same s.past i x at))
 
-  pub goes_refused : (stop : Stop) → Refuses (limited first.now (goes_on first.now e)) stop
-      → RefusesMoment (within s (earlier s e (find (is_session n) s.past))) stop
+  pub goes_refused : (stop : Stop) → StopsFor (limited first.now (goes_on first.now e)) stop
+      → StopsFor (within s (earlier s e (find (is_session n) s.past))) stop
   goes_refused stop h =
-      subst (λ o. RefusesMoment (within s (earlier s e o)) stop) (sym found)
+      subst (λ o. StopsFor (within s (earlier s e o)) stop) (sym found)
       (left_refused s x (goes_on (as_of s.now x) e) stop
-      (subst (λ (y : Story). Refuses (limited y.now (goes_on y.now e)) stop) is_first h))
+      (subst (λ (y : Story). StopsFor (limited y.now (goes_on y.now e)) stop) is_first h))
 
 -- there is no run of this session
 pub goes_nowhere : (s : Story) (n : ℕ) (e : Event) → find (is_session n) s.past ≡ None
-    → RefusesMoment (within s (earlier s e (find (is_session n) s.past))) NotEnabled
+    → StopsFor (within s (earlier s e (find (is_session n) s.past))) NotEnabled
 goes_nowhere s n e none = ap (λ o. within s (earlier s e o)) none

@@ -6,12 +6,12 @@ use Rattle.std.proofs.lemmas.List.{take_more}
 use Rattle.std.proofs.lemmas.Option.{slice_get-get_or}
 use Rattle.world_model.specs.declared.event.Stop.{Stop}
 use Rattle.world_model.specs.declared.moment.Moment.{Moment}
-use Rattle.world_model.specs.Story.{AreImages, Chosen, EndsAt, Story, Tells, pass}
+use Rattle.world_model.specs.Story.{Chosen, EndsAt, MayChooseAt, Story, Tells, pass}
 use Rattle.world_run.specs.Passes.{Passes}
 
 tells_last : (s : Story) (ms : List Moment) (m : Moment) (u v : Story) → Tells s ms u → Passes u m v
     → Tells s (ms ++ m ∷ []) v
-tells_last s [] m u v t p = subst (λ x. (choice : Chosen) × (next : Story) × AreImages x choice m
+tells_last s [] m u v t p = subst (λ x. (choice : Chosen) × (next : Story) × MayChooseAt x choice m
     × (pass x choice m ≡ Ok next) × (v ≡ next)) t (p.0, v, p.1, p.2, refl)
 tells_last s (x ∷ ms) m u v t p = (t.0, t.1, t.2, t.3, tells_last t.1 ms m u v t.4 p)
 

@@ -6,9 +6,9 @@ use Rattle.server_core.specs.declared.server.Seat.{Seat}
 use Rattle.world_host.specs.declared.stops.Left.{Left}
 use Rattle.world_model.specs.declared.event.Event.{Event}
 use Rattle.world_model.specs.declared.event.Stop.{Stop}
-use Rattle.world_model.specs.World.{Refuses, limited}
+use Rattle.world_model.specs.World.{StopsFor, limited}
 use Rattle.world_model.specs.declared.moment.Moment.{Moment}
-use Rattle.world_model.specs.Story.{EndsAt, RefusesMoment, Tells, as_of, earlier, goes_on, is_session, within}
+use Rattle.world_model.specs.Story.{EndsAt, Tells, as_of, earlier, goes_on, is_session, within}
 use Rattle.world_run.specs.Passes.{Follows, HoldsBack, Passes, left_at, past_with, swapped}
 use Rattle.world_run.specs.Told.{left_epoch, seen_past, seen_pasts, told}
 use Rattle.world_run.specs.declared.past.Past.{Past}
@@ -26,7 +26,7 @@ module _ {X : Type 0} {V : X → Type 0} (content : Seat X V → Content) where
   GoesOn old e new = limited (seen content old) (goes_on (seen content old) e) ≡ Ok (seen content new)
 
   abbrev pub RefusesOn : State X V → Event → Stop → Type 0
-  RefusesOn old e stop = Refuses (limited (seen content old) (goes_on (seen content old) e)) stop
+  RefusesOn old e stop = StopsFor (limited (seen content old) (goes_on (seen content old) e)) stop
 
   -- a run that took the place of another
   abbrev pub TakesPlace : State X V → Past X V → State X V → Type 0
@@ -78,7 +78,7 @@ module _ {X : Type 0} {V : X → Type 0} (content : Seat X V → Content) where
 
   abbrev pub EndsThere : Runs X V → ℕ → Event → Stop → Type 0
   EndsThere old n e stop =
-      RefusesMoment
+      StopsFor
       (within (told content old) (earlier (told content old) e (find (is_session n) (told content old).past))) stop
 
   abbrev pub Swaps : Runs X V → ℕ → Runs X V → Type 0

@@ -4,21 +4,21 @@ use Rattle.std.specs.Prelude.{slice_set}
 use Rattle.message_values.specs.Found.{IsPlace, find}
 use Rattle.world_model.specs.declared.event.Event.{Event}
 use Rattle.world_model.specs.declared.event.Stop.{Stop}
-use Rattle.world_model.specs.World.{Choice, IsImage, World}
+use Rattle.world_model.specs.World.{Choice, MayChoose, StopsFor, World}
 use Rattle.world_model.specs.declared.moment.Moment.{Moment}
-use Rattle.world_model.specs.Story.{AreImages, Chosen, Epoch, RefusesMoment, Story, as_of, epoch_of, is_session, pass}
+use Rattle.world_model.specs.Story.{Chosen, Epoch, MayChooseAt, Story, as_of, epoch_of, is_session, pass}
 use Rattle.world_model.specs.Story.{present, within}
 
 -- a moment makes this of a story
 abbrev pub Passes : Story → Moment → Story → Type 0
-Passes s m after = (choice : Chosen) × AreImages s choice m × (pass s choice m ≡ Ok after)
+Passes s m after = (choice : Chosen) × MayChooseAt s choice m × (pass s choice m ≡ Ok after)
 
 -- an event of the present run does, or stops the story
 abbrev pub Follows : Story → Event → Story → Type 0
-Follows s e after = (choice : Choice) × IsImage s.now choice e × (within s (present s choice e) ≡ Ok after)
+Follows s e after = (choice : Choice) × MayChoose s.now choice e × (within s (present s choice e) ≡ Ok after)
 
 abbrev pub HoldsBack : Story → Event → Stop → Type 0
-HoldsBack s e stop = (choice : Choice) → RefusesMoment (within s (present s choice e)) stop
+HoldsBack s e stop = (choice : Choice) → StopsFor (within s (present s choice e)) stop
 
 -- what is left of a run, with a session of its own
 abbrev pub left_at : ℕ → World → Epoch

@@ -34,9 +34,9 @@ use Rattle.world_model.specs.declared.event.Event.TheVariants as event
 use Rattle.world_model.specs.declared.event.Stop.{Stop}
 use Rattle.world_model.specs.World.{World, Instance, messages_of, of_container, started_by, ended_by, joined, took}
 use Rattle.world_model.specs.World.{commanded, owners_by, delivered, taken_at, with_taken, server_of, deliver}
-use Rattle.world_model.specs.World.{forged_on, forged, forge, crashed, crash, ended, reap, kept_commit, done_taken}
-use Rattle.world_model.specs.World.{done_imaged, done_in, only_taken, resolved, happened, Choice, delivered_said}
-use Rattle.world_model.specs.World.{link_of, link_to, scribble, ask}
+use Rattle.world_model.specs.World.{forged_on, forged, forge, crashed, crash, ended, reap, kept_commit}
+use Rattle.world_model.specs.World.{only_taken, resolved, happened, Choice, delivered_said}
+use Rattle.world_model.specs.World.{link_of, link_to, scribble, ask, done_with}
 use Rattle.world_model.specs.Safe.{Among, IsHonest, is_hostile, links_of, acts_of, sayings, messages}
 use Rattle.world_facts.specs.Words.{life_at, lives_of, sayings_of}
 use Rattle.world_facts.specs.Shapes.{IsTold}
@@ -348,12 +348,12 @@ module _ (w : World) (k : Files w) (h : AgreesIn w) (f : ℕ) (frame : Frame) (a
 abbrev Keeps : Result Took ContainerFault → Type 0
 Keeps told = (t : Took) → told ≡ Ok t → Steady t.rec
 
-agrees_done_taken : (w : World) (f : ℕ) (bytes : List ℕ) (frame : Frame) (saved : FrameDocument)
+agrees_committed : (w : World) (f : ℕ) (bytes : List ℕ) (frame : Frame) (saved : FrameDocument)
     (told : Result Took ContainerFault) (v : World) → Files w → AgreesIn w → nth w.rec.frames f ≡ Some frame
     → image w.rec f ≡ Ok saved → IsCommitOf w.rec f frame told → Keeps told
-    → done_taken w f bytes frame saved told ≡ Ok v → AgreesIn v
-agrees_done_taken w f bytes frame saved (Err fault) v k h at im commits keeps e = cc
-agrees_done_taken w f bytes frame saved (Ok t) v k h at im commits keeps e =
+    → done_with w f bytes (Some frame) (Ok saved) told ≡ Ok v → AgreesIn v
+agrees_committed w f bytes frame saved (Err fault) v k h at im commits keeps e = cc
+agrees_committed w f bytes frame saved (Ok t) v k h at im commits keeps e =
     let r = w.rec in
     let c = commits t refl in
     let ps : frame_document frame (parts_in f r.objects) ≡ saved =
@@ -369,21 +369,14 @@ agrees_done_taken w f bytes frame saved (Ok t) v k h at im commits keeps e =
     subst (λ x. AgreesIn (joined (kept_commit w f frame saved x.counted bytes) x)) c.1 two in
     subst AgreesIn (ok_is _ v e) three
 
-agrees_imaged : (w : World) (f : ℕ) (bytes : List ℕ) (frame : Frame) (counted : Result Took ContainerFault)
-    (told : Result FrameDocument ContainerFault) (v : World) → Files w → AgreesIn w
-    → nth w.rec.frames f ≡ Some frame → image w.rec f ≡ told
-    → IsCommitOf w.rec f frame counted → Keeps counted → done_imaged w f bytes frame counted told ≡ Ok v → AgreesIn v
-agrees_imaged w f bytes frame counted (Err fault) v k h at im commits keeps e = cc
-agrees_imaged w f bytes frame counted (Ok saved) v k h at im commits keeps e =
-    agrees_done_taken w f bytes frame saved counted v k h at im commits keeps e
-
-agrees_done_in : (w : World) (f : ℕ) (bytes : List ℕ) (counted : Result Took ContainerFault) (frame : Option Frame)
-    (v : World) → Files w → AgreesIn w → nth w.rec.frames f ≡ frame
-    → ((x : Frame) → nth w.rec.frames f ≡ Some x → IsCommitOf w.rec f x counted) → Keeps counted
-    → done_in w f bytes counted frame ≡ Ok v → AgreesIn v
-agrees_done_in w f bytes counted None v k h at commits keeps e = cc
-agrees_done_in w f bytes counted (Some frame) v k h at commits keeps e =
-    agrees_imaged w f bytes frame counted (image w.rec f) v k h at refl (commits frame at) keeps e
+agrees_done : (w : World) (f : ℕ) (bytes : List ℕ) (frame : Option Frame) (told : Result FrameDocument ContainerFault)
+    (counted : Result Took ContainerFault) (v : World) → Files w → AgreesIn w → nth w.rec.frames f ≡ frame
+    → image w.rec f ≡ told → ((x : Frame) → nth w.rec.frames f ≡ Some x → IsCommitOf w.rec f x counted)
+    → Keeps counted → done_with w f bytes frame told counted ≡ Ok v → AgreesIn v
+agrees_done w f bytes None told counted v k h at im commits keeps e = cc
+agrees_done w f bytes (Some frame) (Err fault) counted v k h at im commits keeps e = cc
+agrees_done w f bytes (Some frame) (Ok saved) counted v k h at im commits keeps e =
+    agrees_committed w f bytes frame saved counted v k h at im (commits frame at) keeps e
 
 -- a commit that fails, and one in doubt that is resolved
 agrees_only : (w : World) (told : Result Took ContainerFault) (v : World)
@@ -402,8 +395,9 @@ agrees_dropped w f t h e = turned_joined w t [] h (on_input_keeps w.rec (Input.R
 
 agrees_resolved : (w : World) (f : ℕ) (is_kept : Bool) (bytes : List ℕ) (v : World) → Files w → AgreesIn w
     → resolved w f is_kept bytes ≡ Ok v → AgreesIn v
-agrees_resolved w f true bytes v k h e = agrees_done_in w f bytes (resolve w.rec f true) (nth w.rec.frames f) v k h
-    refl (λ x at. kept_commits w.rec f x at) (λ t q. on_input_keeps w.rec (Input.Resolved f true) t h.steady q) e
+agrees_resolved w f true bytes v k h e = agrees_done w f bytes (nth w.rec.frames f) (image w.rec f)
+    (resolve w.rec f true) v k h refl refl (λ x at. kept_commits w.rec f x at)
+    (λ t q. on_input_keeps w.rec (Input.Resolved f true) t h.steady q) e
 agrees_resolved w f false bytes v k h e = agrees_only w (resolve w.rec f false) v (λ t q. agrees_dropped w f t h q) e
 
 -- a file that is opened
@@ -427,8 +421,8 @@ agrees_happened w choice (event.Scribble s inc act) v k h e = agrees_scribble w 
     refl (in_run_ok w s (scribble w inc act (nth w.instances inc)) v e)
 agrees_happened w choice (event.Ask s inc act) v k h e = agrees_ask w inc act (nth w.instances inc) v h refl
     (in_run_ok w s (ask w inc act (nth w.instances inc)) v e)
-agrees_happened w choice (event.Done f) v k h e = agrees_done_in w f choice.file (commit_done w.rec f)
-    (nth w.rec.frames f) v k h refl (λ x at. done_commits w.rec f x at)
+agrees_happened w choice (event.Done f) v k h e = agrees_done w f choice.file (nth w.rec.frames f) (image w.rec f)
+    (commit_done w.rec f) v k h refl refl (λ x at. done_commits w.rec f x at)
     (λ t q. on_input_keeps w.rec (Input.Committed f) t h.steady q) e
 agrees_happened w choice (event.Fail f) v k h e = agrees_only w (commit_failed w.rec f) v
     (λ t q. agrees_failed w f t h q) e

@@ -39,9 +39,9 @@ use Rattle.world_model.specs.declared.logs.Taken.{Taken}
 use Rattle.world_model.specs.World.{World, Instance, messages_of, of_container, took, commanded, view_in, served, is_of}
 use Rattle.world_model.specs.World.{stocked, called_wanting, called_in, called, delivered, taken_link, taken_of}
 use Rattle.world_model.specs.World.{taken_by, taken_at, with_taken, server_of, deliver, forged_on, forged, forge}
-use Rattle.world_model.specs.World.{spoken_by, spoken, scribble, ask, crashed, crash, ended, reap, done_taken}
-use Rattle.world_model.specs.World.{done_imaged, done_in, only_taken, resolved, happened, Choice, delivered_said}
-use Rattle.world_model.specs.World.{in_session, link_of, link_to, taken_said}
+use Rattle.world_model.specs.World.{spoken_by, spoken, scribble, ask, crashed, crash, ended, reap}
+use Rattle.world_model.specs.World.{only_taken, resolved, happened, Choice, delivered_said}
+use Rattle.world_model.specs.World.{in_session, link_of, link_to, taken_said, done_with}
 use Rattle.world_model.specs.Safe.{Among, WasSent, link_at, links_of, acts_of, sayings, IsGranted, IsHonest, is_hostile}
 use Rattle.world_model.specs.Safe.{BringsBy, messages}
 use Rattle.world_facts.specs.Words.{lives_of}
@@ -180,21 +180,13 @@ grew_ask w inc act None v e = cc
 grew_ask w inc act (Some i) v e = grew_spoken w inc act i (server.ask_deactivate i.core act) i.life v e
 
 module _ (w : World) (f : ℕ) (bytes : List ℕ) where
-  grew_done_taken : (frame : Frame) (saved : FrameDocument) (told : Result Took ContainerFault) (v : World)
-      → done_taken w f bytes frame saved told ≡ Ok v → Grew w v
-  grew_done_taken frame saved (Err fault) v e = cc
-  grew_done_taken frame saved (Ok t) v e = subst (Grew w) (ok_is _ v e)
+  grew_done : (frame : Option Frame) (saved : Result FrameDocument ContainerFault)
+      (told : Result Took ContainerFault) (v : World) → done_with w f bytes frame saved told ≡ Ok v → Grew w v
+  grew_done None saved told v e = cc
+  grew_done (Some frame) (Err fault) told v e = cc
+  grew_done (Some frame) (Ok saved) (Err fault) v e = cc
+  grew_done (Some frame) (Ok saved) (Ok t) v e = subst (Grew w) (ok_is _ v e)
       (record { more = map of_container (messages_of t.answer.actions); sent = refl; taken = refl; hostile = refl })
-
-  grew_imaged : (frame : Frame) (counted : Result Took ContainerFault) (told : Result FrameDocument ContainerFault)
-      (v : World) → done_imaged w f bytes frame counted told ≡ Ok v → Grew w v
-  grew_imaged frame counted (Err fault) v e = cc
-  grew_imaged frame counted (Ok saved) v e = grew_done_taken frame saved counted v e
-
-  grew_done : (counted : Result Took ContainerFault) (frame : Option Frame) (v : World)
-      → done_in w f bytes counted frame ≡ Ok v → Grew w v
-  grew_done counted None v e = cc
-  grew_done counted (Some frame) v e = grew_imaged frame counted (image w.rec f) v e
 
 grew_only : (w : World) (told : Result Took ContainerFault) (v : World) → only_taken w told ≡ Ok v → Grew w v
 grew_only w (Err fault) v e = cc
@@ -203,7 +195,7 @@ grew_only w (Ok t) v e = subst (Grew w) (ok_is _ v e)
 
 grew_resolved : (w : World) (f : ℕ) (is_kept : Bool) (bytes : List ℕ) (v : World)
     → resolved w f is_kept bytes ≡ Ok v → Grew w v
-grew_resolved w f true bytes v e = grew_done w f bytes (resolve w.rec f true) (nth w.rec.frames f) v e
+grew_resolved w f true bytes v e = grew_done w f bytes (nth w.rec.frames f) (image w.rec f) (resolve w.rec f true) v e
 grew_resolved w f false bytes v e = grew_only w (resolve w.rec f false) v e
 
 -- what was granted stays so
@@ -561,7 +553,7 @@ granted_happened w choice (event.Ask s inc act) v k all h e =
     granted_grew w v (grew_ask w inc act (nth w.instances inc) v
     (in_run_ok w s (ask w inc act (nth w.instances inc)) v e)) h
 granted_happened w choice (event.Done f) v k all h e =
-    granted_grew w v (grew_done w f choice.file (commit_done w.rec f) (nth w.rec.frames f) v e) h
+    granted_grew w v (grew_done w f choice.file (nth w.rec.frames f) (image w.rec f) (commit_done w.rec f) v e) h
 granted_happened w choice (event.Fail f) v k all h e = granted_grew w v (grew_only w (commit_failed w.rec f) v e) h
 granted_happened w choice (event.Resolve f is_kept) v k all h e =
     granted_grew w v (grew_resolved w f is_kept choice.file v e) h

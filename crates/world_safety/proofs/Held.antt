@@ -14,7 +14,7 @@ use Rattle.message_values.specs.declared.operation.Operation.TheVariants.{SaveCo
 use Rattle.world_facts.specs.Words.{Issued, called, waits}
 use Rattle.world_facts.specs.Facts.{HasSaved}
 use Rattle.world_files.proofs.Kept.{empty_files, files_happened, limited_ok, commits_kept, images_make}
-use Rattle.world_files.specs.Files.{MakesImage}
+use Rattle.world_files.specs.Files.{MakesDocument}
 use Rattle.container_numbers.specs.Sessions.{IsOf}
 use Rattle.world_safety.specs.Holding.{AgreesIn, Holds, InOneSession}
 use Rattle.world_safety.proofs.Events.{agrees_happened, said_in_log}
@@ -145,7 +145,7 @@ empty_held numbers stock = record {
   taken_held = λ t h. absurd h;
 }
 
-pub held_happened : (w : World) (choice : Choice) (e : Event) (v : World) → Holds w → MakesImage w choice e
+pub held_happened : (w : World) (choice : Choice) (e : Event) (v : World) → Holds w → MakesDocument w choice e
     → happened w choice e ≡ Ok v → Holds v
 held_happened w choice e v h im ok =
     let agrees = agrees_happened w choice e v h.files h.agrees ok in

@@ -15,7 +15,8 @@ use Rattle.container_steady.specs.Made.{run_by}
 use Rattle.container_queues.specs.Steady.{Steady}
 use Rattle.world_model.specs.declared.life.Life.{Life}
 use Rattle.world_model.specs.declared.life.Life.TheVariants.{Running, Ended, Reaped}
-use Rattle.world_model.specs.World.{World, Instance, fresh, messages_of, of_container, started_by, end_of, ended_at}
+use Rattle.world_model.specs.World.{World, Instance, started_instance, messages_of, of_container, started_by, end_of}
+use Rattle.world_model.specs.World.{ended_at}
 use Rattle.world_model.specs.World.{ended_by, joined}
 use Rattle.world_model.specs.Safe.{links_of, act_at, acts_of, sayings}
 use Rattle.world_facts.specs.Words.{life_at, lives_of, sayings_of}
@@ -244,7 +245,7 @@ hosted is inc act a e = at (nth is inc) refl e
 -- a new server has no activations
 module _ (is : List Instance) (session numbers : ℕ) where
   abbrev new : Instance
-  new = fresh session numbers (length is + 1)
+  new = started_instance session numbers (length is + 1)
 
   found : (inc : ℕ) (life : Life) (i : Option Instance) → nth is inc ≡ i → life_at i ≡ Some life
       → (j : Instance) × (nth is inc ≡ Some j) × (j.life ≡ life)
@@ -276,9 +277,9 @@ module _ (is : List Instance) (session numbers : ℕ) where
 pub start_joined : (w : World) (t : Took) → AgreesIn w → Steady t.rec → start_made w.rec ≡ t → AgreesIn (joined w t)
 start_joined w t h keeps is =
     let r = w.rec in
-    let new = fresh r.session r.numbers (length r.servers + 1) in
-    let one : fresh r.session r.numbers (length w.instances + 1) ≡ new =
-    ap (λ n. fresh r.session r.numbers (n + 1)) (sym h.servers) in
+    let new = started_instance r.session r.numbers (length r.servers + 1) in
+    let one : started_instance r.session r.numbers (length w.instances + 1) ≡ new =
+    ap (λ n. started_instance r.session r.numbers (n + 1)) (sym h.servers) in
     let steady : Steady (start_made r).rec = subst (λ (v : Took). Steady v.rec) (sym is) keeps in
     let begins : StartsOrEnds (acts_of w.instances) (acts_of (w.instances ++ new ∷ [])) (lives_of w.instances)
     (lives_of (w.instances ++ new ∷ [])) =

@@ -37,11 +37,11 @@ use Rattle.world_model.specs.declared.life.Life.TheVariants.{Running, Ended, Rea
 use Rattle.world_model.specs.declared.logs.Sent.{Sent}
 use Rattle.world_model.specs.declared.logs.Taken.{Taken}
 use Rattle.world_model.specs.World.{World, Instance, called, called_in, called_wanting, commanded, crash, crashed}
-use Rattle.world_model.specs.World.{deliver, delivered, done_imaged, done_in, done_taken, empty_world, ended, forge}
+use Rattle.world_model.specs.World.{deliver, delivered, empty_world, ended, forge}
 use Rattle.world_model.specs.World.{forged, forged_on, happened, is_of, joined, kept_commit, messages_of, only_taken}
 use Rattle.world_model.specs.World.{reap, resolved, served, server_of, spoken, spoken_by, scribble, ask, started_by}
 use Rattle.world_model.specs.World.{stocked, taken_at, took, view_in, with_taken, Choice, in_session, delivered_said}
-use Rattle.world_model.specs.World.{link_of, link_to}
+use Rattle.world_model.specs.World.{link_of, link_to, done_with}
 use Rattle.world_model.specs.Safe.{Among, IsHonest, IsWithin, WasSent, acts_of, links_of, sayings, IsSaidWithin}
 use Rattle.world_model.specs.Safe.{messages}
 use Rattle.world_facts.specs.Words.{called as was_called, life_at, lives_of, sayings_of}
@@ -357,31 +357,18 @@ module _ (limit : ℕ) (w : World) (h : AgreesIn w) (k : Numbers limit w) where
 
   -- commits
   module _ (files : Files w) (f : ℕ) (bytes : List ℕ) where
-    committed_follows : (frame : Frame) (saved : FrameDocument) (told : Result Took ContainerFault) (v : World)
-        → nth w.rec.frames f ≡ Some frame → IsCommitOf w.rec f frame told
-        → ((t : Took) → told ≡ Ok t → IsNumbered limit t.rec) → done_taken w f bytes frame saved told ≡ Ok v
+    done_follows : (frame : Option Frame) (saved : Result FrameDocument ContainerFault)
+        (told : Result Took ContainerFault) (v : World) → nth w.rec.frames f ≡ frame
+        → ((x : Frame) → nth w.rec.frames f ≡ Some x → IsCommitOf w.rec f x told)
+        → ((t : Took) → told ≡ Ok t → IsNumbered limit t.rec) → done_with w f bytes frame saved told ≡ Ok v
         → Follow limit v
-    committed_follows frame saved (Err fault) v at commits numbered e = cc
-    committed_follows frame saved (Ok t) v at commits numbered e =
+    done_follows None saved told v at commits numbered e = cc
+    done_follows (Some frame) (Err fault) told v at commits numbered e = cc
+    done_follows (Some frame) (Ok saved) (Err fault) v at commits numbered e = cc
+    done_follows (Some frame) (Ok saved) (Ok t) v at commits numbered e =
         let u : World = kept_commit w f frame saved t.counted bytes in
         subst (Follow limit) (ok_is _ v e) (joined_follows limit u t (stays limit w u refl refl refl k)
-        (commit_taken limit w h k f frame (Ok t) t files at commits (numbered t refl) refl))
-
-    imaged_follows : (frame : Frame) (counted : Result Took ContainerFault)
-        (told : Result FrameDocument ContainerFault) (v : World) → nth w.rec.frames f ≡ Some frame
-        → IsCommitOf w.rec f frame counted → ((t : Took) → counted ≡ Ok t → IsNumbered limit t.rec)
-        → done_imaged w f bytes frame counted told ≡ Ok v → Follow limit v
-    imaged_follows frame counted (Err fault) v at commits numbered e = cc
-    imaged_follows frame counted (Ok saved) v at commits numbered e =
-        committed_follows frame saved counted v at commits numbered e
-
-    done_follows : (counted : Result Took ContainerFault) (frame : Option Frame) (v : World)
-        → nth w.rec.frames f ≡ frame → ((x : Frame) → nth w.rec.frames f ≡ Some x → IsCommitOf w.rec f x counted)
-        → ((t : Took) → counted ≡ Ok t → IsNumbered limit t.rec) → done_in w f bytes counted frame ≡ Ok v
-        → Follow limit v
-    done_follows counted None v at commits numbered e = cc
-    done_follows counted (Some frame) v at commits numbered e = imaged_follows frame counted (image w.rec f) v at
-        (commits frame at) numbered e
+        (commit_taken limit w h k f frame (Ok t) t files at (commits frame at) (numbered t refl) refl))
 
   only_follows : (told : Result Took ContainerFault) (v : World) → ((t : Took) → told ≡ Ok t → IsTaken limit t)
       → only_taken w told ≡ Ok v → Follow limit v
@@ -390,8 +377,8 @@ module _ (limit : ℕ) (w : World) (h : AgreesIn w) (k : Numbers limit w) where
 
   resolved_follows : (files : Files w) (f : ℕ) (is_kept : Bool) (bytes : List ℕ) (v : World)
       → resolved w f is_kept bytes ≡ Ok v → Follow limit v
-  resolved_follows files f true bytes v e = done_follows files f bytes (resolve w.rec f true) (nth w.rec.frames f) v
-      refl (λ x at. kept_commits w.rec f x at)
+  resolved_follows files f true bytes v e = done_follows files f bytes (nth w.rec.frames f) (image w.rec f)
+      (resolve w.rec f true) v refl (λ x at. kept_commits w.rec f x at)
       (λ t q. numbers_after limit w.rec (Input.Resolved f true) t h.steady k.recorded q) e
   resolved_follows files f false bytes v e = only_follows (resolve w.rec f false) v
       (λ t q. dropped_taken limit w h k f t q) e
@@ -408,8 +395,8 @@ module _ (limit : ℕ) (w : World) (h : AgreesIn w) (k : Numbers limit w) where
       (in_run_ok w s (scribble w inc act (nth w.instances inc)) v e)
   follows choice (event.Ask s inc act) v files e = ask_follows inc act (nth w.instances inc) v refl
       (in_run_ok w s (ask w inc act (nth w.instances inc)) v e)
-  follows choice (event.Done f) v files e = done_follows files f choice.file (commit_done w.rec f)
-      (nth w.rec.frames f) v refl (λ x at. done_commits w.rec f x at)
+  follows choice (event.Done f) v files e = done_follows files f choice.file (nth w.rec.frames f) (image w.rec f)
+      (commit_done w.rec f) v refl (λ x at. done_commits w.rec f x at)
       (λ t q. numbers_after limit w.rec (Input.Committed f) t h.steady k.recorded q) e
   follows choice (event.Fail f) v files e = only_follows (commit_failed w.rec f) v
       (λ t q. failed_taken limit w h k f t q) e

@@ -42,11 +42,11 @@ use Rattle.world_model.specs.declared.life.Life.TheVariants.{Running, Ended, Rea
 use Rattle.world_model.specs.declared.logs.Sent.{Sent}
 use Rattle.world_model.specs.declared.logs.Taken.{Taken}
 use Rattle.world_model.specs.World.{World, Instance, Choice, ask, called, called_in, called_wanting, commanded, crash}
-use Rattle.world_model.specs.World.{crashed, deliver, delivered, delivered_said, done_imaged, done_in, done_taken}
-use Rattle.world_model.specs.World.{empty_world, end_of, ended, ended_at, ended_by, forge, forged, forged_on, fresh}
+use Rattle.world_model.specs.World.{crashed, deliver, delivered, delivered_said}
+use Rattle.world_model.specs.World.{empty_world, end_of, ended, ended_at, ended_by, forge, forged, forged_on}
 use Rattle.world_model.specs.World.{happened, in_session, is_of, joined, link_of, link_to, messages_of, of_container}
 use Rattle.world_model.specs.World.{only_taken, reap, resolved, scribble, served, spoken, spoken_by, started_by}
-use Rattle.world_model.specs.World.{stocked, taken_at, took, view_in, with_taken}
+use Rattle.world_model.specs.World.{stocked, taken_at, took, view_in, with_taken, done_with}
 use Rattle.world_model.specs.Safe.{Among, WasSent, messages}
 use Rattle.world_facts.proofs.Lookups.{among_join, among_mapped, nth_one, nth_old}
 use Rattle.world_steps.proofs.Instances.{nth_same, nth_other}
@@ -398,26 +398,18 @@ ask_in w inc act (Some i) v h at e = spoken_in w inc act i i.life (server.ask_de
     (λ t. asking_is i.core act t) e
 
 module _ (w : World) (f : ℕ) (bytes : List ℕ) (h : InOneSession w) (x : Input) where
-  done_taken_in : (frame : Frame) (saved : FrameDocument) (told : Result Took ContainerFault) (v : World)
-      → on_input w.rec x ≡ told → done_taken w f bytes frame saved told ≡ Ok v → InOneSession v
-  done_taken_in frame saved (Err fault) v q e = cc
-  done_taken_in frame saved (Ok t) v q e = (let k = took_in w x t (sessions_stay w.rec x t h.holds q) h in
+  done_at : (frame : Option Frame) (saved : Result FrameDocument ContainerFault) (told : Result Took ContainerFault)
+      (v : World) → on_input w.rec x ≡ told → done_with w f bytes frame saved told ≡ Ok v → InOneSession v
+  done_at None saved told v q e = cc
+  done_at (Some frame) (Err fault) told v q e = cc
+  done_at (Some frame) (Ok saved) (Err fault) v q e = cc
+  done_at (Some frame) (Ok saved) (Ok t) v q e = (let k = took_in w x t (sessions_stay w.rec x t h.holds q) h in
       subst InOneSession (ok_is _ v e) (record { holds = k.holds; sent = k.sent; servers = k.servers }))
-
-  imaged_in : (frame : Frame) (counted : Result Took ContainerFault) (told : Result FrameDocument ContainerFault)
-      (v : World) → on_input w.rec x ≡ counted → done_imaged w f bytes frame counted told ≡ Ok v → InOneSession v
-  imaged_in frame counted (Err fault) v q e = cc
-  imaged_in frame counted (Ok saved) v q e = done_taken_in frame saved counted v q e
-
-  done_at : (counted : Result Took ContainerFault) (frame : Option Frame) (v : World) → on_input w.rec x ≡ counted
-      → done_in w f bytes counted frame ≡ Ok v → InOneSession v
-  done_at counted None v q e = cc
-  done_at counted (Some frame) v q e = imaged_in frame counted (image w.rec f) v q e
 
 resolved_in : (w : World) (f : ℕ) (is_kept : Bool) (bytes : List ℕ) (v : World) → InOneSession w
     → resolved w f is_kept bytes ≡ Ok v → InOneSession v
-resolved_in w f true bytes v h e = done_at w f bytes h (Input.Resolved f true) (resolve w.rec f true)
-    (nth w.rec.frames f) v refl e
+resolved_in w f true bytes v h e = done_at w f bytes h (Input.Resolved f true) (nth w.rec.frames f) (image w.rec f)
+    (resolve w.rec f true) v refl e
 resolved_in w f false bytes v h e = only_in w (Input.Resolved f false) (resolve w.rec f false) v h refl e
 
 pub session_happened : (w : World) (choice : Choice) (e : Event) (v : World) → InOneSession w
@@ -433,8 +425,8 @@ session_happened w choice (event.Scribble s inc act) v h e = scribble_in w inc a
     (in_run_ok w s (scribble w inc act (nth w.instances inc)) v e)
 session_happened w choice (event.Ask s inc act) v h e = ask_in w inc act (nth w.instances inc) v h refl
     (in_run_ok w s (ask w inc act (nth w.instances inc)) v e)
-session_happened w choice (event.Done f) v h e = done_at w f choice.file h (Input.Committed f) (commit_done w.rec f)
-    (nth w.rec.frames f) v refl e
+session_happened w choice (event.Done f) v h e = done_at w f choice.file h (Input.Committed f)
+    (nth w.rec.frames f) (image w.rec f) (commit_done w.rec f) v refl e
 session_happened w choice (event.Fail f) v h e = only_in w (Input.Failed f) (commit_failed w.rec f) v h refl e
 session_happened w choice (event.Resolve f is_kept) v h e = resolved_in w f is_kept choice.file v h e
 session_happened w choice (event.Open name x y) v h e = subst InOneSession (ok_is _ v e)

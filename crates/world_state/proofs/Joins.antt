@@ -19,9 +19,10 @@ use Rattle.world_model.specs.declared.event.Stop.{Stop}
 use Rattle.world_model.specs.declared.life.Life.{Life}
 use Rattle.world_model.specs.declared.life.Life.TheVariants.{Ended, Reaped}
 use Rattle.world_model.specs.declared.event.Stop.TheVariants.{EventLimit}
-use Rattle.world_model.specs.World.{World, Instance, joined, took, commanded, started_by, ended, ended_by, fresh}
-use Rattle.world_model.specs.World.{limited, reap, done, done_in, done_imaged, done_taken, kept_commit, only_taken}
-use Rattle.world_model.specs.World.{resolved, MOST_EVENTS, link_to}
+use Rattle.world_model.specs.World.{World, Instance, joined, took, commanded, started_by, ended, ended_by}
+use Rattle.world_model.specs.World.{started_instance}
+use Rattle.world_model.specs.World.{limited, reap, done, kept_commit, only_taken}
+use Rattle.world_model.specs.World.{resolved, MOST_EVENTS, link_to, done_with}
 use Rattle.world_host.specs.Logging.{heard, heard_as, forged, forged_as, brought}
 use Rattle.world_host.specs.Servers.{ends_by, ends_in, ends_of}
 use Rattle.world_host.specs.View.{started}
@@ -36,7 +37,7 @@ use Rattle.container_model.specs.declared.server_link.ServerLink.{ServerLink}
 abbrev pub finished : World → World → List ℕ → List ℕ → World
 finished w b ends starts =
     record b {
-      instances = ends_by ends w.instances ++ map (fresh b.rec.session b.rec.numbers) starts;
+      instances = ends_by ends w.instances ++ map (started_instance b.rec.session b.rec.numbers) starts;
       stock = w.stock;
     }
 
@@ -108,30 +109,16 @@ limit_lifted w b u t true ends starts i s h e = cc
 limit_lifted w b u t false ends starts i s h e =
     ap Ok (took_lifted u b (Ok t) ends starts (ok_is _ _ h) e ∙ rw (i, s) refl)
 
-taken_lifted : (w b : World) (f : ℕ) (bytes : List ℕ) (frame : Frame) (saved : FrameDocument)
-    (told : Result Took ContainerFault) (ends starts : List ℕ)
-    → limited (emptied w) (done_taken (emptied w) f bytes frame saved told) ≡ Ok (started b starts)
-    → ends ≡ ends_in told → limited w (done_taken w f bytes frame saved told) ≡ Ok (finished w b ends starts)
-taken_lifted w b f bytes frame saved (Err fault) ends starts h e = cc
-taken_lifted w b f bytes frame saved (Ok t) ends starts h e =
+with_lifted : (w b : World) (f : ℕ) (bytes : List ℕ) (frame : Option Frame)
+    (saved : Result FrameDocument ContainerFault) (told : Result Took ContainerFault) (ends starts : List ℕ)
+    → limited (emptied w) (done_with (emptied w) f bytes frame saved told) ≡ Ok (started b starts)
+    → ends ≡ ends_in told → limited w (done_with w f bytes frame saved told) ≡ Ok (finished w b ends starts)
+with_lifted w b f bytes None saved told ends starts h e = cc
+with_lifted w b f bytes (Some frame) (Err fault) told ends starts h e = cc
+with_lifted w b f bytes (Some frame) (Ok saved) (Err fault) ends starts h e = cc
+with_lifted w b f bytes (Some frame) (Ok saved) (Ok t) ends starts h e =
     limit_lifted w b (kept_commit w f frame saved t.counted bytes) t (nat_le MOST_EVENTS (length w.answers)) ends
     starts refl refl h e
-
-imaged_lifted : (w b : World) (f : ℕ) (bytes : List ℕ) (frame : Frame) (told : Result Took ContainerFault)
-    (saved : Result FrameDocument ContainerFault) (ends starts : List ℕ)
-    → limited (emptied w) (done_imaged (emptied w) f bytes frame told saved) ≡ Ok (started b starts)
-    → ends ≡ ends_in told → limited w (done_imaged w f bytes frame told saved) ≡ Ok (finished w b ends starts)
-imaged_lifted w b f bytes frame told (Err fault) ends starts h e = cc
-imaged_lifted w b f bytes frame told (Ok saved) ends starts h e =
-    taken_lifted w b f bytes frame saved told ends starts h e
-
-in_lifted : (w b : World) (f : ℕ) (bytes : List ℕ) (told : Result Took ContainerFault) (frame : Option Frame)
-    (ends starts : List ℕ)
-    → limited (emptied w) (done_in (emptied w) f bytes told frame) ≡ Ok (started b starts) → ends ≡ ends_in told
-    → limited w (done_in w f bytes told frame) ≡ Ok (finished w b ends starts)
-in_lifted w b f bytes told None ends starts h e = cc
-in_lifted w b f bytes told (Some frame) ends starts h e = imaged_lifted w b f bytes frame told (image w.rec f) ends
-    starts h e
 
 only_lifted : (w b : World) (told : Result Took ContainerFault) (ends starts : List ℕ)
     → limited (emptied w) (only_taken (emptied w) told) ≡ Ok (started b starts) → ends ≡ ends_in told
@@ -174,7 +161,7 @@ reap_some : (w b m v : World) (inc : ℕ) (life : Life) (z : Instance) (ends sta
     → nth w.instances inc ≡ Some z → z.life ≡ Ended → nat_le MOST_EVENTS (length w.answers) ≡ false
     → took (emptied w) (on_reap w.rec inc) ≡ started b starts → ends ≡ ends_in (on_reap w.rec inc)
     → m ≡ record b { instances = set_nth w.instances inc (record z { life = Reaped }); stock = w.stock }
-    → v ≡ record m { instances = ends_by ends m.instances ++ map (fresh m.rec.session m.rec.numbers) starts }
+    → v ≡ record m { instances = ends_by ends m.instances ++ map (started_instance m.rec.session m.rec.numbers) starts }
     → limited w (reap w inc (nth w.instances inc)) ≡ Ok v
 reap_some w b m v inc life z ends starts e r room h en em ev =
     let u : World = record w { instances = set_nth w.instances inc (record z { life = Reaped }) } in
@@ -185,7 +172,7 @@ reap_some w b m v inc life z ends starts e r room h en em ev =
     (ev
     ∙ ap (λ (x : World). record x {
       instances = ends_by ends x.instances
-          ++ map (fresh x.rec.session x.rec.numbers) starts;
+          ++ map (started_instance x.rec.session x.rec.numbers) starts;
     }) em))))
 
 pub reap_taken : (w b m v : World) (inc : ℕ) (life : Life) (o : Option Instance) (ends starts : List ℕ)
@@ -197,7 +184,7 @@ pub reap_taken : (w b m v : World) (inc : ℕ) (life : Life) (o : Option Instanc
       stock = w.stock;
     }) → v ≡ record m {
       instances = ends_by ends m.instances
-          ++ map (fresh m.rec.session m.rec.numbers) starts;
+          ++ map (started_instance m.rec.session m.rec.numbers) starts;
     }
     → limited w (reap w inc (nth w.instances inc)) ≡ Ok v
 reap_taken w b m v inc life None ends starts e is i l room h en em ev = cc
@@ -207,15 +194,15 @@ reap_taken w b m v inc life (Some z) ends starts e is i l room h en em ev =
 pub done_taken_all : (w b v : World) (f : ℕ) (bytes : List ℕ) (ends starts : List ℕ)
     → limited (emptied w) (done (emptied w) f bytes) ≡ Ok (started b starts) → ends ≡ ends_in (commit_done w.rec f)
     → v ≡ finished w b ends starts → limited w (done w f bytes) ≡ Ok v
-done_taken_all w b v f bytes ends starts h e is = in_lifted w b f bytes (commit_done w.rec f) (nth w.rec.frames f)
-    ends starts h e ∙ ap Ok (sym is)
+done_taken_all w b v f bytes ends starts h e is = with_lifted w b f bytes (nth w.rec.frames f) (image w.rec f)
+    (commit_done w.rec f) ends starts h e ∙ ap Ok (sym is)
 
 pub kept_taken_all : (w b v : World) (f : ℕ) (bytes : List ℕ) (ends starts : List ℕ)
     → limited (emptied w) (resolved (emptied w) f true bytes) ≡ Ok (started b starts)
     → ends ≡ ends_in (resolve w.rec f true)
     → v ≡ finished w b ends starts → limited w (resolved w f true bytes) ≡ Ok v
-kept_taken_all w b v f bytes ends starts h e is = in_lifted w b f bytes (resolve w.rec f true) (nth w.rec.frames f)
-    ends starts h e ∙ ap Ok (sym is)
+kept_taken_all w b v f bytes ends starts h e is = with_lifted w b f bytes (nth w.rec.frames f) (image w.rec f)
+    (resolve w.rec f true) ends starts h e ∙ ap Ok (sym is)
 
 pub only_taken_all : (w b v : World) (told : Result Took ContainerFault) (ends starts : List ℕ)
     → limited (emptied w) (only_taken (emptied w) told) ≡ Ok (started b starts) → ends ≡ ends_in told

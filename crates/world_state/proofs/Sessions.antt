@@ -3,7 +3,7 @@
 use Rattle.std.proofs.Common.{◌≡◌, ◌==◌, ℕ, true, false, Result, Ok, Err, IfErr, OnOk, ap, sym, subst}
 use Rattle.world_model.specs.declared.event.Stop.{Stop}
 use Rattle.world_model.specs.declared.event.Stop.TheVariants.{NotEnabled}
-use Rattle.world_model.specs.World.{World, Refuses, in_run, limited}
+use Rattle.world_model.specs.World.{World, StopsFor, in_run, limited}
 use Rattle.world_model.proofs.InRun.{in_run_here, in_run_none}
 
 pub taken_here : {T : Type 0} (w v : World) (s : ℕ) (r : Result World Stop) (result : Result T Stop)
@@ -11,9 +11,9 @@ pub taken_here : {T : Type 0} (w v : World) (s : ℕ) (r : Result World Stop) (r
 taken_here w v s r result here h = subst (λ x. OnOk result (limited w x ≡ Ok v)) (sym (in_run_here w s r here)) h
 
 pub refused_here : {T : Type 0} (w : World) (s : ℕ) (r : Result World Stop) (result : Result T Stop)
-    → (s == w.rec.session) ≡ true → IfErr result (Refuses (limited w r))
-    → IfErr result (Refuses (limited w (in_run w s r)))
-refused_here w s r result here h = subst (λ x. IfErr result (Refuses (limited w x))) (sym (in_run_here w s r here)) h
+    → (s == w.rec.session) ≡ true → IfErr result (StopsFor (limited w r))
+    → IfErr result (StopsFor (limited w (in_run w s r)))
+refused_here w s r result here h = subst (λ x. IfErr result (StopsFor (limited w x))) (sym (in_run_here w s r here)) h
 
 pub elsewhere : (w : World) (s : ℕ) (r : Result World Stop) → (s == w.rec.session) ≡ false
     → limited w (in_run w s r) ≡ Err NotEnabled

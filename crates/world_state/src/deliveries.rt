@@ -7,7 +7,7 @@ ghost use Rattle.object_core.specs.Kinds.{kind_of};
 ghost use Rattle.world_state.specs.declared.plan.Plan.TheVariants as plan;
 ghost use Rattle.world_state.specs.Plans.{Fits, IsCallOf, carried, carry, carry_call, stock_with};
 ghost use Rattle.world_state.specs.View.{seen, seen_stocked};
-ghost use Rattle.world_model.specs.World.{Refuses, delivered, step, no_choice};
+ghost use Rattle.world_model.specs.World.{StopsFor, delivered, step, no_choice};
 ghost use Rattle.world_model.specs.declared.event.Event.TheVariants as event;
 
 use crate::instance::Stocked;
@@ -40,7 +40,7 @@ impl State {
         ensures taken { OnOk result (carry_call (seen (λ s. content s.boxed) self.old) session inc act n operation
             (plan.Serve i) ≡ Ok (seen (λ s. content s.boxed) self.new)) }
         ensures refused { IfErr result
-            (Refuses (carry_call (seen (λ s. content s.boxed) self.old) session inc act n operation
+            (StopsFor (carry_call (seen (λ s. content s.boxed) self.old) session inc act n operation
             (plan.Serve i))) }
         ensures kept { OnErr result (seen (λ s. content s.boxed) self.new ≡ seen (λ s. content s.boxed) self.old) }
     {
@@ -112,7 +112,7 @@ impl State {
         ensures taken { OnOk result (carry_call (seen (λ s. content s.boxed) self.old) session inc act n operation
             (plan.Begin i at) ≡ Ok (seen (λ s. content s.boxed) self.new)) }
         ensures refused { IfErr result
-            (Refuses (carry_call (seen (λ s. content s.boxed) self.old) session inc act n operation
+            (StopsFor (carry_call (seen (λ s. content s.boxed) self.old) session inc act n operation
             (plan.Begin i at))) }
         ensures kept { OnErr result (seen (λ s. content s.boxed) self.new ≡ seen (λ s. content s.boxed) self.old) }
     {
@@ -198,7 +198,7 @@ impl State {
         requires { Fits (seen (λ s. content s.boxed) self.old) message plan }
         ensures taken { OnOk result (carry (seen (λ s. content s.boxed) self.old) p message plan
             ≡ Ok (seen (λ s. content s.boxed) self.new)) }
-        ensures refused { IfErr result (Refuses (carry (seen (λ s. content s.boxed) self.old) p message plan)) }
+        ensures refused { IfErr result (StopsFor (carry (seen (λ s. content s.boxed) self.old) p message plan)) }
         ensures kept { OnErr result (seen (λ s. content s.boxed) self.new ≡ seen (λ s. content s.boxed) self.old) }
     {
         let Message { session, said } = message;
@@ -278,7 +278,7 @@ impl State {
         ensures taken { OnOk result (step (seen (λ s. content s.boxed) self.old) no_choice (event.Deliver p)
             ≡ Ok (seen (λ s. content s.boxed) self.new)) }
         ensures refused { IfErr result
-            (Refuses (step (seen (λ s. content s.boxed) self.old) no_choice (event.Deliver p))) }
+            (StopsFor (step (seen (λ s. content s.boxed) self.old) no_choice (event.Deliver p))) }
         ensures kept { OnErr result (seen (λ s. content s.boxed) self.new ≡ seen (λ s. content s.boxed) self.old) }
     {
         let Some(i) = place(&self.host.sent, p) else {

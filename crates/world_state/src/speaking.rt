@@ -5,7 +5,7 @@ ghost use Rattle.container_model.specs.Numbered.{IsNth};
 ghost use Rattle.message_values.specs.Found.{nth};
 ghost use Rattle.world_state.specs.Plans.{asking, scribbling};
 ghost use Rattle.world_state.specs.View.{seen};
-ghost use Rattle.world_model.specs.World.{Refuses, ask, limited, scribble, step, no_choice};
+ghost use Rattle.world_model.specs.World.{StopsFor, ask, limited, scribble, step, no_choice};
 ghost use Rattle.world_model.specs.declared.event.Event.TheVariants as event;
 
 use crate::state::State;
@@ -24,7 +24,7 @@ impl State {
             (slice_get (seen (λ s. content s.boxed) self.old).instances i))
             ≡ Ok (seen (λ s. content s.boxed) self.new)) }
         ensures refused { IfErr result
-            (Refuses (limited (seen (λ s. content s.boxed) self.old)
+            (StopsFor (limited (seen (λ s. content s.boxed) self.old)
             (scribbling (seen (λ s. content s.boxed) self.old) inc act
             (slice_get (seen (λ s. content s.boxed) self.old).instances i)))) }
         ensures kept { OnErr result (seen (λ s. content s.boxed) self.new ≡ seen (λ s. content s.boxed) self.old) }
@@ -58,7 +58,7 @@ impl State {
             (nth (seen (λ s. content s.boxed) self.old).instances inc))
             ≡ Ok (seen (λ s. content s.boxed) self.new)) }
         ensures refused { IfErr result
-            (Refuses (limited (seen (λ s. content s.boxed) self.old)
+            (StopsFor (limited (seen (λ s. content s.boxed) self.old)
             (scribble (seen (λ s. content s.boxed) self.old) inc act
             (nth (seen (λ s. content s.boxed) self.old).instances inc)))) }
         ensures kept { OnErr result (seen (λ s. content s.boxed) self.new ≡ seen (λ s. content s.boxed) self.old) }
@@ -84,7 +84,7 @@ impl State {
         ensures taken { OnOk result (step (seen (λ s. content s.boxed) self.old) no_choice
             (event.Scribble session inc act) ≡ Ok (seen (λ s. content s.boxed) self.new)) }
         ensures refused { IfErr result
-            (Refuses (step (seen (λ s. content s.boxed) self.old) no_choice (event.Scribble session inc act))) }
+            (StopsFor (step (seen (λ s. content s.boxed) self.old) no_choice (event.Scribble session inc act))) }
         ensures kept { OnErr result (seen (λ s. content s.boxed) self.new ≡ seen (λ s. content s.boxed) self.old) }
     {
         if !self.is_in(session) {
@@ -101,7 +101,7 @@ impl State {
             (slice_get (seen (λ s. content s.boxed) self.old).instances i))
             ≡ Ok (seen (λ s. content s.boxed) self.new)) }
         ensures refused { IfErr result
-            (Refuses (limited (seen (λ s. content s.boxed) self.old)
+            (StopsFor (limited (seen (λ s. content s.boxed) self.old)
             (asking (seen (λ s. content s.boxed) self.old) inc act
             (slice_get (seen (λ s. content s.boxed) self.old).instances i)))) }
         ensures kept { OnErr result (seen (λ s. content s.boxed) self.new ≡ seen (λ s. content s.boxed) self.old) }
@@ -132,7 +132,7 @@ impl State {
             (nth (seen (λ s. content s.boxed) self.old).instances inc))
             ≡ Ok (seen (λ s. content s.boxed) self.new)) }
         ensures refused { IfErr result
-            (Refuses (limited (seen (λ s. content s.boxed) self.old)
+            (StopsFor (limited (seen (λ s. content s.boxed) self.old)
             (ask (seen (λ s. content s.boxed) self.old) inc act
             (nth (seen (λ s. content s.boxed) self.old).instances inc)))) }
         ensures kept { OnErr result (seen (λ s. content s.boxed) self.new ≡ seen (λ s. content s.boxed) self.old) }
@@ -158,7 +158,7 @@ impl State {
         ensures taken { OnOk result (step (seen (λ s. content s.boxed) self.old) no_choice
             (event.Ask session inc act) ≡ Ok (seen (λ s. content s.boxed) self.new)) }
         ensures refused { IfErr result
-            (Refuses (step (seen (λ s. content s.boxed) self.old) no_choice (event.Ask session inc act))) }
+            (StopsFor (step (seen (λ s. content s.boxed) self.old) no_choice (event.Ask session inc act))) }
         ensures kept { OnErr result (seen (λ s. content s.boxed) self.new ≡ seen (λ s. content s.boxed) self.old) }
     {
         if !self.is_in(session) {

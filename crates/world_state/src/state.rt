@@ -10,7 +10,8 @@ ghost use Rattle.world_host.specs.Servers.{ends_by};
 ghost use Rattle.world_state.specs.Lives.{Lives};
 ghost use Rattle.world_state.specs.Plans.{forging, tell};
 ghost use Rattle.world_state.specs.View.{seen, seen_instance, seen_stocked};
-ghost use Rattle.world_model.specs.World.{IsImage, Refuses, crash, limited, StopsAt, empty_world, ended_at, fresh};
+ghost use Rattle.world_model.specs.World.{MayChoose, StopsFor, crash, limited, StopsAt, empty_world, ended_at};
+ghost use Rattle.world_model.specs.World.{started_instance};
 ghost use Rattle.world_model.specs.World.{step, view_in, no_choice, Choice};
 ghost use Rattle.world_model.specs.declared.event.Event.TheVariants as event;
 
@@ -63,7 +64,7 @@ impl State {
             ≡ record (seen (λ s. content s.boxed) self.old) {
               instances =
                   map (seen_instance (λ s. content s.boxed)) self.old.instances.items
-                  ++ map (fresh self.old.host.core.session self.old.host.core.numbers) starts.items;
+                  ++ map (started_instance self.old.host.core.session self.old.host.core.numbers) starts.items;
             } }
     {
         let session = self.host.core.session();
@@ -87,7 +88,7 @@ impl State {
             ≡ record (seen (λ s. content s.boxed) self.old) {
               instances =
                   ends_by servers.ends.items (seen (λ s. content s.boxed) self.old).instances
-                  ++ map (fresh self.old.host.core.session self.old.host.core.numbers) servers.starts.items;
+                  ++ map (started_instance self.old.host.core.session self.old.host.core.numbers) servers.starts.items;
             } }
     {
         let Servers { ends, starts } = servers;
@@ -100,7 +101,7 @@ impl State {
         ensures taken { OnOk result (step (seen (λ s. content s.boxed) self.old) no_choice
             (event.Command command.now) ≡ Ok (seen (λ s. content s.boxed) self.new)) }
         ensures refused { IfErr result
-            (Refuses (step (seen (λ s. content s.boxed) self.old) no_choice (event.Command command.now))) }
+            (StopsFor (step (seen (λ s. content s.boxed) self.old) no_choice (event.Command command.now))) }
         ensures kept { OnErr result (seen (λ s. content s.boxed) self.new ≡ seen (λ s. content s.boxed) self.old) }
     {
         self.host.open()?;
@@ -126,7 +127,7 @@ impl State {
     ) -> Result<(), Stop>
         ensures taken { OnOk result (tell (seen (λ s. content s.boxed) self.old) p link message
             ≡ Ok (seen (λ s. content s.boxed) self.new)) }
-        ensures refused { IfErr result (Refuses (tell (seen (λ s. content s.boxed) self.old) p link message)) }
+        ensures refused { IfErr result (StopsFor (tell (seen (λ s. content s.boxed) self.old) p link message)) }
         ensures kept { OnErr result (seen (λ s. content s.boxed) self.new ≡ seen (λ s. content s.boxed) self.old) }
     {
         self.host.open()?;
@@ -146,7 +147,7 @@ impl State {
     fn forge_on(&mut self, alloc: Global, inc: u32, message: &Message) -> Result<(), Stop>
         ensures taken { OnOk result (forging (seen (λ s. content s.boxed) self.old) inc message.now
             ≡ Ok (seen (λ s. content s.boxed) self.new)) }
-        ensures refused { IfErr result (Refuses (forging (seen (λ s. content s.boxed) self.old) inc message.now)) }
+        ensures refused { IfErr result (StopsFor (forging (seen (λ s. content s.boxed) self.old) inc message.now)) }
         ensures kept { OnErr result (seen (λ s. content s.boxed) self.new ≡ seen (λ s. content s.boxed) self.old) }
     {
         self.host.open()?;
@@ -170,7 +171,7 @@ impl State {
         ensures taken { OnOk result (step (seen (λ s. content s.boxed) self.old) no_choice
             (event.Forge inc message.now) ≡ Ok (seen (λ s. content s.boxed) self.new)) }
         ensures refused { IfErr result
-            (Refuses (step (seen (λ s. content s.boxed) self.old) no_choice (event.Forge inc message.now))) }
+            (StopsFor (step (seen (λ s. content s.boxed) self.old) no_choice (event.Forge inc message.now))) }
         ensures kept { OnErr result (seen (λ s. content s.boxed) self.new ≡ seen (λ s. content s.boxed) self.old) }
     {
         let Some((_, life)) = self.life(inc) else {
@@ -261,7 +262,7 @@ impl State {
             (nth (seen (λ s. content s.boxed) self.old).instances inc))
             ≡ Ok (seen (λ s. content s.boxed) self.new)) }
         ensures refused { IfErr result
-            (Refuses (limited (seen (λ s. content s.boxed) self.old)
+            (StopsFor (limited (seen (λ s. content s.boxed) self.old)
             (crash (seen (λ s. content s.boxed) self.old) inc
             (nth (seen (λ s. content s.boxed) self.old).instances inc)))) }
         ensures kept { OnErr result (seen (λ s. content s.boxed) self.new ≡ seen (λ s. content s.boxed) self.old) }
@@ -284,7 +285,7 @@ impl State {
         ensures taken { OnOk result (step (seen (λ s. content s.boxed) self.old) no_choice (event.Crash session inc)
             ≡ Ok (seen (λ s. content s.boxed) self.new)) }
         ensures refused { IfErr result
-            (Refuses (step (seen (λ s. content s.boxed) self.old) no_choice (event.Crash session inc))) }
+            (StopsFor (step (seen (λ s. content s.boxed) self.old) no_choice (event.Crash session inc))) }
         ensures kept { OnErr result (seen (λ s. content s.boxed) self.new ≡ seen (λ s. content s.boxed) self.old) }
     {
         if !self.is_in(session) {
@@ -298,7 +299,7 @@ impl State {
         ensures taken { OnOk result (step (seen (λ s. content s.boxed) self.old) no_choice (event.Reap inc)
             ≡ Ok (seen (λ s. content s.boxed) self.new)) }
         ensures refused { IfErr result
-            (Refuses (step (seen (λ s. content s.boxed) self.old) no_choice (event.Reap inc))) }
+            (StopsFor (step (seen (λ s. content s.boxed) self.old) no_choice (event.Reap inc))) }
         ensures kept { OnErr result (seen (λ s. content s.boxed) self.new ≡ seen (λ s. content s.boxed) self.old) }
     {
         let Some((i, life)) = self.life(inc) else {
@@ -324,7 +325,7 @@ impl State {
 
     // The commit of a frame's file is done.
     fn done(&mut self, alloc: Global, f: u32) -> Result<(), Stop>
-        ensures taken { OnOk result ((choice : Choice) × IsImage (seen (λ s. content s.boxed) self.old) choice
+        ensures taken { OnOk result ((choice : Choice) × MayChoose (seen (λ s. content s.boxed) self.old) choice
             (event.Done f) × (step (seen (λ s. content s.boxed) self.old) choice (event.Done f)
             ≡ Ok (seen (λ s. content s.boxed) self.new))) }
         ensures refused { IfErr result (StopsAt (seen (λ s. content s.boxed) self.old) (event.Done f)) }
@@ -342,7 +343,7 @@ impl State {
 
     // The commit of a frame's file fails.
     fn fail(&mut self, alloc: Global, f: u32) -> Result<(), Stop>
-        ensures taken { OnOk result ((choice : Choice) × IsImage (seen (λ s. content s.boxed) self.old) choice
+        ensures taken { OnOk result ((choice : Choice) × MayChoose (seen (λ s. content s.boxed) self.old) choice
             (event.Fail f) × (step (seen (λ s. content s.boxed) self.old) choice (event.Fail f)
             ≡ Ok (seen (λ s. content s.boxed) self.new))) }
         ensures refused { IfErr result (StopsAt (seen (λ s. content s.boxed) self.old) (event.Fail f)) }
@@ -360,7 +361,7 @@ impl State {
 
     // A commit in doubt was kept.
     fn keep(&mut self, alloc: Global, f: u32) -> Result<(), Stop>
-        ensures taken { OnOk result ((choice : Choice) × IsImage (seen (λ s. content s.boxed) self.old) choice
+        ensures taken { OnOk result ((choice : Choice) × MayChoose (seen (λ s. content s.boxed) self.old) choice
             (event.Resolve f true) × (step (seen (λ s. content s.boxed) self.old) choice (event.Resolve f true)
             ≡ Ok (seen (λ s. content s.boxed) self.new))) }
         ensures refused { IfErr result (StopsAt (seen (λ s. content s.boxed) self.old) (event.Resolve f true)) }
@@ -378,7 +379,7 @@ impl State {
 
     // A commit in doubt is lost.
     fn lose(&mut self, alloc: Global, f: u32) -> Result<(), Stop>
-        ensures taken { OnOk result ((choice : Choice) × IsImage (seen (λ s. content s.boxed) self.old) choice
+        ensures taken { OnOk result ((choice : Choice) × MayChoose (seen (λ s. content s.boxed) self.old) choice
             (event.Resolve f false) × (step (seen (λ s. content s.boxed) self.old) choice (event.Resolve f false)
             ≡ Ok (seen (λ s. content s.boxed) self.new))) }
         ensures refused { IfErr result (StopsAt (seen (λ s. content s.boxed) self.old) (event.Resolve f false)) }
@@ -402,7 +403,7 @@ impl State {
         width: u16,
         height: u16,
     ) -> Result<(), Stop>
-        ensures taken { OnOk result ((choice : Choice) × IsImage (seen (λ s. content s.boxed) self.old) choice
+        ensures taken { OnOk result ((choice : Choice) × MayChoose (seen (λ s. content s.boxed) self.old) choice
             (event.Open name.now width height)
             × (step (seen (λ s. content s.boxed) self.old) choice (event.Open name.now width height)
             ≡ Ok (seen (λ s. content s.boxed) self.new))) }
@@ -443,7 +444,7 @@ impl State {
     ///
     /// Refused: why the event isn't taken; or `NoMemory`. Then nothing changes.
     pub fn step(&mut self, alloc: Global, event: &Event) -> Result<(), Stop>
-        ensures taken { OnOk result ((choice : Choice) × IsImage (seen (λ s. content s.boxed) self.old) choice
+        ensures taken { OnOk result ((choice : Choice) × MayChoose (seen (λ s. content s.boxed) self.old) choice
             event.now × (step (seen (λ s. content s.boxed) self.old) choice event.now
             ≡ Ok (seen (λ s. content s.boxed) self.new))) }
         ensures refused { IfErr result (StopsAt (seen (λ s. content s.boxed) self.old) event.now) }

@@ -28,9 +28,9 @@ use Rattle.world_model.specs.declared.event.Event.TheVariants as event
 use Rattle.world_model.specs.declared.logs.Document.{Document}
 use Rattle.world_model.specs.declared.logs.File.{File}
 use Rattle.world_model.specs.Safe.{Among}
-use Rattle.world_model.specs.World.{Choice, IsImage, IsImageOf, World, file_bytes, file_of, is_file, put_file}
+use Rattle.world_model.specs.World.{Choice, HoldsDocument, MayChoose, World, file_bytes, file_of, is_file, put_file}
 use Rattle.world_facts.proofs.Lookups.{among_new, among_old, nth_aligned, nth_old, nth_one, nth_set_apart}
-use Rattle.world_files.specs.Files.{Apart, Bears, MakesImage}
+use Rattle.world_files.specs.Files.{Apart, Bears, MakesDocument}
 use Rattle.world_model.specs.SafeStory.{AreOf}
 use Rattle.world_model.specs.Story.{Epoch, Story, committed_by, document_by, epoch_of, epochs, followed, is_it, kept_by}
 use Rattle.world_model.specs.Story.{made_name, may_begin, may_command, may_open}
@@ -203,7 +203,7 @@ given_is w name bytes saved given d file of read holds =
 
 open_step : (s : Story) (v : World) (choice : Choice) (name : List ℕ) (width height : ℕ)
     → DocumentStands s s.document → Steps s.now v choice (event.Open name width height) → v.files ≡ s.now.files
-    → IsImage s.now choice (event.Open name width height) → may_open s name ≡ true
+    → MayChoose s.now choice (event.Open name width height) → may_open s name ≡ true
     → DocumentStands (record s { now = v }) s.document
 open_step s v choice name width height d (rec_stays none rec keeps) files read may = unchanged s v d rec keeps files
 open_step s v choice name width height d (rec_steps x t input ok rec counts) files read may =
@@ -342,7 +342,7 @@ module _ (s : Story) (v : World) (bytes : List ℕ) (f : ℕ) (d : DocumentStand
 commit_step : (s : Story) (v : World) (choice : Choice) (f : ℕ) → DocumentStands s s.document
     → Apart s.now.rec.frames → InSession s.now.rec
     → length s.now.counted ≡ length s.now.rec.frames → Counts s.now v f
-    → IsImageOf s.now f choice.file → v.files ≡ put_committed choice.file (nth s.now.rec.frames f) s.now.files
+    → HoldsDocument s.now f choice.file → v.files ≡ put_committed choice.file (nth s.now.rec.frames f) s.now.files
     → DocumentStands (committed_by s f v) (document_by f (nth s.now.rec.frames f) s.document)
 commit_step s v choice f d apart ses aligned c makes files =
     let of = makes c.saved (ap (image_at s.now.rec f) c.at ∙ c.imaged) in
@@ -359,7 +359,7 @@ pub record Standing (s : Story) : Type 0 where
 
 pub document_follows : (s : Story) (choice : Choice) (e : Event) (v : World) → Standing s → Steps s.now v choice e
     → v.files ≡ made_by s.now choice e s.now.files
-    → MakesImage s.now choice e → IsImage s.now choice e → may_begin s e ≡ true
+    → MakesDocument s.now choice e → MayChoose s.now choice e → may_begin s e ≡ true
     → DocumentStands (followed s e v) (followed s e v).document
 document_follows s choice (event.Command c) v k st files makes read may =
     command_step s v choice c k.document st files may

@@ -39,14 +39,14 @@ use Rattle.world_model.specs.declared.logs.File.{File}
 use Rattle.world_model.specs.declared.logs.Sent.{Sent}
 use Rattle.world_model.specs.declared.logs.Taken.{Taken}
 use Rattle.world_model.specs.World.{Choice, Instance, World, ask, called, commanded, crash, deliver, delivered}
-use Rattle.world_model.specs.World.{delivered_said, done_imaged, done_in, done_taken, ended, forge, forged, forged_on}
+use Rattle.world_model.specs.World.{delivered_said, ended, forge, forged, forged_on}
 use Rattle.world_model.specs.World.{happened, in_session, joined, link_of, link_to, only_taken, reap, scribble}
-use Rattle.world_model.specs.World.{taken_at, taken_by, taken_said, took, uncounted, with_taken}
+use Rattle.world_model.specs.World.{done_with, taken_at, taken_by, taken_said, took, uncounted, with_taken}
 use Rattle.world_model.specs.Safe.{Among, BringsBy, IsGranted, IsHonest, WasSent, messages}
 use Rattle.world_model.proofs.InRun.{in_run_ok}
 use Rattle.world_facts.proofs.Honest.{honest_before}
 use Rattle.world_facts.proofs.Lookups.{among_join, among_map, among_mapped, among_new, among_old, nth_old}
-use Rattle.world_files.specs.Files.{MakesImage}
+use Rattle.world_files.specs.Files.{MakesDocument}
 use Rattle.world_safety.specs.Holding.{Holds}
 use Rattle.world_safety.proofs.Events.{sent_place}
 use Rattle.world_safety.proofs.Held.{held_happened}
@@ -210,7 +210,8 @@ module _ (w : World) (f : ℕ) (bytes : List ℕ) (told : Result Took ContainerF
 
   made_taken : (frame : Frame) (saved : FrameDocument) (r : Result Took ContainerFault) (v : World)
       → nth w.rec.frames f ≡ Some frame
-      → image_at w.rec f (Some frame) ≡ Ok saved → told ≡ r → done_taken w f bytes frame saved r ≡ Ok v → Made v
+      → image_at w.rec f (Some frame) ≡ Ok saved → told ≡ r → done_with w f bytes (Some frame) (Ok saved) r ≡ Ok v
+      → Made v
   made_taken frame saved (Err fault) v at im is ok = cc
   made_taken frame saved (Ok t) v at im is ok = (let c = commits frame at t is in subst Made (ok_is _ v ok) (
     t,
@@ -230,27 +231,24 @@ module _ (w : World) (f : ℕ) (bytes : List ℕ) (told : Result Took ContainerF
     },
   ))
 
-  made_imaged : (frame : Frame) (saved : Result FrameDocument ContainerFault) (v : World)
-      → nth w.rec.frames f ≡ Some frame
-      → image_at w.rec f (Some frame) ≡ saved → done_imaged w f bytes frame told saved ≡ Ok v → Made v
-  made_imaged frame (Err fault) v at im ok = cc
-  made_imaged frame (Ok saved) v at im ok = made_taken frame saved told v at im refl ok
-
-  made_in : (found : Option Frame) (v : World) → nth w.rec.frames f ≡ found → done_in w f bytes told found ≡ Ok v
+  made_done : (found : Option Frame) (saved : Result FrameDocument ContainerFault) (v : World)
+      → nth w.rec.frames f ≡ found → image_at w.rec f found ≡ saved → done_with w f bytes found saved told ≡ Ok v
       → Made v
-  made_in None v at ok = cc
-  made_in (Some frame) v at ok = made_imaged frame (image w.rec f) v at (ap (image_at w.rec f) (sym at)) ok
+  made_done None saved v at im ok = cc
+  made_done (Some frame) (Err fault) v at im ok = cc
+  made_done (Some frame) (Ok saved) v at im ok = made_taken frame saved told v at im refl ok
 
 pub done_made : (w : World) (f : ℕ) (bytes : List ℕ) (v : World)
-    → done_in w f bytes (commit_done w.rec f) (nth w.rec.frames f) ≡ Ok v
+    → done_with w f bytes (nth w.rec.frames f) (image w.rec f) (commit_done w.rec f) ≡ Ok v
     → Made w f bytes (commit_done w.rec f) (done_commits w.rec f) v
-done_made w f bytes v ok = made_in w f bytes (commit_done w.rec f) (done_commits w.rec f) (nth w.rec.frames f) v refl ok
+done_made w f bytes v ok = made_done w f bytes (commit_done w.rec f) (done_commits w.rec f) (nth w.rec.frames f)
+    (image w.rec f) v refl refl ok
 
 pub kept_made : (w : World) (f : ℕ) (bytes : List ℕ) (v : World)
-    → done_in w f bytes (resolve w.rec f true) (nth w.rec.frames f) ≡ Ok v
+    → done_with w f bytes (nth w.rec.frames f) (image w.rec f) (resolve w.rec f true) ≡ Ok v
     → Made w f bytes (resolve w.rec f true) (kept_commits w.rec f) v
-kept_made w f bytes v ok = made_in w f bytes (resolve w.rec f true) (kept_commits w.rec f) (nth w.rec.frames f) v
-    refl ok
+kept_made w f bytes v ok = made_done w f bytes (resolve w.rec f true) (kept_commits w.rec f) (nth w.rec.frames f)
+    (image w.rec f) v refl refl ok
 
 -- of the record each event makes what the container does, if it is an input of it
 pub steps : (w : World) (choice : Choice) (e : Event) (v : World) → happened w choice e ≡ Ok v → Steps w v choice e
@@ -385,7 +383,7 @@ module _ (w : World) (mine : List File) (choice : Choice) (h : Holds (mirror w m
 
   -- where nothing is taken
   quiet_goes : (e : Event) (v : World) → Both w xs (made_by w choice e mine) (made_by w choice e w.files) v
-      (happened (mirror w mine) choice e) → MakesImage (mirror w mine) choice e
+      (happened (mirror w mine) choice e) → MakesDocument (mirror w mine) choice e
       → v.rec.numbers ≡ w.rec.numbers → Goes w v mine choice e
   quiet_goes e v b im n = record {
     more = b.twins.more;
@@ -567,7 +565,7 @@ module _ (w : World) (mine : List File) (choice : Choice) (h : Holds (mirror w m
   own_server : (inc : ℕ) (j : Instance) → nth w.instances inc ≡ Some j → IsOf w.rec.session j.core.session
   own_server inc j e = h.in_session.servers inc j e
 
-  all_go : (e : Event) (v : World) → MakesImage w choice e → session_of w e ≡ w.rec.session
+  all_go : (e : Event) (v : World) → MakesDocument w choice e → session_of w e ≡ w.rec.session
       → happened w choice e ≡ Ok v → v.rec.numbers ≡ w.rec.numbers → Goes w v mine choice e
   all_go (event.Command c) v im is ok n = quiet_goes (event.Command c) v
       (landed _ _ v ok (twins_commanded w mine xs h.in_session.holds c (on_command w.rec c) refl)) im n
@@ -581,13 +579,13 @@ module _ (w : World) (mine : List File) (choice : Choice) (h : Holds (mirror w m
   all_go (event.Reap inc) v im is ok n = quiet_goes (event.Reap inc) v
       (twins_reap w mine xs h.in_session.holds inc (nth w.instances inc) v ok) im n
   all_go (event.Done f) v im is ok n = quiet_goes (event.Done f) v
-      (twins_done w mine xs h.in_session.holds f choice.file (Input.Committed f) (commit_done w.rec f)
-      (nth w.rec.frames f) v refl ok) im n
+      (twins_done w mine xs h.in_session.holds f choice.file (Input.Committed f) (nth w.rec.frames f) (image w.rec f)
+      (commit_done w.rec f) v refl ok) im n
   all_go (event.Fail f) v im is ok n = quiet_goes (event.Fail f) v
       (twins_only w mine xs h.in_session.holds (Input.Failed f) (commit_failed w.rec f) v refl ok) im n
   all_go (event.Resolve f true) v im is ok n =
       quiet_goes (event.Resolve f true) v (twins_done w mine xs h.in_session.holds f choice.file
-      (Input.Resolved f true) (resolve w.rec f true) (nth w.rec.frames f) v refl ok) im n
+      (Input.Resolved f true) (nth w.rec.frames f) (image w.rec f) (resolve w.rec f true) v refl ok) im n
   all_go (event.Resolve f false) v im is ok n = quiet_goes (event.Resolve f false) v
       (twins_only w mine xs h.in_session.holds (Input.Resolved f false) (resolve w.rec f false) v refl ok) im n
   all_go (event.Open name x y) v im is ok n =
@@ -607,7 +605,7 @@ module _ (w : World) (mine : List File) (choice : Choice) (h : Holds (mirror w m
 
 -- An event of the present run goes on as in the run by itself.
 pub goes : (w : World) (mine : List File) (choice : Choice) (e : Event) (v : World) → Holds (mirror w mine)
-    → MakesImage w choice e → session_of w e ≡ w.rec.session → happened w choice e ≡ Ok v
+    → MakesDocument w choice e → session_of w e ≡ w.rec.session → happened w choice e ≡ Ok v
     → Goes w v mine choice e
 goes w mine choice e v h im is ok = all_go w mine choice h e v im is ok
     (numbers_by w choice e v h.agrees.steady h.numbers.recorded (steps w choice e v ok))

@@ -9,7 +9,7 @@ use Rattle.world_model.specs.declared.event.Stop.TheVariants.{NotEnabled}
 use Rattle.world_model.specs.declared.logs.File.{File}
 use Rattle.world_model.specs.declared.logs.Sent.{Sent}
 use Rattle.world_model.specs.World.{World, ask, crash, deliver, happened, no_choice, scribble}
-use Rattle.world_files.specs.Files.{MakesImage}
+use Rattle.world_files.specs.Files.{MakesDocument}
 use Rattle.world_safety.specs.Holding.{Holds}
 use Rattle.world_safety.proofs.Held.{held_happened}
 use Rattle.world_model.specs.Story.{Epoch, as_of, goes_on, session_at, session_of}
@@ -23,7 +23,7 @@ use Rattle.world_stories.proofs.Members.{place_in}
 -- the event of the run by itself
 record IsFollowed (a : World) (rec : Record) (files : List File) (sent : List Sent) (v : World) : Type 0 where
   pub event : Event
-  pub image : MakesImage (by_itself a rec files sent) no_choice event
+  pub image : MakesDocument (by_itself a rec files sent) no_choice event
   pub follows : Follows a rec files sent (happened (by_itself a rec files sent) no_choice event) v
 
 refused : (v : World) (A : Type 0) → ◌≡◌ {A = Result World Stop} (Err NotEnabled) (Ok v) → A

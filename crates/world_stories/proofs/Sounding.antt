@@ -20,13 +20,13 @@ use Rattle.world_model.specs.declared.event.Stop.TheVariants.{EventLimit, NotEna
 use Rattle.world_model.specs.declared.logs.File.{File}
 use Rattle.world_model.specs.declared.logs.Taken.{Taken}
 use Rattle.world_model.specs.Safe.{Among, IsHonest, WasSent, messages}
-use Rattle.world_model.specs.World.{Choice, IsImage, IsImageOf, MOST_EVENTS, World, happened, put_file}
+use Rattle.world_model.specs.World.{Choice, HoldsDocument, MOST_EVENTS, MayChoose, World, happened, put_file}
 use Rattle.world_safety.specs.Holding.{Holds}
 use Rattle.world_safety.proofs.Held.{empty_held}
 use Rattle.world_model.specs.declared.moment.Moment.{Moment}
 use Rattle.world_model.specs.declared.moment.Moment.TheVariants as moment
 use Rattle.world_model.specs.SafeStory.{AreRising, IsGrantedIn, is_kept}
-use Rattle.world_model.specs.Story.{AreImages, Chosen, Epoch, Story, Tells, as_of, committed_by, document_by, earlier}
+use Rattle.world_model.specs.Story.{Chosen, Epoch, MayChooseAt, Story, Tells, as_of, committed_by, document_by, earlier}
 use Rattle.world_model.specs.Story.{empty_story, epoch_of, epochs, follow, followed, goes_on, is_among, is_session}
 use Rattle.world_model.specs.Story.{kept_by, left_by, made_name, may_begin, may_stop, passed, past_by, present, rested}
 use Rattle.world_model.specs.Story.{session_of, stopped, within, without}
@@ -309,7 +309,7 @@ module _ (s : Story) (h : Sound s) (choice : Choice) (v : World) where
   pub record Known (e : Event) : Type 0 where
     pub here : session_of s.now e ≡ s.now.rec.session
     pub ok : happened s.now choice e ≡ Ok v
-    pub image : IsImage s.now choice e
+    pub image : MayChoose s.now choice e
     pub begins : may_begin s e ≡ true
 
   went : (e : Event) → Known e → Goes s.now v h.mine choice e
@@ -513,7 +513,7 @@ module _ (s : Story) (h : Sound s) (e : Epoch) (v : World) (g : Among s.past e)
 
 -- ---- a stop
 module _ (s : Story) (h : Sound s) (images : ℕ → List ℕ) (fs : List ℕ) (may : may_stop s.now.rec fs ≡ true)
-    (are : (f : ℕ) → is_among fs f ≡ true → IsImageOf s.now f (images f)) where
+    (are : (f : ℕ) → is_among fs f ≡ true → HoldsDocument s.now f (images f)) where
   abbrev rests : World
   rests = rested s.now images fs
 
@@ -630,7 +630,7 @@ followed_is : (s : Story) (e : Event) (r : Result World Stop) (next : Story) →
 followed_is s e (Err stop) next q = cc
 followed_is s e (Ok v) next q = (v, refl, (let same : followed s e v ≡ next = cc in same))
 
-present_sound : (s : Story) (choice : Choice) (e : Event) (next : Story) → Sound s → IsImage s.now choice e
+present_sound : (s : Story) (choice : Choice) (e : Event) (next : Story) → Sound s → MayChoose s.now choice e
     → session_of s.now e ≡ s.now.rec.session → present s choice e ≡ Ok next → Sound next
 present_sound s choice e next h im here ok =
     let b = if_right (may_begin s e) (follow s e (happened s.now choice e)) NotEnabled next ok in
@@ -673,7 +673,7 @@ earlier_at s e n (Some x) after h is apart f ok =
     (λ v g. goes_on_held s.now x e (h.records x.session) (h.archive x.session) v held.session held.holds
     (sym is ∙ sym p.1) (λ z. apart (sym p.1 ∙ z)) g) ok
 
-moment_sound : (s : Story) (choice : Chosen) (m : Moment) (next : Story) → Sound s → AreImages s choice m
+moment_sound : (s : Story) (choice : Chosen) (m : Moment) (next : Story) → Sound s → MayChooseAt s choice m
     → passed s choice m ≡ Ok next → Sound next
 moment_sound s choice (moment.Event e) next h im ok = elim (eqb_tells (session_of s.now e) s.now.rec.session) [
   | inl t ↦ present_sound s choice.here e next h im t.1

@@ -11,11 +11,12 @@ use Rattle.world_model.specs.declared.event.Stop.{Stop}
 use Rattle.world_model.specs.declared.event.Stop.TheVariants.{NotEnabled}
 use Rattle.world_model.specs.declared.logs.File.{File}
 use Rattle.world_model.specs.Safe.{Among}
-use Rattle.world_model.specs.World.{IsImageOf, World, file_bytes, file_of, is_file, put_file}
+use Rattle.world_model.specs.World.{HoldsDocument, World, file_bytes, file_of, is_file, put_file}
 use Rattle.world_facts.proofs.Lookups.{among_old}
 use Rattle.world_files.specs.Files.{Apart, Bears}
 use Rattle.world_model.specs.SafeStory.{AreOf, IsStopped}
-use Rattle.world_model.specs.Story.{AreImages, Chosen, Epoch, Story, document_by, epoch_of, epochs, is_among, made_name}
+use Rattle.world_model.specs.Story.{Chosen, Epoch, MayChooseAt, Story, document_by, epoch_of, epochs, is_among}
+use Rattle.world_model.specs.Story.{made_name}
 use Rattle.world_model.specs.Story.{may_stop, passed, past_by, put_kept, stopped}
 use Rattle.world_model.specs.declared.moment.Moment.TheVariants as moment
 use Rattle.world_stories.specs.Holding.{DocumentStands, HasDocument}
@@ -76,7 +77,7 @@ one_more : (i : ℕ) → 1 + i ≡ suc i
 one_more i = omega arith
 
 pub stop_kept : (w : World) (fs : List ℕ) (images : ℕ → List ℕ) → Apart w.rec.frames → may_stop w.rec fs ≡ true
-    → ((f : ℕ) → is_among fs f ≡ true → IsImageOf w f (images f))
+    → ((f : ℕ) → is_among fs f ≡ true → HoldsDocument w f (images f))
     → (f : ℕ) (frame : Frame) → is_among fs f ≡ true → nth w.rec.frames f ≡ Some frame
     → (saved : FrameDocument) × (image w.rec f ≡ Ok saved) × (bytes : List ℕ)
     × (file_bytes (find (is_file (made_name frame)) (put_kept images fs 1 w.rec.frames w.files)) ≡ Some bytes)
@@ -103,7 +104,7 @@ stop_taken true after next e = (let same : after ≡ next = cc in (refl, same))
 stop_taken false after next e = cc
 
 pub is_stopped : (s : Story) (fs : List ℕ) (choice : Chosen) (next : Story) → Apart s.now.rec.frames
-    → AreImages s choice (moment.Stop fs) → passed s choice (moment.Stop fs) ≡ Ok next
+    → MayChooseAt s choice (moment.Stop fs) → passed s choice (moment.Stop fs) ≡ Ok next
     → IsStopped s fs next
 is_stopped s fs choice next apart are e =
     let t = stop_taken (may_stop s.now.rec fs) (stopped s choice.images fs) next e in
@@ -161,7 +162,7 @@ module _ (s : Story) (fs : List ℕ) (images : ℕ → List ℕ) where
   -- a commit of frame 1 that it keeps makes the document
   first_kept : (frame : Frame) → DocumentStands s s.document → Apart s.now.rec.frames → InSession s.now.rec
       → may_stop s.now.rec fs ≡ true
-      → ((f : ℕ) → is_among fs f ≡ true → IsImageOf s.now f (images f))
+      → ((f : ℕ) → is_among fs f ≡ true → HoldsDocument s.now f (images f))
       → is_among fs 1 ≡ true → nth s.now.rec.frames 1 ≡ Some frame → HasDocument (stopped s images fs) (made_name frame)
   first_kept frame d apart ses may are among at =
       let k = stop_kept s.now fs images apart may are 1 frame among at in
@@ -202,7 +203,7 @@ module _ (s : Story) (fs : List ℕ) (images : ℕ → List ℕ) where
   }
 
   kept_first : DocumentStands s s.document → Apart s.now.rec.frames → InSession s.now.rec
-      → may_stop s.now.rec fs ≡ true → ((f : ℕ) → is_among fs f ≡ true → IsImageOf s.now f (images f))
+      → may_stop s.now.rec fs ≡ true → ((f : ℕ) → is_among fs f ≡ true → HoldsDocument s.now f (images f))
       → is_among fs 1 ≡ true → DocumentStands (stopped s images fs) (document_by 1 (nth s.now.rec.frames 1) s.document)
   kept_first d apart ses may are among =
       let p = images_saved s.now fs images may are 1 among in
@@ -211,7 +212,7 @@ module _ (s : Story) (fs : List ℕ) (images : ℕ → List ℕ) where
       (sym im.1) (first_kept im.0 d apart ses may are among im.1)
 
   pub stop_document : DocumentStands s s.document → Apart s.now.rec.frames → InSession s.now.rec
-      → may_stop s.now.rec fs ≡ true → ((f : ℕ) → is_among fs f ≡ true → IsImageOf s.now f (images f))
+      → may_stop s.now.rec fs ≡ true → ((f : ℕ) → is_among fs f ≡ true → HoldsDocument s.now f (images f))
       → DocumentStands (stopped s images fs) (stopped s images fs).document
   stop_document d apart ses may are =
       elim (is_among fs 1) as (λ b. is_among fs 1 ≡ b → DocumentStands (stopped s images fs)

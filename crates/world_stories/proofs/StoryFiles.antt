@@ -12,7 +12,7 @@ use Rattle.container_model.specs.declared.fault.ContainerFault.{ContainerFault}
 use Rattle.container_model.specs.declared.record.Frame.{Frame}
 use Rattle.world_model.specs.declared.logs.File.{File}
 use Rattle.world_model.specs.Safe.{Among}
-use Rattle.world_model.specs.World.{IsImageOf, World, is_file, put_file}
+use Rattle.world_model.specs.World.{HoldsDocument, World, is_file, put_file}
 use Rattle.world_facts.proofs.Lookups.{among_new, among_old}
 use Rattle.world_files.specs.Files.{Bears}
 use Rattle.world_files.proofs.Kept.{image_is_at}
@@ -197,7 +197,7 @@ has_images r (g ∷ gs) f may among =
 
 -- what a stop makes of a frame's file holds the document of its commit
 pub images_saved : (w : World) (fs : List ℕ) (images : ℕ → List ℕ) → may_stop w.rec fs ≡ true
-    → ((f : ℕ) → is_among fs f ≡ true → IsImageOf w f (images f))
+    → ((f : ℕ) → is_among fs f ≡ true → HoldsDocument w f (images f))
     → (f : ℕ) → is_among fs f ≡ true → (saved : FrameDocument) × (image w.rec f ≡ Ok saved) × AreOf (images f) saved
 images_saved w fs images may are f among = (let p = has_images w.rec fs f may among in
     let h = are f among p.0 p.1 in
@@ -290,7 +290,7 @@ module _ (w : World) (mine : List File) (past : List Epoch) (archive : ℕ → L
 -- A stop keeps some files more. Those of the run that it ends are an earlier one's from then on.
 pub stop_files : (w : World) (fs : List ℕ) (images : ℕ → List ℕ) (mine : List File) (kept : List (List ℕ))
     (past : List Epoch) (archive : ℕ → List File)
-    → may_stop w.rec fs ≡ true → ((f : ℕ) → is_among fs f ≡ true → IsImageOf w f (images f))
+    → may_stop w.rec fs ≡ true → ((f : ℕ) → is_among fs f ≡ true → HoldsDocument w f (images f))
     → (w.rec.session ≡ 0 → mine ≡ []) → ((e : Epoch) → Among past e → e.session ≢ 0)
     → ((e : Epoch) → Among past e → w.rec.session ≢ 0 → e.session < w.rec.session)
     → ComeFrom mine w.files kept past archive → MineThere [] (put_kept images fs 1 w.rec.frames w.files)

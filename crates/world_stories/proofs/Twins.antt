@@ -15,7 +15,6 @@ use Rattle.container_model.specs.Record.{Record, Took, is_linked}
 use Rattle.container_model.specs.Commands.{on_command}
 use Rattle.container_model.specs.Inputs.{Input, on_input}
 use Rattle.container_model.specs.Messages.{on_message, on_reap}
-use Rattle.container_model.specs.Saves.{image}
 use Rattle.container_model.specs.declared.answer.Action.{Action}
 use Rattle.container_model.specs.declared.answer.Action.TheVariants.{Send, Start, End, Commit}
 use Rattle.container_model.specs.declared.answer.FrameDocument.{FrameDocument}
@@ -37,13 +36,12 @@ use Rattle.world_model.specs.declared.logs.Sent.{Sent}
 use Rattle.world_model.specs.declared.logs.ServerDone.{ServerDone}
 use Rattle.world_model.specs.declared.logs.Taken.{Taken}
 use Rattle.world_model.specs.World.{World, Instance, ask, called, called_in, called_wanting, commanded, counted_by}
-use Rattle.world_model.specs.World.{crash, crashed, delivered_said, done_imaged, done_in, done_taken, ended, in_run}
-use Rattle.world_model.specs.World.{in_session, is_of, link_of, messages_of, of_container, only_taken, put_file, reap}
+use Rattle.world_model.specs.World.{crash, crashed, delivered_said, ended, in_run}
+use Rattle.world_model.specs.World.{in_session, is_of, link_of, messages_of, of_container, only_taken, reap}
 use Rattle.world_model.specs.World.{scribble, served, spoken, spoken_by, stocked, taken_at, taken_by, taken_link}
-use Rattle.world_model.specs.World.{taken_of, taken_said, took, view_in, with_taken}
+use Rattle.world_model.specs.World.{taken_of, taken_said, took, view_in, with_taken, done_with}
 use Rattle.world_model.specs.Safe.{Among, messages}
 use Rattle.world_safety.proofs.Speaking.{IsTelling, asking_is, writing_is}
-use Rattle.world_model.specs.Story.{made_name}
 use Rattle.world_stories.specs.Steps.{put_committed, quieted, twin}
 
 pub ok_is : (x y : World) → ◌≡◌ {A = Result World Stop} (Ok x) (Ok y) → x ≡ y
@@ -203,12 +201,15 @@ module _ (w : World) (mine : List File) (xs : List Sent) where
 
     -- a commit makes the same file in both
     module _ (f : ℕ) (bytes : List ℕ) (x : Input) where
-      twins_kept : (frame : Frame) (saved : FrameDocument) (told : Result Took ContainerFault) (v : World)
-          → on_input w.rec x ≡ told → done_taken w f bytes frame saved told ≡ Ok v
-          → Both w xs (put_file (made_name frame) bytes mine) (put_file (made_name frame) bytes w.files) v
-          (done_taken other f bytes frame saved told)
-      twins_kept frame saved (Err fault) v q e = cc
-      twins_kept frame saved (Ok t) v q e =
+      pub twins_done : (frame : Option Frame) (saved : Result FrameDocument ContainerFault)
+          (told : Result Took ContainerFault) (v : World)
+          → on_input w.rec x ≡ told → done_with w f bytes frame saved told ≡ Ok v
+          → Both w xs (put_committed bytes frame mine) (put_committed bytes frame w.files) v
+          (done_with other f bytes frame saved told)
+      twins_done None saved told v q e = cc
+      twins_done (Some frame) (Err fault) told v q e = cc
+      twins_done (Some frame) (Ok saved) (Err fault) v q e = cc
+      twins_done (Some frame) (Ok saved) (Ok t) v q e =
           let more = map of_container (messages_of t.answer.actions) in
           landed _ _ v e (record {
             more = more;
@@ -219,21 +220,6 @@ module _ (w : World) (mine : List File) (xs : List Sent) where
             taken = refl;
             hostile = refl;
           })
-
-      twins_imaged : (frame : Frame) (counted : Result Took ContainerFault)
-          (told : Result FrameDocument ContainerFault) (v : World) → on_input w.rec x ≡ counted
-          → done_imaged w f bytes frame counted told ≡ Ok v
-          → Both w xs (put_file (made_name frame) bytes mine) (put_file (made_name frame) bytes w.files) v
-          (done_imaged other f bytes frame counted told)
-      twins_imaged frame counted (Err fault) v q e = cc
-      twins_imaged frame counted (Ok saved) v q e = twins_kept frame saved counted v q e
-
-      pub twins_done : (counted : Result Took ContainerFault) (frame : Option Frame) (v : World)
-          → on_input w.rec x ≡ counted → done_in w f bytes counted frame ≡ Ok v
-          → Both w xs (put_committed bytes frame mine) (put_committed bytes frame w.files) v
-          (done_in other f bytes counted frame)
-      twins_done counted None v q e = cc
-      twins_done counted (Some frame) v q e = twins_imaged frame counted (image w.rec f) v q e
 
   -- calls
   module _ (s inc act n : ℕ) (op : Operation) (own : IsOf w.rec.session s) where

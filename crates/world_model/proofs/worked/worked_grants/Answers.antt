@@ -1,5 +1,5 @@
-use Rattle.world_model.proofs.Granted.{is_granted}
+use Rattle.world_model.proofs.Granted.{worked_grants}
 use Rattle.world_model.proofs.worked.worked_grants.Goals as goal
 
 pub returns : goal.returns
-returns c = is_granted
+returns c = worked_grants

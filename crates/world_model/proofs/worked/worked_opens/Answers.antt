@@ -1,5 +1,5 @@
-use Rattle.world_model.proofs.Opened.{is_opened}
+use Rattle.world_model.proofs.Opened.{worked_opens}
 use Rattle.world_model.proofs.worked.worked_opens.Goals as goal
 
 pub returns : goal.returns
-returns c = is_opened
+returns c = worked_opens

@@ -1,5 +1,5 @@
-use Rattle.world_model.proofs.Computed.{is_worked}
+use Rattle.world_model.proofs.Computed.{worked_runs}
 use Rattle.world_model.proofs.worked.worked_runs.Goals as goal
 
 pub returns : goal.returns
-returns c = is_worked
+returns c = worked_runs

@@ -1,5 +1,5 @@
-use Rattle.world_model.proofs.ComputedStories.{are_stopped}
+use Rattle.world_model.proofs.ComputedStories.{worked_stops}
 use Rattle.world_model.proofs.worked_stories.worked_stops.Goals as goal
 
 pub returns : goal.returns
-returns c = are_stopped
+returns c = worked_stops

@@ -5,7 +5,7 @@ use Rattle.message_values.specs.declared.message.Message.{Message}
 use Rattle.container_model.specs.Numbered.{IsNth}
 use Rattle.world_model.specs.declared.event.Stop.{Stop}
 use Rattle.world_model.specs.declared.logs.Sent.{Sent}
-use Rattle.world_model.specs.World.{World, Refuses, limited}
+use Rattle.world_model.specs.World.{World, StopsFor, limited}
 use Rattle.world_state.specs.Plans.{carry}
 use Rattle.world_state.specs.View.{seen}
 use Rattle.world_state.proofs.Delivering.{deliver_is, same_at}
@@ -45,7 +45,7 @@ returns-clause-refused g c =
     let carried = ap (λ (v : World). carry (record v { instances = w.instances; stock = w.stock }) c.args.p
     c.in-Ok.message c.in_ok-plan.plan) c.open.ensures.kept
     ∙ ap (λ (m : Message). carry w c.args.p m c.in_ok-plan.plan) same in
-    subst (λ (t : Result World Stop). IfErr c.carry_out.result (Refuses t))
+    subst (λ (t : Result World Stop). IfErr c.carry_out.result (StopsFor t))
     (carried
     ∙ sym (ap (limited w) (deliver_is w c.args.p x c.in_ok-plan.plan at c.in_ok-plan.ensures.planned.0)))
     c.carry_out.ensures.refused

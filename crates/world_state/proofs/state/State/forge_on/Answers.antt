@@ -3,7 +3,7 @@ use Rattle.container_model.specs.Messages.{on_message}
 use Rattle.world_host.specs.Logging.{forged}
 use Rattle.world_host.specs.Servers.{ends_by, ends_in}
 use Rattle.world_host.specs.View.{bare, started}
-use Rattle.world_model.specs.World.{World, fresh, link_to}
+use Rattle.world_model.specs.World.{World, link_to, started_instance}
 use Rattle.world_state.specs.Plans.{forging}
 use Rattle.world_state.specs.View.{seen, seen_instance, seen_stocked}
 use Rattle.world_state.proofs.Joins.{forge_taken}
@@ -27,7 +27,7 @@ returns-in-Ok-forge-clause-taken g c =
       instances =
           ends_by ends
           (map (seen_instance (λ s. (goal.Embedded-dyn g (s.boxed.vtable, s.boxed.value)).content s.boxed.value)) is)
-          ++ map (fresh b.rec.session b.rec.numbers) starts;
+          ++ map (started_instance b.rec.session b.rec.numbers) starts;
       stock =
           map (seen_stocked (λ s. (goal.Embedded-dyn g (s.boxed.vtable, s.boxed.value)).content s.boxed.value))
           c.args.self.now.stock.boxes.items;

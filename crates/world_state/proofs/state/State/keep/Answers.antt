@@ -1,7 +1,7 @@
 use Rattle.std.proofs.Common.{◌∙◌, ◌++◌, ap, map}
 use Rattle.world_host.specs.Servers.{ends_by}
 use Rattle.world_host.specs.View.{bare}
-use Rattle.world_model.specs.World.{fresh, making}
+use Rattle.world_model.specs.World.{making, started_instance}
 use Rattle.world_state.proofs.Joins.{kept_taken_all}
 use Rattle.world_state.proofs.Lifts.{kept_refused}
 use Rattle.world_state.specs.View.{seen, seen_instance, seen_stocked}
@@ -23,7 +23,7 @@ returns-in-Ok-clause-taken g c =
             instances =
                 ends_by ends
                 (map (seen_instance (λ s. (goal.Embedded-dyn g (s.boxed.vtable, s.boxed.value)).content
-                s.boxed.value)) is) ++ map (fresh b.rec.session b.rec.numbers) starts;
+                s.boxed.value)) is) ++ map (started_instance b.rec.session b.rec.numbers) starts;
             stock =
                 map (seen_stocked (λ s. (goal.Embedded-dyn g (s.boxed.vtable, s.boxed.value)).content s.boxed.value))
                 c.args.self.now.stock.boxes.items;

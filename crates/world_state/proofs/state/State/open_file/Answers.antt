@@ -2,7 +2,7 @@ use Rattle.std.proofs.Common.{◌∙◌, ◌++◌, ◌≡◌, ap, map, subst}
 use Rattle.container_model.specs.Opens.{opened}
 use Rattle.world_host.specs.Servers.{ends_by}
 use Rattle.world_host.specs.View.{bare, started}
-use Rattle.world_model.specs.World.{World, IsImage, fresh, giving, took}
+use Rattle.world_model.specs.World.{World, MayChoose, started_instance, giving, took}
 use Rattle.world_model.specs.declared.event.Event.TheVariants as event
 use Rattle.world_state.specs.View.{seen, seen_instance, seen_stocked}
 use Rattle.world_state.proofs.Joins.{open_taken}
@@ -16,7 +16,7 @@ returns-in-Ok-clause-taken g c =
     let t = c.in-Ok.ensures.taken in
     let Is : World → Type 0 = λ w. took w (opened w.rec c.args.name.now c.args.width c.args.height t.0)
     ≡ started b starts in
-    let Gives : World → Type 0 = λ w. IsImage w (giving t.0)
+    let Gives : World → Type 0 = λ w. MayChoose w (giving t.0)
     (event.Open c.args.name.now c.args.width c.args.height) in (
       giving t.0,
       subst Gives c.open.ensures.kept t.1,
@@ -30,7 +30,7 @@ returns-in-Ok-clause-taken g c =
             instances =
                 ends_by ends
                 (map (seen_instance (λ s. (goal.Embedded-dyn g (s.boxed.vtable, s.boxed.value)).content
-                s.boxed.value)) is) ++ map (fresh b.rec.session b.rec.numbers) starts;
+                s.boxed.value)) is) ++ map (started_instance b.rec.session b.rec.numbers) starts;
             stock =
                 map (seen_stocked (λ s. (goal.Embedded-dyn g (s.boxed.vtable, s.boxed.value)).content s.boxed.value))
                 c.args.self.now.stock.boxes.items;

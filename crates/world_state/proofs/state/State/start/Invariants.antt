@@ -1,7 +1,7 @@
 use Rattle.std.proofs.Common.{◌++◌, ◌+◌, ◌≤◌, ◌≡◌, map, vec_len, vec_capacity}
 use Rattle.std.specs.Vec.Iter.{into_iter_items, into_iter_len}
 use Rattle.world_state.specs.View.{seen_instance}
-use Rattle.world_model.specs.World.{fresh}
+use Rattle.world_model.specs.World.{started_instance}
 use Rattle.world_state.proofs.state.State.start.Given as goal
 
 abbrev pub invariant-loop-inc : goal.invariant-loop-inc
@@ -12,7 +12,8 @@ invariant-loop-inc g l = record {
   host : l.self.host ≡ l.initial.self.host;
   stock : l.self.stock ≡ l.initial.self.stock;
   instances : map (seen_instance (λ s. (goal.Embedded-dyn g (s.boxed.vtable, s.boxed.value)).content s.boxed.value))
-      l.self.instances.items ++ map (fresh l.session l.numbers) (into_iter_items l.inc-iterator)
+      l.self.instances.items ++ map (started_instance l.session l.numbers) (into_iter_items l.inc-iterator)
       ≡ map (seen_instance (λ s. (goal.Embedded-dyn g (s.boxed.vtable, s.boxed.value)).content s.boxed.value))
-      l.initial.self.instances.items ++ map (fresh l.session l.numbers) (into_iter_items l.initial.inc-iterator);
+      l.initial.self.instances.items
+      ++ map (started_instance l.session l.numbers) (into_iter_items l.initial.inc-iterator);
 }

@@ -4,7 +4,7 @@ use Rattle.container_model.specs.Messages.{on_message}
 use Rattle.world_host.specs.Logging.{heard}
 use Rattle.world_host.specs.Servers.{ends_by, ends_in}
 use Rattle.world_host.specs.View.{bare, started}
-use Rattle.world_model.specs.World.{World, fresh}
+use Rattle.world_model.specs.World.{World, started_instance}
 use Rattle.world_state.specs.View.{seen, seen_instance, seen_stocked}
 use Rattle.world_state.proofs.Joins.{told_taken}
 use Rattle.world_state.proofs.state.State.tell.Goals as goal
@@ -26,7 +26,7 @@ returns-in-Ok-clause-taken g c =
       instances =
           ends_by ends
           (map (seen_instance (λ s. (goal.Embedded-dyn g (s.boxed.vtable, s.boxed.value)).content s.boxed.value)) is)
-          ++ map (fresh b.rec.session b.rec.numbers) starts;
+          ++ map (started_instance b.rec.session b.rec.numbers) starts;
       stock =
           map (seen_stocked (λ s. (goal.Embedded-dyn g (s.boxed.vtable, s.boxed.value)).content s.boxed.value))
           c.args.self.now.stock.boxes.items;
