@@ -1,0 +1,79 @@
+-- How a function leaves a script.
+use Rattle.std.proofs.Common.{◌≡◌, ℕ, Bool, List, Result, Ok, Err, OnOk, IfErr, sym, subst, ◌∙◌}
+use Rattle.std.specs.Result.{IsErrAnd}
+use Rattle.container_model.specs.Record.{Record}
+use Rattle.store_model.specs.declared.disk.Disk.{Ghosts as Disks}
+use Rattle.script_model.specs.Courses.{course}
+use Rattle.script_model.specs.Events.{Event}
+use Rattle.script_model.specs.Notices.{Tells, notices}
+use Rattle.script_container.specs.Handed.{handed}
+use Rattle.script_container.specs.Known.{IsKnown, IsStopped, Leaves}
+use Rattle.script_container.specs.Shown.{Shows}
+use Rattle.script_container.specs.Told.{IsTold}
+use Rattle.script_container.specs.declared.fault.ScriptFault.{ScriptFault}
+use Rattle.script_container.specs.declared.fault.ScriptFault.TheVariants as fault
+use Rattle.script_links.specs.Going.{IsEnding, IsGoingOn, IsLawful, KeepsHeld, LeavesGoing}
+use Rattle.script_links.specs.Links.{AreLinked, AreServed, HoldFor}
+use Rattle.script_links.specs.declared.links.Link.{Link}
+use Rattle.script_links.specs.declared.progress.Progress.{Progress}
+
+module _ {D : Type 0} (disks : Disks D) where
+  -- an error that is handed on
+  pub ends_on : {T : Type 0} (r : Result T ScriptFault) (e : ScriptFault) (es : List (Event D)) (p : Progress)
+      → IsErrAnd r (λ x. x ≡ e) → IsEnding disks es p e → LeavesGoing disks r es p
+  ends_on (Ok x) e es p is ending = absurd is
+  ends_on (Err x) e es p is ending = subst (λ (f : ScriptFault). IsEnding disks es p f) (sym is) ending
+
+  -- want of memory
+  pub memory_ends : {T : Type 0} (r : Result T ScriptFault) (es : List (Event D)) (p : Progress)
+      → IsErrAnd r (λ x. x ≡ fault.NoMemory) → IsTold disks es p.core → AreLinked es p.links.items
+      → LeavesGoing disks r es p
+  memory_ends r es p is told linked = ends_on r fault.NoMemory es p is (record {
+    told = told;
+    linked = linked;
+    shown = tt;
+  })
+
+  -- a call of the container leaves the script so, where the servers that run are those of the links
+  pub goes_by : {T : Type 0} (r : Result T ScriptFault) (es : List (Event D)) (p : Progress)
+      → Leaves disks r es p.core p.noticed → AreLinked es p.links.items → OnOk r (AreServed es p.links.items)
+      → LeavesGoing disks r es p
+  goes_by (Ok x) es p known linked served =
+      record { told = known.told; linked = linked; served = served; seen = known.seen }
+  goes_by (Err e) es p stopped linked served =
+      record { told = stopped.told; linked = linked; shown = stopped.shown }
+
+  -- however it ends, the container's record is that of the history, and the servers that run are those of the links
+  pub told_going : {T : Type 0} (r : Result T ScriptFault) (es : List (Event D)) (p : Progress)
+      → LeavesGoing disks r es p → IsTold disks es p.core
+  told_going (Ok x) es p leaves = leaves.told
+  told_going (Err e) es p leaves = leaves.told
+
+  pub linked_going : {T : Type 0} (r : Result T ScriptFault) (es : List (Event D)) (p : Progress)
+      → LeavesGoing disks r es p → AreLinked es p.links.items
+  linked_going (Ok x) es p leaves = leaves.linked
+  linked_going (Err e) es p leaves = leaves.linked
+
+  pub shown_going : {T : Type 0} (r : Result T ScriptFault) (es : List (Event D)) (p : Progress)
+      → LeavesGoing disks r es p → IfErr r (λ e. Shows disks es e)
+  shown_going (Ok x) es p leaves = tt
+  shown_going (Err e) es p leaves = leaves.shown
+
+  pub lawful_of : (es : List (Event D)) (r : Record) → IsTold disks es r → IsLawful disks es
+  lawful_of es r t = record {
+    sent = t.sent;
+    bounded = t.bounded;
+    heard = t.heard;
+    saved = t.saved;
+    opened = t.opened;
+    started = t.started;
+  }
+
+-- one after another
+pub keeps_then : {D : Type 0} {es mid after : List (Event D)} {ls ms now : List Link} → KeepsHeld es mid ls ms
+    → KeepsHeld mid after ms now → KeepsHeld es after ls now
+keeps_then first last = record {
+  ordered = last.ordered ∙ first.ordered;
+  holding = λ f hold. last.holding f (first.holding f hold);
+  handing = λ f hold. last.handing f (first.holding f hold) ∙ first.handing f hold;
+}
