@@ -1,5 +1,5 @@
 -- How a function leaves a script.
-use Rattle.std.proofs.Common.{◌≡◌, ℕ, Bool, List, Result, Ok, Err, OnOk, IfErr, sym, subst, ◌∙◌}
+use Rattle.std.proofs.Common.{◌≡◌, ℕ, Bool, List, Option, Result, Ok, Err, OnOk, IfErr, sym, subst, ◌∙◌}
 use Rattle.std.specs.Result.{IsErrAnd}
 use Rattle.container_model.specs.Record.{Record}
 use Rattle.store_model.specs.declared.disk.Disk.{Ghosts as Disks}
@@ -8,10 +8,15 @@ use Rattle.script_model.specs.Events.{Event}
 use Rattle.script_model.specs.Notices.{Tells, notices}
 use Rattle.script_container.specs.Handed.{handed}
 use Rattle.script_container.specs.Known.{IsKnown, IsStopped, Leaves}
+use Rattle.script_model.specs.Origins.{passed}
+use Rattle.script_model.specs.declared.answer.Told.{Told}
+use Rattle.script_container.proofs.Servers.{quiet_of, still_of}
+use Rattle.script_container.specs.Servers.{servers}
 use Rattle.script_container.specs.Shown.{Shows}
 use Rattle.script_container.specs.Told.{IsTold}
 use Rattle.script_container.specs.declared.fault.ScriptFault.{ScriptFault}
 use Rattle.script_container.specs.declared.fault.ScriptFault.TheVariants as fault
+use Rattle.script_links.proofs.Served.{same_served}
 use Rattle.script_links.specs.Going.{IsEnding, IsGoingOn, IsLawful, KeepsHeld, LeavesGoing}
 use Rattle.script_links.specs.Links.{AreLinked, AreServed, HoldFor}
 use Rattle.script_links.specs.declared.links.Link.{Link}
@@ -42,6 +47,26 @@ module _ {D : Type 0} (disks : Disks D) where
       record { told = known.told; linked = linked; served = served; seen = known.seen }
   goes_by (Err e) es p stopped linked served =
       record { told = stopped.told; linked = linked; shown = stopped.shown }
+
+  -- a call of the container that leaves the servers as they were
+  pub known_on : (es after : List (Event D)) (p : Progress) (core : Record) (noticed : Option Told)
+      → servers after ≡ servers es → AreLinked es p.links.items → AreServed es p.links.items
+      → IsKnown disks after core noticed → IsGoingOn disks after (record p { core = core; noticed = noticed })
+  known_on es after p core noticed serving linked served known = record {
+    told = known.told;
+    linked = λ s. still_of serving s ∙ linked s;
+    served = same_served (λ s. passed s es) (λ s. passed s after) p.links.items (quiet_of serving) served;
+    seen = known.seen;
+  }
+
+  pub goes_on : {T : Type 0} (r : Result T ScriptFault) (es after : List (Event D)) (p : Progress) (core : Record)
+      (noticed : Option Told) → servers after ≡ servers es → AreLinked es p.links.items
+      → AreServed es p.links.items → Leaves disks r after core noticed
+      → LeavesGoing disks r after (record p { core = core; noticed = noticed })
+  goes_on (Ok x) es after p core noticed serving linked served known = known_on es after p core noticed serving linked
+      served known
+  goes_on (Err e) es after p core noticed serving linked served stopped =
+      record { told = stopped.told; linked = λ s. still_of serving s ∙ linked s; shown = stopped.shown }
 
   -- however it ends, the container's record is that of the history, and the servers that run are those of the links
   pub told_going : {T : Type 0} (r : Result T ScriptFault) (es : List (Event D)) (p : Progress)

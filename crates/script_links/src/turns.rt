@@ -6,8 +6,9 @@ ghost use Rattle.script_model.specs.Errors.{before_ends};
 ghost use Rattle.script_model.specs.Events.{running};
 ghost use Rattle.script_model.specs.Notices.{Tells, notices};
 ghost use Rattle.script_model.specs.Orders.{orders};
-ghost use Rattle.script_container.specs.Servers.{turned};
-ghost use Rattle.script_container.specs.Told.{IsTold};
+ghost use Rattle.script_container.specs.Known.{Leaves};
+ghost use Rattle.script_container.specs.Servers.{servers, turned};
+ghost use Rattle.script_container.specs.Told.{IsEnded, IsTold};
 ghost use Rattle.script_links.specs.Going.{IsGoingOn, IsLawful, KeepsHeld, LeavesGoing};
 ghost use Rattle.script_links.specs.Links.{AreLinked, AreServed, HoldFor};
 ghost use Rattle.script_links.specs.Ready.{AreDue, AreReady, HaveHad, IsUnderway};
@@ -22,12 +23,34 @@ use container_model::record::Object;
 use script_container::container::reap;
 use script_container::fault::ScriptFault;
 use script_container::saves::save_all;
+use script_model::answer::Told;
 use script_model::host::Host;
 use std::alloc::Global;
 use store_model::disk::Disk;
 
 /// The most turns of a command.
 const MOST_TURNS: u32 = 1_000;
+
+/// Tells the container the end of a server, which the last call ended, and saves what it then asks for.
+fn reaped<H: Host>(
+    alloc: Global,
+    host: &mut H,
+    core: &mut ContainerCore,
+    inc: u32,
+    noticed: &mut Option<Told>,
+) -> Result<(), ScriptFault>
+    requires ended { IsEnded ⟦<H::Disk as Disk>⟧ inc (H.told host.old) core.old }
+    requires seen { Tells (notices (H.told host.old)) noticed.old }
+    ensures leaves { Leaves ⟦<H::Disk as Disk>⟧ result (H.told host.new) core.new noticed.new }
+    ensures serving { servers (H.told host.new) ≡ servers (H.told host.old) }
+    ensures ordered { course (H.told host.new) ≡ course (H.told host.old) }
+{
+    match reap(alloc, host, core, inc) {
+        Ok(answer) => save_all(alloc, host, core, &answer, noticed),
+        Err(ContainerFault::NoMemory) => Err(ScriptFault::NoMemory),
+        Err(_) => Ok(()),
+    }
+}
 
 /// Ends the server of the link at a place, and tells the container its end.
 pub fn end_at<H: Host>(
@@ -51,11 +74,7 @@ pub fn end_at<H: Host>(
 {
     let link = progress.links.remove(place);
     host.end(link.inc);
-    match reap(alloc, host, &mut progress.core, link.inc) {
-        Ok(answer) => save_all(alloc, host, &mut progress.core, &answer, &mut progress.noticed),
-        Err(ContainerFault::NoMemory) => Err(ScriptFault::NoMemory),
-        Err(_) => Ok(()),
-    }
+    reaped(alloc, host, &mut progress.core, link.inc, &mut progress.noticed)
 }
 
 /// Ends the servers of all links.

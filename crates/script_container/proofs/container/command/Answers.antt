@@ -1,7 +1,6 @@
 use Rattle.std.proofs.Common.{◌≡◌, refl, ◌∙◌, ap}
 use Rattle.script_container.proofs.Answered.{command_refused, command_taken, one_command, starts_none}
-use Rattle.script_container.proofs.Servers.{by_command}
-use Rattle.script_container.specs.Servers.{servers}
+use Rattle.script_container.specs.Servers.{servers, turned}
 use Rattle.script_container.proofs.container.command.Goals as goal
 
 pub returns-clause-answered : goal.returns-clause-answered
@@ -24,4 +23,5 @@ returns-clause-starts g c =
     c.command-told.result c.steady.ensures.in_session c.noted.ensures.same c.command-told.ensures.taken
 
 pub returns-clause-serving : goal.returns-clause-serving
-returns-clause-serving g c = c.noted.ensures.serving ∙ ap servers c.note.ensures ∙ by_command (g.H.Host.told c.args.host.now) c.args.command
+unfolding servers turned
+returns-clause-serving g c = c.noted.ensures.serving ∙ ap servers c.note.ensures

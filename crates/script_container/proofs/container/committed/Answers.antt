@@ -3,8 +3,7 @@ use Rattle.container_model.specs.Saves.{commit_done, counted_of}
 use Rattle.script_model.specs.declared.step.Step.TheVariants as step
 use Rattle.script_container.proofs.Done.{commit_done_by, commit_leaves}
 use Rattle.script_container.proofs.Given.{step_told}
-use Rattle.script_container.proofs.Servers.{by_committed}
-use Rattle.script_container.specs.Servers.{servers}
+use Rattle.script_container.specs.Servers.{servers, turned}
 use Rattle.script_container.proofs.container.committed.Goals as goal
 
 pub returns-clause-told : goal.returns-clause-told
@@ -32,4 +31,5 @@ returns-clause-done g c =
     c.commit_done-told.ensures.taken c.commit_done-told.ensures.refused c.commit_done-told.ensures.kept
 
 pub returns-clause-serving : goal.returns-clause-serving
-returns-clause-serving g c = c.noted.ensures.serving ∙ ap servers c.note.ensures ∙ by_committed (g.H.Host.told c.args.host.now) c.args.frame
+unfolding servers turned
+returns-clause-serving g c = c.noted.ensures.serving ∙ ap servers c.note.ensures

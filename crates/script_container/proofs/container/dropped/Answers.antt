@@ -3,8 +3,7 @@ use Rattle.container_model.specs.Saves.{resolve}
 use Rattle.script_model.specs.declared.step.Step.TheVariants as step
 use Rattle.script_container.proofs.Done.{drop_done_by, drop_leaves}
 use Rattle.script_container.proofs.Given.{step_told}
-use Rattle.script_container.proofs.Servers.{by_resolved}
-use Rattle.script_container.specs.Servers.{servers}
+use Rattle.script_container.specs.Servers.{servers, turned}
 use Rattle.script_container.proofs.container.dropped.Goals as goal
 
 pub returns-clause-told : goal.returns-clause-told
@@ -25,4 +24,5 @@ returns-clause-done g c =
     c.resolve-told.ensures.taken c.resolve-told.ensures.refused c.resolve-told.ensures.kept
 
 pub returns-clause-serving : goal.returns-clause-serving
-returns-clause-serving g c = c.noted.ensures.serving ∙ ap servers c.note.ensures ∙ by_resolved (g.H.Host.told c.args.host.now) c.args.frame false
+unfolding servers turned
+returns-clause-serving g c = c.noted.ensures.serving ∙ ap servers c.note.ensures

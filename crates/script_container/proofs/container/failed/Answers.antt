@@ -1,12 +1,11 @@
-use Rattle.std.proofs.Common.{refl, ◌∙◌, ap}
+use Rattle.std.proofs.Common.{refl, ap}
 use Rattle.container_model.specs.Saves.{commit_failed}
 use Rattle.container_model.specs.Record.{counts_none}
 use Rattle.script_model.specs.declared.step.Step.TheVariants as step
 use Rattle.script_container.proofs.Done.{failure_answered, failure_leaves}
 use Rattle.script_container.proofs.Given.{step_alone}
 use Rattle.script_container.proofs.Noticed.{failure_noticed}
-use Rattle.script_container.proofs.Servers.{by_failed}
-use Rattle.script_container.specs.Servers.{servers}
+use Rattle.script_container.specs.Servers.{servers, turned}
 use Rattle.script_container.proofs.container.failed.Goals as goal
 
 pub returns-clause-told : goal.returns-clause-told
@@ -32,4 +31,5 @@ returns-clause-answered g c =
     c.commit_failed.ensures.kept
 
 pub returns-clause-serving : goal.returns-clause-serving
-returns-clause-serving g c = ap servers c.note.ensures ∙ by_failed (g.H.Host.told c.args.host.now) c.args.frame
+unfolding servers turned
+returns-clause-serving g c = ap servers c.note.ensures

@@ -12,8 +12,7 @@ use Rattle.script_model.specs.declared.answer.Told.TheVariants as told
 use Rattle.script_model.specs.declared.step.Step.TheVariants as step
 use Rattle.script_container.proofs.Answered.{file_made, file_refused}
 use Rattle.script_container.proofs.Opened.{few_given, file_told, one_name, opened_by}
-use Rattle.script_container.proofs.Servers.{by_open}
-use Rattle.script_container.specs.Servers.{servers}
+use Rattle.script_container.specs.Servers.{servers, turned}
 use Rattle.script_container.proofs.container.opened.Goals as goal
 
 pub returns-clause-told : goal.returns-clause-told
@@ -81,6 +80,5 @@ returns-clause-refused g c =
     c.open_file-told.ensures.refused)
 
 pub returns-clause-serving : goal.returns-clause-serving
+unfolding servers turned
 returns-clause-serving g c = c.noted.ensures.serving ∙ ap servers c.note.ensures
-    ∙ by_open (g.H.Host.told c.args.host.now) c.args.name c.args.width c.args.height c.session-session.result
-    c.from_vec-objects.result

@@ -3,8 +3,7 @@ use Rattle.container_model.specs.Messages.{on_reap}
 use Rattle.container_model.specs.Record.{counts_none}
 use Rattle.script_model.specs.declared.step.Step.TheVariants as step
 use Rattle.script_container.proofs.Given.{ended_so, just_ended, step_noted}
-use Rattle.script_container.proofs.Servers.{by_reap}
-use Rattle.script_container.specs.Servers.{servers}
+use Rattle.script_container.specs.Servers.{servers, turned}
 use Rattle.script_container.proofs.container.reap.Goals as goal
 
 pub returns-clause-told : goal.returns-clause-told
@@ -16,4 +15,5 @@ returns-clause-told g c =
     c.on_reap-told.ensures.kept (ended_so c.args.inc (g.H.Host.told c.args.host.now) c.args.core.now c.requires)
 
 pub returns-clause-serving : goal.returns-clause-serving
-returns-clause-serving g c = c.noted.ensures.serving ∙ ap servers c.note.ensures ∙ by_reap (g.H.Host.told c.args.host.now) c.args.inc
+unfolding servers turned
+returns-clause-serving g c = c.noted.ensures.serving ∙ ap servers c.note.ensures

@@ -42,11 +42,13 @@ returns-in_default-clause-read g c = read_pace (g.H.Host.told c.args.host.now) (
     c.args.link.now.inc _ _ c.in-Ok.ensures.told
 
 pub returns-in-Err-Failed-clause-apart : goal.returns-in-Err-Failed-clause-apart
-returns-in-Err-Failed-clause-apart g c = ap (others c.args.link.now.inc c.args.link.now.held) c.in-Err-Failed.ensures.told
+returns-in-Err-Failed-clause-apart g c = ap (others c.args.link.now.inc c.args.link.now.held)
+    c.in-Err-Failed.ensures.told
     ∙ by_heard c.args.link.now.inc c.args.link.now.held (g.H.Host.told c.args.host.now) _ _
 
 pub returns-in-Err-NoMemory-clause-apart : goal.returns-in-Err-NoMemory-clause-apart
-returns-in-Err-NoMemory-clause-apart g c = ap (others c.args.link.now.inc c.args.link.now.held) c.in-Err-NoMemory.ensures.told
+returns-in-Err-NoMemory-clause-apart g c = ap (others c.args.link.now.inc c.args.link.now.held)
+    c.in-Err-NoMemory.ensures.told
     ∙ by_heard c.args.link.now.inc c.args.link.now.held (g.H.Host.told c.args.host.now) _ _
 
 pub returns-then-n-eq0-clause-apart : goal.returns-then-n-eq0-clause-apart

@@ -31,7 +31,8 @@ serve-requires-clause-ready g c = is_next 1000 (g.H.Host.told c.args.host.now) (
 pub returns-clause-ready : goal.returns-clause-ready
 returns-clause-ready g c = λ n underway.
     on_ok_weaker c.serve.result
-    (λ had. turn_goes_on n (g.H.Host.told c.args.host.now) (g.H.Host.told c.serve.new.host) c.args.progress.now.links.items
+    (λ had. turn_goes_on n (g.H.Host.told c.args.host.now) (g.H.Host.told c.serve.new.host)
+    c.args.progress.now.links.items
     c.args.place c.requires.within c.index_mut.result.now c.serve.new.link c.index_mut.ensures.value
     (λ s. single_linked (g.H.Host.told c.args.host.now) c.args.progress.now.links.items s c.requires.going.told.single
     c.requires.going.linked) c.serve.ensures.same
