@@ -40,25 +40,22 @@ told_same : (inc : ℕ) (held : Bool) (f : ℕ → Bool) → f inc ≡ held → 
 told_same inc held f is =
     λ i. λ s. either_way (inc == s) held (f s) (λ this. sym is ∙ ap f (eqb-true inc s this)) i
 
--- ---- what is known
+-- ---- what is known, once `others` is opened
 
-module _ {D : Type 0} {es after : List (Event D)} {inc : ℕ} {held : Bool} where
-  pub still_apart : others inc held after ≡ others inc held es → (s : ℕ) → running s after ≡ running s es
-  unfolding others
-  still_apart same s = ap (λ (o : Others D). o.runs s) same
+module _ {D : Type 0} {a b : Others D} (same : a ≡ b) where
+  pub still_apart : (s : ℕ) → a.runs s ≡ b.runs s
+  still_apart s = ap (λ (o : Others D). o.runs s) same
 
-  pub apart_of : others inc held after ≡ others inc held es → (s : ℕ) → beside inc s after ≡ beside inc s es
-  unfolding others
-  apart_of same s = ap (λ (o : Others D). o.passing s) same
+  pub apart_of : (s : ℕ) → a.passing s ≡ b.passing s
+  apart_of s = ap (λ (o : Others D). o.passing s) same
 
-  pub aside_of : others inc held after ≡ others inc held es → (s : ℕ) → pace_beside inc s after ≡ pace_beside inc s es
-  unfolding others
-  aside_of same s = ap (λ (o : Others D). o.pacing s) same
+  pub aside_of : (s : ℕ) → a.pacing s ≡ b.pacing s
+  aside_of s = ap (λ (o : Others D). o.pacing s) same
 
-  pub ordered_of : others inc held after ≡ others inc held es → course after ≡ course es
-  unfolding others
-  ordered_of same = ap (λ (o : Others D). o.ordering) same
+  pub ordered_of : a.ordering ≡ b.ordering
+  ordered_of = ap (λ (o : Others D). o.ordering) same
 
+module _ {D : Type 0} (es after : List (Event D)) (inc : ℕ) (held : Bool) where
   pub handed_of : others inc held after ≡ others inc held es → (f : ℕ → Bool) → f inc ≡ held
       → handed f after ≡ handed f es
   unfolding others
@@ -77,9 +74,9 @@ module _ {D : Type 0} {es after : List (Event D)} {inc : ℕ} {held : Bool} wher
   }
 
 -- calls of one link after another, which is of the same server
-pub apart_then : {D : Type 0} {es mid new : List (Event D)} {i j : ℕ} {h k : Bool} → j ≡ i → k ≡ h
+pub apart_then : {D : Type 0} (es mid new : List (Event D)) (i j : ℕ) (h k : Bool) → j ≡ i → k ≡ h
     → others j k new ≡ others j k mid → others i h mid ≡ others i h es → others i h new ≡ others i h es
-apart_then {mid = mid} {new = new} {i = i} {j = j} {h = h} {k = k} same held last first =
+apart_then es mid new i j h k same held last first =
     subst (λ (n : ℕ). others n h new ≡ others n h mid) same
     (subst (λ (b : Bool). others j b new ≡ others j b mid) held last) ∙ first
 
@@ -118,29 +115,31 @@ module _ {D : Type 0} (inc : ℕ) (held : Bool) (es : List (Event D)) where
 
 -- ---- messages
 
-module _ {D : Type 0} {es after : List (Event D)} (inc : ℕ) (m : Message) where
-  by_message : others inc false (Stepped (step.Message inc m) ∷ es) ≡ others inc false es
-  unfolding others
-  by_message = λ i. record {
-    runs = λ s. running s es;
-    passing = λ s. twice (inc == s) unlinked (giving (m ∷ []) (passed s es)) (passed s es) i;
-    pacing = λ s. pace_beside inc s es;
-    handing = λ f. handed_other (telling inc false f) es (Stepped (step.Message inc m) ∷ es) inc m refl
-        (taken (inc == inc) false (f inc) (eq-eqb inc inc refl)) i;
-    ordering = course es;
-  }
+by_message : {D : Type 0} (es : List (Event D)) (inc : ℕ) (m : Message)
+    → others inc false (Stepped (step.Message inc m) ∷ es) ≡ others inc false es
+unfolding others
+by_message es inc m = λ i. record {
+  runs = λ s. running s es;
+  passing = λ s. twice (inc == s) unlinked (giving (m ∷ []) (passed s es)) (passed s es) i;
+  pacing = λ s. pace_beside inc s es;
+  handing = λ f. handed_other (telling inc false f) es (Stepped (step.Message inc m) ∷ es) inc m refl
+      (taken (inc == inc) false (f inc) (eq-eqb inc inc refl)) i;
+  ordering = course es;
+}
 
+module _ {D : Type 0} (es after : List (Event D)) (inc : ℕ) (m : Message)
+    (given : servers after ≡ servers (Stepped (step.Message inc m) ∷ es)) where
   -- the container was given a message of a server whose link holds nothing
-  pub message_apart : (held : Bool) → held ≡ false → servers after ≡ servers (Stepped (step.Message inc m) ∷ es)
-      → course after ≡ course es → others inc held after ≡ others inc held es
-  message_apart held free given ordered = subst (λ (b : Bool). others inc b after ≡ others inc b es) (sym free)
-      (by_servers given ordered ∙ by_message)
+  pub message_apart : (held : Bool) → held ≡ false → course after ≡ course es
+      → others inc held after ≡ others inc held es
+  message_apart held free ordered = subst (λ (b : Bool). others inc b after ≡ others inc b es) (sym free)
+      (by_servers (Stepped (step.Message inc m) ∷ es) after inc false given ordered ∙ by_message es inc m)
 
-  pub message_given : servers after ≡ servers (Stepped (step.Message inc m) ∷ es)
-      → passed inc after ≡ giving (m ∷ []) (passed inc es)
-  message_given given = quiet_of given inc
+  pub message_given : passed inc after ≡ giving (m ∷ []) (passed inc es)
+  unfolding servers
+  message_given = quiet_of given inc
       ∙ taken (inc == inc) (giving (m ∷ []) (passed inc es)) (passed inc es) (eq-eqb inc inc refl)
 
-  pub message_paced : servers after ≡ servers (Stepped (step.Message inc m) ∷ es) → (s : ℕ)
-      → pace s after ≡ pace s es
-  message_paced given s = paced_of (turned_of given) s
+  pub message_paced : (s : ℕ) → pace s after ≡ pace s es
+  unfolding servers turned
+  message_paced s = paced_of (turned_of given) s

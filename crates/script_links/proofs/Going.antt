@@ -5,11 +5,12 @@ use Rattle.container_model.specs.Record.{Record}
 use Rattle.store_model.specs.declared.disk.Disk.{Ghosts as Disks}
 use Rattle.script_model.specs.Courses.{course}
 use Rattle.script_model.specs.Events.{Event}
-use Rattle.script_model.specs.Notices.{Tells, notices}
+use Rattle.script_model.specs.Notices.{Notice, Tells, notices}
 use Rattle.script_container.specs.Handed.{handed}
 use Rattle.script_container.specs.Known.{IsKnown, IsStopped, Leaves}
 use Rattle.script_model.specs.Origins.{passed}
 use Rattle.script_model.specs.declared.answer.Told.{Told}
+use Rattle.script_container.proofs.Noticed.{seen_still}
 use Rattle.script_container.proofs.Servers.{quiet_of, still_of}
 use Rattle.script_container.specs.Servers.{servers}
 use Rattle.script_container.specs.Shown.{Shows}
@@ -23,6 +24,20 @@ use Rattle.script_links.specs.declared.links.Link.{Link}
 use Rattle.script_links.specs.declared.progress.Progress.{Progress}
 
 module _ {D : Type 0} (disks : Disks D) where
+  -- where nothing more was noticed
+  pub known_still : {before : Option Notice} {after : List (Event D)} {r : Record} (noticed : Option Told)
+      → IsTold disks after r → notices after ≡ before → Tells before noticed → IsKnown disks after r noticed
+  known_still {before = before} {after = after} noticed told same seen =
+      record { told = told; seen = seen_still before (notices after) noticed same seen }
+
+  -- refused for want of memory alone
+  pub lacking_leaves : {T : Type 0} (r : Result T ScriptFault) (es after : List (Event D)) (rec : Record)
+      (noticed : Option Told) → IsTold disks after rec → notices after ≡ notices es → Tells (notices es) noticed
+      → IfErr r (λ e. e ≡ fault.NoMemory) → Leaves disks r after rec noticed
+  lacking_leaves (Ok x) es after rec noticed told same seen lacking = known_still noticed told same seen
+  lacking_leaves (Err e) es after rec noticed told same seen lacking =
+      record { told = told; shown = subst (λ (f : ScriptFault). Shows disks after f) (sym lacking) tt }
+
   -- an error that is handed on
   pub ends_on : {T : Type 0} (r : Result T ScriptFault) (e : ScriptFault) (es : List (Event D)) (p : Progress)
       → IsErrAnd r (λ x. x ≡ e) → IsEnding disks es p e → LeavesGoing disks r es p
@@ -52,6 +67,7 @@ module _ {D : Type 0} (disks : Disks D) where
   pub known_on : (es after : List (Event D)) (p : Progress) (core : Record) (noticed : Option Told)
       → servers after ≡ servers es → AreLinked es p.links.items → AreServed es p.links.items
       → IsKnown disks after core noticed → IsGoingOn disks after (record p { core = core; noticed = noticed })
+  unfolding servers
   known_on es after p core noticed serving linked served known = record {
     told = known.told;
     linked = λ s. still_of serving s ∙ linked s;
@@ -63,26 +79,11 @@ module _ {D : Type 0} (disks : Disks D) where
       (noticed : Option Told) → servers after ≡ servers es → AreLinked es p.links.items
       → AreServed es p.links.items → Leaves disks r after core noticed
       → LeavesGoing disks r after (record p { core = core; noticed = noticed })
+  unfolding servers
   goes_on (Ok x) es after p core noticed serving linked served known = known_on es after p core noticed serving linked
       served known
   goes_on (Err e) es after p core noticed serving linked served stopped =
       record { told = stopped.told; linked = λ s. still_of serving s ∙ linked s; shown = stopped.shown }
-
-  -- however it ends, the container's record is that of the history, and the servers that run are those of the links
-  pub told_going : {T : Type 0} (r : Result T ScriptFault) (es : List (Event D)) (p : Progress)
-      → LeavesGoing disks r es p → IsTold disks es p.core
-  told_going (Ok x) es p leaves = leaves.told
-  told_going (Err e) es p leaves = leaves.told
-
-  pub linked_going : {T : Type 0} (r : Result T ScriptFault) (es : List (Event D)) (p : Progress)
-      → LeavesGoing disks r es p → AreLinked es p.links.items
-  linked_going (Ok x) es p leaves = leaves.linked
-  linked_going (Err e) es p leaves = leaves.linked
-
-  pub shown_going : {T : Type 0} (r : Result T ScriptFault) (es : List (Event D)) (p : Progress)
-      → LeavesGoing disks r es p → IfErr r (λ e. Shows disks es e)
-  shown_going (Ok x) es p leaves = tt
-  shown_going (Err e) es p leaves = leaves.shown
 
   pub lawful_of : (es : List (Event D)) (r : Record) → IsTold disks es r → IsLawful disks es
   lawful_of es r t = record {

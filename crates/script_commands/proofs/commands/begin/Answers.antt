@@ -4,17 +4,12 @@ use Rattle.container_model.specs.Record.{Record}
 use Rattle.script_links.specs.Ready.{AreReady}
 use Rattle.script_links.proofs.Paces.{all_rested, single_linked, still_rested}
 use Rattle.script_links.proofs.Served.{on_ok}
-use Rattle.script_container.proofs.Known.{leaves_by}
-use Rattle.script_container.proofs.Noticed.{seen_still}
 use Rattle.script_container.proofs.Servers.{handing_of, paced_of, turned_of}
-use Rattle.script_links.proofs.Going.{goes_by, goes_on}
-use Rattle.script_links.specs.Links.{AreServed}
-use Rattle.script_container.proofs.Shown.{memory_shown}
+use Rattle.script_links.proofs.Going.{goes_on, lacking_leaves}
 use Rattle.script_model.specs.Bounds.{pace}
 use Rattle.script_model.specs.Courses.{course}
 use Rattle.script_model.specs.Errors.{behind_hold}
 use Rattle.script_model.specs.Events.{running}
-use Rattle.script_model.specs.Notices.{Tells, notices}
 use Rattle.script_model.specs.Orders.{asked, behind_command, orders}
 use Rattle.script_model.specs.Origins.{passed}
 use Rattle.script_model.specs.declared.command.ScriptCommand.{ScriptCommand}
@@ -27,15 +22,18 @@ use Rattle.script_commands.proofs.Ordered.{as_begun, as_ordered, none_begun, non
 use Rattle.script_commands.specs.Lines.{IsCut, told_of_server}
 use Rattle.script_opens.specs.Opening.{IsOpenTold}
 use Rattle.script_commands.proofs.Handing.{none_handed, released}
+use Rattle.script_container.specs.Servers.{servers, turned}
 use Rattle.script_commands.proofs.commands.begin.Goals as goal
 
 pub returns-in-Container-clause-ready : goal.returns-in-Container-clause-ready
+unfolding turned
 returns-in-Container-clause-ready g c =
     on_ok c.order.result (AreReady 1 (g.H.Host.told c.order.new.host) c.order.new.progress.links.items)
     (still_rested (g.H.Host.told c.args.host.now) (g.H.Host.told c.order.new.host) c.order.new.progress.links.items
     (paced_of c.order.ensures.turning) c.requires.rested)
 
 pub returns-in-Open-clause-ready : goal.returns-in-Open-clause-ready
+unfolding servers turned
 returns-in-Open-clause-ready g c =
     on_ok c.open.result (AreReady 1 (g.H.Host.told c.open.new.host) c.args.progress.now.links.items)
     (still_rested (g.H.Host.told c.args.host.now) (g.H.Host.told c.open.new.host) c.args.progress.now.links.items
@@ -247,11 +245,13 @@ returns-in-Release-clause-first g c =
     (λ t p. (refl, p ∙ ap told_of_server ran)) c.release_link.ensures.first
 
 pub returns-in-Container-clause-handing : goal.returns-in-Container-clause-handing
+unfolding turned
 returns-in-Container-clause-handing g c = λ f. handing_of c.order.ensures.turning
     (λ s. behind_hold c.args.command s (f s))
     ∙ none_handed (g.H.Host.told c.args.host.now) c.requires.begins (λ s. behind_hold c.args.command s (f s))
 
 pub returns-in-Open-clause-handing : goal.returns-in-Open-clause-handing
+unfolding servers turned
 returns-in-Open-clause-handing g c = λ f. handing_of (turned_of c.open.ensures.serving)
     (λ s. behind_hold c.args.command s (f s))
     ∙ none_handed (g.H.Host.told c.args.host.now) c.requires.begins (λ s. behind_hold c.args.command s (f s))
@@ -274,29 +274,6 @@ returns-in-Release-clause-handing g c = λ f.
     (released c.args.command c.in-Release.inc (f c.in-Release.inc) c.in-Release.is)
     ∙ none_handed (g.H.Host.told c.args.host.now) c.requires.begins (λ s. behind_hold c.args.command s (f s))
 
-pub returns-in-Open-clause-leaves : goal.returns-in-Open-clause-leaves
-returns-in-Open-clause-leaves g c =
-    goes_on g.H.Disk.Disk c.open.result (g.H.Host.told c.args.host.now) (g.H.Host.told c.open.new.host)
-    c.args.progress.now c.open.new.core c.args.progress.now.noticed c.open.ensures.serving c.requires.going.linked
-    c.requires.going.served
-    (leaves_by g.H.Disk.Disk c.open.result (g.H.Host.told c.open.new.host) c.open.new.core
-    c.args.progress.now.noticed c.open.ensures.told
-    (on_ok c.open.result (Tells (notices (g.H.Host.told c.open.new.host)) c.args.progress.now.noticed)
-    (seen_still (notices (g.H.Host.told c.args.host.now)) (notices (g.H.Host.told c.open.new.host))
-    c.args.progress.now.noticed c.open.ensures.noticed c.requires.going.seen))
-    (memory_shown g.H.Disk.Disk c.open.result (g.H.Host.told c.open.new.host) c.open.ensures.lacking))
-
-pub returns-in-Screen-clause-leaves : goal.returns-in-Screen-clause-leaves
-returns-in-Screen-clause-leaves g c =
-    goes_by g.H.Disk.Disk c.show.result (g.H.Host.told c.args.host.now) c.args.progress.now
-    (leaves_by g.H.Disk.Disk c.show.result (g.H.Host.told c.args.host.now) c.args.progress.now.core
-    c.args.progress.now.noticed c.requires.going.told
-    (on_ok c.show.result (Tells (notices (g.H.Host.told c.args.host.now)) c.args.progress.now.noticed)
-    c.requires.going.seen)
-    (memory_shown g.H.Disk.Disk c.show.result (g.H.Host.told c.args.host.now) c.show.ensures.lacking))
-    c.requires.going.linked
-    (on_ok c.show.result (AreServed (g.H.Host.told c.args.host.now) c.args.progress.now.links.items)
-    c.requires.going.served)
 
 pub returns-in-Hold-clause-leaves : goal.returns-in-Hold-clause-leaves
 returns-in-Hold-clause-leaves g c = record {
@@ -305,3 +282,20 @@ returns-in-Hold-clause-leaves g c = record {
   served = c.hold_link.ensures.served (λ s. passed s (g.H.Host.told c.args.host.now)) c.requires.going.served;
   seen = c.requires.going.seen;
 }
+
+pub returns-in-Open-clause-leaves : goal.returns-in-Open-clause-leaves
+returns-in-Open-clause-leaves g c =
+    goes_on g.H.Disk.Disk c.open.result (g.H.Host.told c.args.host.now) (g.H.Host.told c.open.new.host)
+    c.args.progress.now c.open.new.core c.args.progress.now.noticed c.open.ensures.serving c.requires.going.linked
+    c.requires.going.served
+    (lacking_leaves g.H.Disk.Disk c.open.result (g.H.Host.told c.args.host.now) (g.H.Host.told c.open.new.host)
+    c.open.new.core c.args.progress.now.noticed c.open.ensures.told c.open.ensures.noticed c.requires.going.seen
+    c.open.ensures.lacking)
+
+pub returns-in-Screen-clause-leaves : goal.returns-in-Screen-clause-leaves
+returns-in-Screen-clause-leaves g c =
+    let here = g.H.Host.told c.args.host.now in
+    goes_on g.H.Disk.Disk c.show.result here here c.args.progress.now c.args.progress.now.core
+    c.args.progress.now.noticed refl c.requires.going.linked c.requires.going.served
+    (lacking_leaves g.H.Disk.Disk c.show.result here here c.args.progress.now.core c.args.progress.now.noticed
+    c.requires.going.told refl c.requires.going.seen c.show.ensures.lacking)

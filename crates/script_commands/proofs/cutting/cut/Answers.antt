@@ -12,6 +12,8 @@ use Rattle.script_container.proofs.Servers.{handing_of, paced_of}
 use Rattle.script_links.proofs.Apart.{aside_of, ordered_of, still_apart}
 use Rattle.script_links.proofs.Going.{ends_on}
 use Rattle.script_commands.proofs.Lines.{one_link}
+use Rattle.script_container.specs.Servers.{turned}
+use Rattle.script_links.specs.Apart.{others}
 use Rattle.script_commands.proofs.cutting.cut.Goals as goal
 
 pub send_turn-requires-clause-within : goal.send_turn-requires-clause-within
@@ -26,6 +28,7 @@ reconnect_at-requires-clause-may g c = λ d.
     c.requires.rested c.in_ok-send_turn.ensures.sent)
 
 pub returns-then-made-clause-ready : goal.returns-then-made-clause-ready
+unfolding others
 returns-then-made-clause-ready g c =
     cut_ready (g.H.Host.told c.args.host.now) (g.H.Host.told c.send_turn.new.host)
     (g.H.Host.told c.reconnect_at.new.host) c.index.result.now.inc c.requires.rested
@@ -39,6 +42,7 @@ returns-then-made-clause-ready g c =
     (c.in_ok-made.ensures.made c.index.result.now))
 
 pub returns-clause-ready : goal.returns-clause-ready
+unfolding others turned
 returns-clause-ready g c =
     let within : c.args.place < length c.reconnect_at.new.progress.links.items =
     subst (λ (k : ℕ). c.args.place < k) (sym c.reconnect_at.ensures.many) c.requires.within in
@@ -67,6 +71,7 @@ returns-then-made-clause-anew g c = λ d.
     c.in_ok-made.made (c.in_ok-made.ensures.made d)
 
 pub returns-clause-anew : goal.returns-clause-anew
+unfolding turned
 returns-clause-anew g c = λ d.
     let inc = (slice_index_or c.args.progress.now.links.items c.args.place d).inc in
     on_ok c.end_at.result (1 ≤ (pace inc (g.H.Host.told c.end_at.new.host)).links)
@@ -74,6 +79,7 @@ returns-clause-anew g c = λ d.
     c.in_ok-made.made (paced_of c.end_at.ensures.turning inc ∙ c.in_ok-made.ensures.made d))
 
 pub reconnect_at-requires-clause-going : goal.reconnect_at-requires-clause-going
+unfolding others
 reconnect_at-requires-clause-going g c = record {
   told = c.send_turn.ensures.told;
   linked = λ s. still_apart (c.send_turn.ensures.apart false) s ∙ c.requires.going.linked s;
@@ -85,6 +91,7 @@ reconnect_at-requires-clause-going g c = record {
 }
 
 pub returns-in_err-send_turn-clause-leaves : goal.returns-in_err-send_turn-clause-leaves
+unfolding others
 returns-in_err-send_turn-clause-leaves g c =
     let again : IsErrAnd c.from_residual.result (λ x. x ≡ c.in_err-send_turn.field-0.0) = search rules in
     ends_on g.H.Disk.Disk c.from_residual.result c.in_err-send_turn.field-0.0 (g.H.Host.told c.send_turn.new.host)
@@ -101,18 +108,23 @@ returns-in_err-made-clause-leaves g c =
     (g.H.Host.told c.reconnect_at.new.host) c.reconnect_at.new.progress again c.in_err-made.ensures.leaves
 
 pub returns-in_err-send_turn-clause-ordered : goal.returns-in_err-send_turn-clause-ordered
+unfolding others
 returns-in_err-send_turn-clause-ordered g c = ordered_of (c.send_turn.ensures.apart false)
 
 pub returns-in_err-made-clause-ordered : goal.returns-in_err-made-clause-ordered
+unfolding others
 returns-in_err-made-clause-ordered g c = c.reconnect_at.ensures.ordered ∙ ordered_of (c.send_turn.ensures.apart false)
 
 pub returns-then-made-clause-ordered : goal.returns-then-made-clause-ordered
+unfolding others
 returns-then-made-clause-ordered g c = c.reconnect_at.ensures.ordered ∙ ordered_of (c.send_turn.ensures.apart false)
 
 pub returns-clause-ordered : goal.returns-clause-ordered
+unfolding others
 returns-clause-ordered g c = c.end_at.ensures.ordered ∙ c.reconnect_at.ensures.ordered
     ∙ ordered_of (c.send_turn.ensures.apart false)
 
 pub returns-clause-handing : goal.returns-clause-handing
+unfolding turned
 returns-clause-handing g c = λ f. handing_of c.end_at.ensures.turning f ∙ c.reconnect_at.ensures.handing f
     ∙ c.send_turn.ensures.handing f

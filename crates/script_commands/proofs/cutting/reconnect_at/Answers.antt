@@ -7,13 +7,10 @@ use Rattle.script_links.proofs.Linked.{same_links}
 use Rattle.script_links.proofs.Paces.{any_at, set_at}
 use Rattle.script_links.proofs.Served.{on_ok, placed_served}
 use Rattle.script_links.specs.Links.{AreServed}
-use Rattle.script_model.specs.Notices.{Tells, notices}
-use Rattle.script_container.proofs.Known.{leaves_by}
-use Rattle.script_container.proofs.Noticed.{seen_still}
-use Rattle.script_container.proofs.Shown.{memory_shown}
 use Rattle.script_links.proofs.Apart.{apart_of, aside_of, ordered_of, still_apart}
-use Rattle.script_links.proofs.Going.{goes_by}
+use Rattle.script_links.proofs.Going.{goes_by, lacking_leaves}
 use Rattle.script_links.proofs.Shown.{hold_set}
+use Rattle.script_links.specs.Apart.{others}
 use Rattle.script_commands.proofs.cutting.reconnect_at.Goals as goal
 
 
@@ -30,6 +27,7 @@ reconnect-requires-clause-may g c = subst (λ (l : Link). MayLink (pace l.inc (g
     (sym c.index_mut.ensures.value) (c.requires.may c.index_mut.result.now)
 
 pub returns-clause-aside : goal.returns-clause-aside
+unfolding others
 returns-clause-aside g c = λ d.
     subst (λ (l : Link). (s : ℕ) → pace_beside l.inc s (g.H.Host.told c.reconnect.new.host)
     ≡ pace_beside l.inc s (g.H.Host.told c.args.host.now))
@@ -58,16 +56,13 @@ returns-clause-holding g c = λ f hold.
     (c.reconnect.ensures.holding ∙ ap (λ (l : Link). l.held) c.index_mut.ensures.value) hold
 
 pub returns-clause-leaves : goal.returns-clause-leaves
+unfolding others
 returns-clause-leaves g c =
-    let told = c.reconnect.ensures.told c.args.progress.now.core c.requires.going.told in
     goes_by g.H.Disk.Disk c.reconnect.result (g.H.Host.told c.reconnect.new.host) _
-    (leaves_by g.H.Disk.Disk c.reconnect.result (g.H.Host.told c.reconnect.new.host) c.args.progress.now.core
-    c.args.progress.now.noticed told
-    (on_ok c.reconnect.result (Tells (notices (g.H.Host.told c.reconnect.new.host)) c.args.progress.now.noticed)
-    (seen_still (notices (g.H.Host.told c.args.host.now)) (notices (g.H.Host.told c.reconnect.new.host))
-    c.args.progress.now.noticed c.reconnect.ensures.noticed c.requires.going.seen))
-    (memory_shown g.H.Disk.Disk c.reconnect.result (g.H.Host.told c.reconnect.new.host)
-    c.reconnect.ensures.lacking))
+    (lacking_leaves g.H.Disk.Disk c.reconnect.result (g.H.Host.told c.args.host.now)
+    (g.H.Host.told c.reconnect.new.host) c.args.progress.now.core c.args.progress.now.noticed
+    (c.reconnect.ensures.told c.args.progress.now.core c.requires.going.told) c.reconnect.ensures.noticed
+    c.requires.going.seen c.reconnect.ensures.lacking)
     (λ s.
     still_apart c.reconnect.ensures.apart s ∙ c.requires.going.linked s
     ∙ sym (same_links s c.args.progress.now.links.items c.args.place _ c.index_mut.result.now c.requires.within
@@ -79,4 +74,5 @@ returns-clause-leaves g c =
     (apart_of c.reconnect.ensures.apart) c.reconnect.ensures.served c.requires.going.served))
 
 pub returns-clause-ordered : goal.returns-clause-ordered
+unfolding others
 returns-clause-ordered g c = ordered_of c.reconnect.ensures.apart

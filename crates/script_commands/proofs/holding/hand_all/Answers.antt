@@ -13,21 +13,25 @@ loop-taken-preserved g c =
     search rules in
     record {
       known = c.in_ok-hand_over.ensures.leaves;
-      paced = λ s. message_paced c.args.inc c.in-Some.taken c.hand_over.ensures.serving s
+      paced = λ s. message_paced (g.H.Host.told c.loop-taken.host) (g.H.Host.told c.hand_over.new.host)
+      c.args.inc c.in-Some.taken c.hand_over.ensures.serving s
           ∙ c.loop-taken.invariant.paced s;
-      apart = message_apart c.args.inc c.in-Some.taken false refl c.hand_over.ensures.serving
-          c.hand_over.ensures.ordered ∙ c.loop-taken.invariant.apart;
+      apart = message_apart (g.H.Host.told c.loop-taken.host) (g.H.Host.told c.hand_over.new.host)
+      c.args.inc c.in-Some.taken c.hand_over.ensures.serving false refl c.hand_over.ensures.ordered
+      ∙ c.loop-taken.invariant.apart;
       next = others_next (passed c.args.inc (g.H.Host.told c.loop-taken.host))
           (passed c.args.inc (g.H.Host.told c.hand_over.new.host)) c.in-Some.taken
           (into_iter_items c.loop-taken.taken-iterator)
           (into_iter_items c.next.new.self) items
-          (message_given c.args.inc c.in-Some.taken c.hand_over.ensures.serving) c.loop-taken.invariant.next;
+          (message_given (g.H.Host.told c.loop-taken.host) (g.H.Host.told c.hand_over.new.host)
+          c.args.inc c.in-Some.taken c.hand_over.ensures.serving) c.loop-taken.invariant.next;
       given = others_given (passed c.args.inc (g.H.Host.told c.loop-taken.host))
           (passed c.args.inc (g.H.Host.told c.hand_over.new.host))
           (giving c.args.waiting (passed c.args.inc (g.H.Host.told c.args.host.now))) c.in-Some.taken
           (into_iter_items c.loop-taken.taken-iterator)
           (into_iter_items c.next.new.self) items
-          (message_given c.args.inc c.in-Some.taken c.hand_over.ensures.serving) c.loop-taken.invariant.given;
+          (message_given (g.H.Host.told c.loop-taken.host) (g.H.Host.told c.hand_over.new.host)
+          c.args.inc c.in-Some.taken c.hand_over.ensures.serving) c.loop-taken.invariant.given;
     }
 
 pub returns-in_err-hand_over-clause-leaves : goal.returns-in_err-hand_over-clause-leaves
@@ -37,19 +41,25 @@ returns-in_err-hand_over-clause-leaves g c =
     c.hand_over.new.core c.hand_over.new.noticed again c.in_err-hand_over.ensures.leaves
 
 pub returns-in_err-hand_over-clause-paced : goal.returns-in_err-hand_over-clause-paced
-returns-in_err-hand_over-clause-paced g c = λ s. message_paced c.args.inc c.in-Some.taken c.hand_over.ensures.serving s
+returns-in_err-hand_over-clause-paced g c = λ s. message_paced (g.H.Host.told c.loop-taken.host)
+    (g.H.Host.told c.hand_over.new.host)
+      c.args.inc c.in-Some.taken c.hand_over.ensures.serving s
     ∙ c.loop-taken.invariant.paced s
 
 pub returns-in_err-hand_over-clause-apart : goal.returns-in_err-hand_over-clause-apart
-returns-in_err-hand_over-clause-apart g c = message_apart c.args.inc c.in-Some.taken false refl
-    c.hand_over.ensures.serving
-    c.hand_over.ensures.ordered ∙ c.loop-taken.invariant.apart
+returns-in_err-hand_over-clause-apart g c = message_apart (g.H.Host.told c.loop-taken.host)
+    (g.H.Host.told c.hand_over.new.host)
+      c.args.inc c.in-Some.taken c.hand_over.ensures.serving false refl c.hand_over.ensures.ordered
+      ∙ c.loop-taken.invariant.apart
 
 pub returns-then-not-branch-clause-paced : goal.returns-then-not-branch-clause-paced
-returns-then-not-branch-clause-paced g c = λ s. message_paced c.args.inc c.in-Some.taken c.hand_over.ensures.serving s
+returns-then-not-branch-clause-paced g c = λ s. message_paced (g.H.Host.told c.loop-taken.host)
+    (g.H.Host.told c.hand_over.new.host)
+      c.args.inc c.in-Some.taken c.hand_over.ensures.serving s
     ∙ c.loop-taken.invariant.paced s
 
 pub returns-then-not-branch-clause-apart : goal.returns-then-not-branch-clause-apart
-returns-then-not-branch-clause-apart g c = message_apart c.args.inc c.in-Some.taken false refl
-    c.hand_over.ensures.serving
-    c.hand_over.ensures.ordered ∙ c.loop-taken.invariant.apart
+returns-then-not-branch-clause-apart g c = message_apart (g.H.Host.told c.loop-taken.host)
+    (g.H.Host.told c.hand_over.new.host)
+      c.args.inc c.in-Some.taken c.hand_over.ensures.serving false refl c.hand_over.ensures.ordered
+      ∙ c.loop-taken.invariant.apart

@@ -6,6 +6,8 @@ use Rattle.script_container.proofs.Servers.{handing_of, paced_of}
 use Rattle.script_links.proofs.Apart.{apart_of, handed_of, ordered_of, still_apart}
 use Rattle.script_links.proofs.Going.{ends_on}
 use Rattle.script_commands.proofs.Held.{let_go_holds, server_at}
+use Rattle.script_container.specs.Servers.{turned}
+use Rattle.script_links.specs.Apart.{others}
 use Rattle.script_commands.proofs.holding.release.Goals as goal
 
 pub hand_all-requires-clause-next : goal.hand_all-requires-clause-next
@@ -15,6 +17,7 @@ hand_all-requires-clause-next g c =
     (c.let_go-waiting.ensures.waited c.index.result.now) c.requires.going.served
 
 pub end_at-requires-clause-served : goal.end_at-requires-clause-served
+unfolding others
 end_at-requires-clause-served g c =
     others_placed (g.H.Host.told c.args.host.now) (g.H.Host.told c.hand_all.new.host) c.args.progress.now.links.items
     c.let_go-waiting.new.links.items c.args.place c.index.result.now
@@ -43,6 +46,7 @@ returns-clause-holding g c = λ f inc at hold. c.end_at.ensures.holding (λ s. i
     (c.let_go-waiting.ensures.changed c.index.result.now) hold)
 
 pub returns-in_err-hand_all-clause-leaves : goal.returns-in_err-hand_all-clause-leaves
+unfolding others
 returns-in_err-hand_all-clause-leaves g c =
     let again : IsErrAnd c.from_residual.result (λ x. x ≡ c.in_err-hand_all.field-0.0) = search rules in
     ends_on g.H.Disk.Disk c.from_residual.result c.in_err-hand_all.field-0.0 (g.H.Host.told c.hand_all.new.host)
@@ -58,6 +62,7 @@ returns-in_err-hand_all-clause-leaves g c =
     })
 
 pub returns-then-branch-clause-leaves : goal.returns-then-branch-clause-leaves
+unfolding others
 returns-then-branch-clause-leaves g c = record {
   told = c.in_ok-hand_all.ensures.leaves.told;
   linked = (λ s. still_apart c.hand_all.ensures.apart s ∙ c.requires.going.linked s
@@ -73,33 +78,42 @@ returns-then-branch-clause-leaves g c = record {
 }
 
 pub end_at-requires-clause-linked : goal.end_at-requires-clause-linked
+unfolding others
 end_at-requires-clause-linked g c = (λ s. still_apart c.hand_all.ensures.apart s ∙ c.requires.going.linked s
     ∙ sym (c.let_go-waiting.ensures.same s))
 
 pub returns-clause-paced : goal.returns-clause-paced
+unfolding turned
 returns-clause-paced g c = λ s. paced_of c.end_at.ensures.turning s ∙ c.hand_all.ensures.paced s
 
 pub returns-clause-ordered : goal.returns-clause-ordered
+unfolding others
 returns-clause-ordered g c = c.end_at.ensures.ordered ∙ ordered_of c.hand_all.ensures.apart
 
 pub returns-in_err-hand_all-clause-handing : goal.returns-in_err-hand_all-clause-handing
-returns-in_err-hand_all-clause-handing g c = λ f inc at free. handed_of c.hand_all.ensures.apart f
+returns-in_err-hand_all-clause-handing g c = λ f inc at free. handed_of (g.H.Host.told c.args.host.now)
+    (g.H.Host.told c.hand_all.new.host) c.index.result.now.inc false c.hand_all.ensures.apart f
     (ap f (server_at c.args.progress.now.links.items c.args.place inc c.index.result.now c.requires.within
     c.index.ensures at) ∙ free)
 
 pub returns-in_err-hand_all-clause-ordered : goal.returns-in_err-hand_all-clause-ordered
+unfolding others
 returns-in_err-hand_all-clause-ordered g c = ordered_of c.hand_all.ensures.apart
 
 pub returns-then-branch-clause-handing : goal.returns-then-branch-clause-handing
-returns-then-branch-clause-handing g c = λ f inc at free. handed_of c.hand_all.ensures.apart f
+returns-then-branch-clause-handing g c = λ f inc at free. handed_of (g.H.Host.told c.args.host.now)
+    (g.H.Host.told c.hand_all.new.host) c.index.result.now.inc false c.hand_all.ensures.apart f
     (ap f (server_at c.args.progress.now.links.items c.args.place inc c.index.result.now c.requires.within
     c.index.ensures at) ∙ free)
 
 pub returns-then-branch-clause-ordered : goal.returns-then-branch-clause-ordered
+unfolding others
 returns-then-branch-clause-ordered g c = ordered_of c.hand_all.ensures.apart
 
 pub returns-clause-handing : goal.returns-clause-handing
+unfolding turned
 returns-clause-handing g c = λ f inc at free. handing_of c.end_at.ensures.turning f
-    ∙ handed_of c.hand_all.ensures.apart f
+    ∙ handed_of (g.H.Host.told c.args.host.now)
+    (g.H.Host.told c.hand_all.new.host) c.index.result.now.inc false c.hand_all.ensures.apart f
     (ap f (server_at c.args.progress.now.links.items c.args.place inc c.index.result.now c.requires.within
     c.index.ensures at) ∙ free)

@@ -5,6 +5,7 @@ use Rattle.script_container.proofs.Servers.{turned_of}
 use Rattle.script_links.proofs.Going.{ends_on, goes_on}
 use Rattle.script_links.proofs.Served.{on_ok}
 use Rattle.script_commands.proofs.Coursed.{starts_same, unstarted_same}
+use Rattle.script_container.specs.Servers.{servers}
 use Rattle.script_commands.proofs.ordering.act.Goals as goal
 
 
@@ -54,5 +55,6 @@ returns-clause-leaves g c =
     c.in_ok-end_asked.ensures.leaves.linked c.in_ok-end_asked.ensures.leaves.served c.save_all.ensures.leaves
 
 pub returns-clause-turning : goal.returns-clause-turning
+unfolding servers
 returns-clause-turning g c = turned_of c.save_all.ensures.serving ∙ c.end_asked.ensures.turning
     ∙ c.start_asked.ensures.turning

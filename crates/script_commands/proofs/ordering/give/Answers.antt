@@ -4,18 +4,14 @@ use Rattle.container_model.specs.Commands.{on_command}
 use Rattle.container_model.specs.Record.{counts_none}
 use Rattle.script_model.specs.Answers.{told_by}
 use Rattle.script_model.specs.Courses.{course}
-use Rattle.script_model.specs.Notices.{Tells, notices}
 use Rattle.script_container.proofs.Answered.{refused_with}
-use Rattle.script_container.proofs.Noticed.{seen_still}
-use Rattle.script_container.proofs.Known.{leaves_by}
 use Rattle.script_container.proofs.Servers.{turned_of}
-use Rattle.script_container.proofs.Shown.{memory_shown}
-use Rattle.script_links.proofs.Going.{ends_on, goes_on, known_on}
-use Rattle.script_links.proofs.Served.{on_ok}
+use Rattle.script_links.proofs.Going.{ends_on, goes_on, known_on, known_still, lacking_leaves}
 use Rattle.script_commands.proofs.Coursed.{given_on}
 use Rattle.script_commands.proofs.Lines.{refusal_told}
 use Rattle.script_opens.proofs.Results.{refused_on, refused_then}
 use Rattle.script_commands.proofs.Starting.{asked_for, none_for}
+use Rattle.script_container.specs.Servers.{servers}
 use Rattle.script_commands.proofs.ordering.give.Goals as goal
 
 
@@ -68,33 +64,31 @@ returns-in_err-act-in-Ok-clause-leaves g c =
     c.act.new.progress again c.in_err-act-in-Ok.ensures.leaves
 
 
-pub returns-in-Err-clause-leaves : goal.returns-in-Err-clause-leaves
-returns-in-Err-clause-leaves g c =
-    goes_on g.H.Disk.Disk c.refusal.result (g.H.Host.told c.args.host.now) (g.H.Host.told c.command.new.host)
-    c.args.progress.now c.command.new.core c.args.progress.now.noticed c.command.ensures.serving
-    c.requires.going.linked c.requires.going.served
-    (leaves_by g.H.Disk.Disk c.refusal.result (g.H.Host.told c.command.new.host) c.command.new.core
-    c.args.progress.now.noticed c.command.ensures.told
-    (on_ok c.refusal.result (Tells (notices (g.H.Host.told c.command.new.host)) c.args.progress.now.noticed)
-    (seen_still (notices (g.H.Host.told c.args.host.now)) (notices (g.H.Host.told c.command.new.host))
-    c.args.progress.now.noticed c.command.ensures.noticed c.requires.going.seen))
-    (memory_shown g.H.Disk.Disk c.refusal.result (g.H.Host.told c.command.new.host) c.refusal.ensures.lacking))
-
 pub returns-in_err-act-in-Ok-clause-turning : goal.returns-in_err-act-in-Ok-clause-turning
+unfolding servers
 returns-in_err-act-in-Ok-clause-turning g c = c.act.ensures.turning ∙ turned_of c.command.ensures.serving
 
 pub returns-in_ok-act-in-Ok-clause-turning : goal.returns-in_ok-act-in-Ok-clause-turning
+unfolding servers
 returns-in_ok-act-in-Ok-clause-turning g c = c.act.ensures.turning ∙ turned_of c.command.ensures.serving
 
 pub returns-in-Err-clause-turning : goal.returns-in-Err-clause-turning
+unfolding servers
 returns-in-Err-clause-turning g c = turned_of c.command.ensures.serving
 
 pub act-requires-clause-going : goal.act-requires-clause-going
 act-requires-clause-going g c =
     known_on g.H.Disk.Disk (g.H.Host.told c.args.host.now) (g.H.Host.told c.command.new.host) c.args.progress.now
     c.command.new.core c.args.progress.now.noticed c.command.ensures.serving c.requires.going.linked
-    c.requires.going.served (record {
-      told = c.command.ensures.told;
-      seen = seen_still (notices (g.H.Host.told c.args.host.now)) (notices (g.H.Host.told c.command.new.host))
-          c.args.progress.now.noticed c.command.ensures.noticed c.requires.going.seen;
-    })
+    c.requires.going.served (known_still g.H.Disk.Disk c.args.progress.now.noticed c.command.ensures.told
+    c.command.ensures.noticed
+    c.requires.going.seen)
+
+pub returns-in-Err-clause-leaves : goal.returns-in-Err-clause-leaves
+returns-in-Err-clause-leaves g c =
+    goes_on g.H.Disk.Disk c.refusal.result (g.H.Host.told c.args.host.now) (g.H.Host.told c.command.new.host)
+    c.args.progress.now c.command.new.core c.args.progress.now.noticed c.command.ensures.serving
+    c.requires.going.linked c.requires.going.served
+    (lacking_leaves g.H.Disk.Disk c.refusal.result (g.H.Host.told c.args.host.now)
+    (g.H.Host.told c.command.new.host) c.command.new.core c.args.progress.now.noticed c.command.ensures.told
+    c.command.ensures.noticed c.requires.going.seen c.refusal.ensures.lacking)

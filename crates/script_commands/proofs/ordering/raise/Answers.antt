@@ -5,12 +5,9 @@ use Rattle.container_model.specs.declared.command.Command.TheVariants as asks
 use Rattle.container_model.specs.Record.{counts_none}
 use Rattle.script_model.specs.Answers.{told_by}
 use Rattle.script_model.specs.Courses.{course}
-use Rattle.script_model.specs.Notices.{Tells, notices}
 use Rattle.script_container.proofs.Answered.{refused_with}
-use Rattle.script_container.proofs.Noticed.{seen_still}
-use Rattle.script_container.proofs.Known.{leaves_by, stopped_on}
-use Rattle.script_container.proofs.Shown.{memory_shown}
-use Rattle.script_links.proofs.Served.{on_ok}
+use Rattle.script_container.proofs.Known.{stopped_on}
+use Rattle.script_links.proofs.Going.{known_still, lacking_leaves}
 use Rattle.script_commands.proofs.Coursed.{given_on, starts_same, unstarted_same}
 use Rattle.script_commands.proofs.Lines.{refusal_told}
 use Rattle.script_opens.proofs.Results.{refused_on, refused_then}
@@ -58,11 +55,8 @@ returns-in-Err-clause-tried g c =
 
 pub save_all-requires : goal.save_all-requires
 save_all-requires g c = record {
-  known = record {
-    told = c.command.ensures.told;
-    seen = seen_still (notices (g.H.Host.told c.args.host.now)) (notices (g.H.Host.told c.command.new.host))
-        c.args.noticed.now c.command.ensures.noticed c.requires.known.seen;
-  };
+  known = known_still g.H.Disk.Disk c.args.noticed.now c.command.ensures.told c.command.ensures.noticed
+      c.requires.known.seen;
 }
 
 pub returns-in_err-save_all-in-Ok-clause-leaves : goal.returns-in_err-save_all-in-Ok-clause-leaves
@@ -74,9 +68,6 @@ returns-in_err-save_all-in-Ok-clause-leaves g c =
 
 pub returns-in-Err-clause-leaves : goal.returns-in-Err-clause-leaves
 returns-in-Err-clause-leaves g c =
-    leaves_by g.H.Disk.Disk c.refusal.result (g.H.Host.told c.command.new.host) c.command.new.core
-    c.args.noticed.now c.command.ensures.told
-    (on_ok c.refusal.result (Tells (notices (g.H.Host.told c.command.new.host)) c.args.noticed.now)
-    (seen_still (notices (g.H.Host.told c.args.host.now)) (notices (g.H.Host.told c.command.new.host))
-    c.args.noticed.now c.command.ensures.noticed c.requires.known.seen))
-    (memory_shown g.H.Disk.Disk c.refusal.result (g.H.Host.told c.command.new.host) c.refusal.ensures.lacking)
+    lacking_leaves g.H.Disk.Disk c.refusal.result (g.H.Host.told c.args.host.now) (g.H.Host.told c.command.new.host)
+    c.command.new.core c.args.noticed.now c.command.ensures.told c.command.ensures.noticed c.requires.known.seen
+    c.refusal.ensures.lacking

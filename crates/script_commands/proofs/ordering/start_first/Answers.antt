@@ -9,6 +9,7 @@ use Rattle.script_links.proofs.Linked.{still_linked}
 use Rattle.script_commands.proofs.Coursed.{asked_given}
 use Rattle.script_commands.proofs.Lines.{begun_so, commanded_before, commanded_so, raised_so, unraised_so}
 use Rattle.script_commands.proofs.Ordered.{raising_begun, start_begun, started_behind}
+use Rattle.script_container.specs.Servers.{servers}
 use Rattle.script_commands.proofs.ordering.start_first.Goals as goal
 
 pub give-requires-clause-readied : goal.give-requires-clause-readied
@@ -132,6 +133,7 @@ returns-in_err-raised-clause-holding g c = λ f hold. hold.each
 
 
 pub returns-in_err-raised-clause-leaves : goal.returns-in_err-raised-clause-leaves
+unfolding servers
 returns-in_err-raised-clause-leaves g c =
     let again : IsErrAnd c.from_residual.result (λ x. x ≡ c.in_err-raised.field-0.0) = search rules in
     ends_on g.H.Disk.Disk c.from_residual.result c.in_err-raised.field-0.0 (g.H.Host.told c.raise.new.host)
@@ -143,6 +145,7 @@ returns-in_err-raised-clause-leaves g c =
     })
 
 pub returns-in_err-raised-clause-turning : goal.returns-in_err-raised-clause-turning
+unfolding servers
 returns-in_err-raised-clause-turning g c = turned_of c.raise.ensures.serving
 
 pub returns-in_err-started-clause-leaves : goal.returns-in_err-started-clause-leaves
@@ -153,12 +156,15 @@ returns-in_err-started-clause-leaves g c =
     c.in_err-started.ensures.leaves
 
 pub returns-in_err-started-clause-turning : goal.returns-in_err-started-clause-turning
+unfolding servers
 returns-in_err-started-clause-turning g c = c.give.ensures.turning ∙ turned_of c.raise.ensures.serving
 
 pub returns-then-lacks-clause-turning : goal.returns-then-lacks-clause-turning
+unfolding servers
 returns-then-lacks-clause-turning g c = c.give.ensures.turning ∙ turned_of c.raise.ensures.serving
 
 pub returns-clause-turning : goal.returns-clause-turning
+unfolding servers
 returns-clause-turning g c = c.give.ensures.turning ∙ turned_of c.raise.ensures.serving
 
 pub give-requires-clause-going : goal.give-requires-clause-going

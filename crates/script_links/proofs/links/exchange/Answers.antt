@@ -2,9 +2,8 @@ use Rattle.std.proofs.Common.{◌≡◌, rules, ◌∙◌}
 use Rattle.script_model.specs.Bounds.{pace}
 use Rattle.script_links.proofs.Paces.{heard_on, may_hear, none_heard, sent_within}
 use Rattle.std.specs.Result.{IsErrAnd}
-use Rattle.script_model.specs.Notices.{notices}
 use Rattle.script_container.proofs.Known.{stopped_on}
-use Rattle.script_container.proofs.Noticed.{seen_still}
+use Rattle.script_links.proofs.Going.{known_still}
 use Rattle.script_links.proofs.links.exchange.Goals as goal
 
 pub returns-then-not-branch-clause-on : goal.returns-then-not-branch-clause-on
@@ -40,18 +39,14 @@ returns-in_err-send_turn-clause-leaves g c =
     (record { told = c.send_turn.ensures.told; shown = c.in_err-send_turn.ensures.shown })
 
 pub hear-requires-clause-known : goal.hear-requires-clause-known
-hear-requires-clause-known g c = record {
-  told = c.send_turn.ensures.told;
-  seen = seen_still (notices (g.H.Host.told c.args.host.now)) (notices (g.H.Host.told c.send_turn.new.host))
-      c.args.noticed.now c.send_turn.ensures.noticed c.requires.known.seen;
-}
+hear-requires-clause-known g c = known_still g.H.Disk.Disk c.args.noticed.now c.send_turn.ensures.told
+    c.send_turn.ensures.noticed
+    c.requires.known.seen
 
 pub returns-then-not-branch-clause-leaves : goal.returns-then-not-branch-clause-leaves
-returns-then-not-branch-clause-leaves g c = record {
-  told = c.send_turn.ensures.told;
-  seen = seen_still (notices (g.H.Host.told c.args.host.now)) (notices (g.H.Host.told c.send_turn.new.host))
-      c.args.noticed.now c.send_turn.ensures.noticed c.requires.known.seen;
-}
+returns-then-not-branch-clause-leaves g c = known_still g.H.Disk.Disk c.args.noticed.now c.send_turn.ensures.told
+    c.send_turn.ensures.noticed
+    c.requires.known.seen
 
 pub returns-in_err-send_turn-clause-apart : goal.returns-in_err-send_turn-clause-apart
 returns-in_err-send_turn-clause-apart g c = c.send_turn.ensures.apart c.args.link.now.held

@@ -1,10 +1,9 @@
 use Rattle.std.proofs.Common.{◌≡◌, ◌∙◌, ℕ, ap, rules}
 use Rattle.std.specs.Result.{IsErrAnd}
 use Rattle.script_model.specs.Bounds.{pace}
-use Rattle.script_model.specs.Notices.{notices}
-use Rattle.script_container.proofs.Known.{leaves_by, stopped_on}
-use Rattle.script_container.proofs.Noticed.{seen_still}
+use Rattle.script_container.proofs.Known.{stopped_on}
 use Rattle.script_links.proofs.Apart.{apart_then}
+use Rattle.script_links.proofs.Going.{known_still}
 use Rattle.script_links.proofs.Paces.{may_read, paced_on, read_on}
 use Rattle.script_links.proofs.links.hear.Goals as goal
 
@@ -22,11 +21,9 @@ read_some-requires-clause-within g c =
 
 pub loop-reads-preserved : goal.loop-reads-preserved
 loop-reads-preserved g c = record {
-  known = record {
-    told = c.read_some.ensures.told c.take_frames.new.core c.in_ok-heard.ensures.leaves.told;
-    seen = seen_still (notices (g.H.Host.told c.take_frames.new.host)) (notices (g.H.Host.told c.read_some.new.host))
-        c.take_frames.new.noticed c.read_some.ensures.noticed c.in_ok-heard.ensures.leaves.seen;
-  };
+  known = known_still g.H.Disk.Disk c.take_frames.new.noticed
+      (c.read_some.ensures.told c.take_frames.new.core c.in_ok-heard.ensures.leaves.told) c.read_some.ensures.noticed
+      c.in_ok-heard.ensures.leaves.seen;
   same = c.read_some.ensures.same ∙ c.take_frames.ensures.same ∙ c.loop-reads.invariant.same;
   holding = c.read_some.ensures.holding ∙ c.take_frames.ensures.holding ∙ c.loop-reads.invariant.holding;
   on = read_on (pace c.args.link.now.inc (g.H.Host.told c.args.host.now))
@@ -39,9 +36,13 @@ loop-reads-preserved g c = record {
       (ap (λ (i : ℕ). pace i (g.H.Host.told c.take_frames.new.host)) c.take_frames.ensures.same
       ∙ c.take_frames.ensures.paced) c.loop-reads.invariant.on);
   served = c.in_ok-read_some.ensures.served;
-  apart = apart_then (c.take_frames.ensures.same ∙ c.loop-reads.invariant.same)
+  apart = apart_then (g.H.Host.told c.args.host.now) (g.H.Host.told c.take_frames.new.host)
+      (g.H.Host.told c.read_some.new.host) c.args.link.now.inc c.take_frames.new.link.inc c.args.link.now.held
+      c.take_frames.new.link.held (c.take_frames.ensures.same ∙ c.loop-reads.invariant.same)
       (c.take_frames.ensures.holding ∙ c.loop-reads.invariant.holding) c.read_some.ensures.apart
-      (apart_then c.loop-reads.invariant.same c.loop-reads.invariant.holding c.take_frames.ensures.apart
+      (apart_then (g.H.Host.told c.args.host.now) (g.H.Host.told c.loop-reads.host)
+      (g.H.Host.told c.take_frames.new.host) c.args.link.now.inc c.loop-reads.link.inc c.args.link.now.held
+      c.loop-reads.link.held c.loop-reads.invariant.same c.loop-reads.invariant.holding c.take_frames.ensures.apart
       c.loop-reads.invariant.apart);
 }
 
@@ -62,28 +63,6 @@ returns-in_err-read_some-clause-leaves g c =
     })
 
 pub returns-then-not-branch-clause-leaves : goal.returns-then-not-branch-clause-leaves
-returns-then-not-branch-clause-leaves g c = record {
-  told = c.read_some.ensures.told c.take_frames.new.core c.in_ok-heard.ensures.leaves.told;
-  seen = seen_still (notices (g.H.Host.told c.take_frames.new.host)) (notices (g.H.Host.told c.read_some.new.host))
-      c.take_frames.new.noticed c.read_some.ensures.noticed c.in_ok-heard.ensures.leaves.seen;
-}
-
-pub returns-in_err-heard-clause-apart : goal.returns-in_err-heard-clause-apart
-returns-in_err-heard-clause-apart g c = apart_then c.loop-reads.invariant.same c.loop-reads.invariant.holding
-    c.take_frames.ensures.apart c.loop-reads.invariant.apart
-
-pub returns-then-ne-clause-apart : goal.returns-then-ne-clause-apart
-returns-then-ne-clause-apart g c = apart_then c.loop-reads.invariant.same c.loop-reads.invariant.holding
-    c.take_frames.ensures.apart c.loop-reads.invariant.apart
-
-pub returns-in_err-read_some-clause-apart : goal.returns-in_err-read_some-clause-apart
-returns-in_err-read_some-clause-apart g c = apart_then (c.take_frames.ensures.same ∙ c.loop-reads.invariant.same)
-    (c.take_frames.ensures.holding ∙ c.loop-reads.invariant.holding) c.read_some.ensures.apart
-    (apart_then c.loop-reads.invariant.same c.loop-reads.invariant.holding c.take_frames.ensures.apart
-    c.loop-reads.invariant.apart)
-
-pub returns-then-not-branch-clause-apart : goal.returns-then-not-branch-clause-apart
-returns-then-not-branch-clause-apart g c = apart_then (c.take_frames.ensures.same ∙ c.loop-reads.invariant.same)
-    (c.take_frames.ensures.holding ∙ c.loop-reads.invariant.holding) c.read_some.ensures.apart
-    (apart_then c.loop-reads.invariant.same c.loop-reads.invariant.holding c.take_frames.ensures.apart
-    c.loop-reads.invariant.apart)
+returns-then-not-branch-clause-leaves g c = known_still g.H.Disk.Disk c.take_frames.new.noticed
+    (c.read_some.ensures.told c.take_frames.new.core c.in_ok-heard.ensures.leaves.told) c.read_some.ensures.noticed
+    c.in_ok-heard.ensures.leaves.seen

@@ -20,14 +20,16 @@ returns-clause-served g c =
     on_ok c.hand_over.result
     (IsServed (passed c.args.link.now.inc (g.H.Host.told c.hand_over.new.host)) c.args.link.now [])
     (subst (λ (p : Passed). IsServed p c.args.link.now [])
-    (sym (message_given c.args.link.now.inc c.args.taken c.hand_over.ensures.serving))
+    (sym (message_given (g.H.Host.told c.args.host.now) (g.H.Host.told c.hand_over.new.host)
+    c.args.link.now.inc c.args.taken c.hand_over.ensures.serving))
     (hand_given (passed c.args.link.now.inc (g.H.Host.told c.args.host.now)) c.args.link.now c.args.taken
     c.if-link.false c.requires.served))
 
 pub returns-clause-paced : goal.returns-clause-paced
-returns-clause-paced g c = message_paced c.args.link.now.inc c.args.taken c.hand_over.ensures.serving
-    c.args.link.now.inc
+returns-clause-paced g c = message_paced (g.H.Host.told c.args.host.now) (g.H.Host.told c.hand_over.new.host)
+    c.args.link.now.inc c.args.taken c.hand_over.ensures.serving c.args.link.now.inc
 
 pub returns-clause-apart : goal.returns-clause-apart
-returns-clause-apart g c = message_apart c.args.link.now.inc c.args.taken c.args.link.now.held c.if-link.false
-    c.hand_over.ensures.serving c.hand_over.ensures.ordered
+returns-clause-apart g c = message_apart (g.H.Host.told c.args.host.now) (g.H.Host.told c.hand_over.new.host)
+    c.args.link.now.inc c.args.taken c.hand_over.ensures.serving c.args.link.now.held c.if-link.false
+    c.hand_over.ensures.ordered

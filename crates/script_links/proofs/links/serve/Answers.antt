@@ -3,10 +3,8 @@ use Rattle.script_model.specs.Bounds.{pace}
 use Rattle.script_links.proofs.Paces.{all_left, left_again, may_link, may_send, may_send_again, turn_again, turn_over}
 use Rattle.script_links.proofs.Paces.{turn_unlinked}
 use Rattle.std.specs.Result.{IsErrAnd}
-use Rattle.script_model.specs.Notices.{notices}
 use Rattle.script_container.proofs.Known.{lacks_so, memory_stops, stopped_on}
-use Rattle.script_container.proofs.Noticed.{seen_still}
-use Rattle.script_links.proofs.Apart.{apart_then}
+use Rattle.script_links.proofs.Going.{known_still}
 use Rattle.script_links.proofs.links.serve.Goals as goal
 
 pub exchange-requires-clause-within : goal.exchange-requires-clause-within
@@ -86,35 +84,11 @@ returns-in_err-made-clause-leaves g c =
     (c.reconnect.ensures.told c.exchange.new.core c.in_ok-exchange.ensures.leaves.told)
 
 pub exchange-requires-2-clause-known : goal.exchange-requires-2-clause-known
-exchange-requires-2-clause-known g c = record {
-  told = c.reconnect.ensures.told c.exchange.new.core c.in_ok-exchange.ensures.leaves.told;
-  seen = seen_still (notices (g.H.Host.told c.exchange.new.host)) (notices (g.H.Host.told c.reconnect.new.host))
-      c.exchange.new.noticed c.reconnect.ensures.noticed c.in_ok-exchange.ensures.leaves.seen;
-}
+exchange-requires-2-clause-known g c = known_still g.H.Disk.Disk c.exchange.new.noticed
+    (c.reconnect.ensures.told c.exchange.new.core c.in_ok-exchange.ensures.leaves.told) c.reconnect.ensures.noticed
+    c.in_ok-exchange.ensures.leaves.seen
 
 pub returns-then-not-made-clause-leaves : goal.returns-then-not-made-clause-leaves
-returns-then-not-made-clause-leaves g c = record {
-  told = c.reconnect.ensures.told c.exchange.new.core c.in_ok-exchange.ensures.leaves.told;
-  seen = seen_still (notices (g.H.Host.told c.exchange.new.host)) (notices (g.H.Host.told c.reconnect.new.host))
-      c.exchange.new.noticed c.reconnect.ensures.noticed c.in_ok-exchange.ensures.leaves.seen;
-}
-
-pub returns-in_err-made-clause-apart : goal.returns-in_err-made-clause-apart
-returns-in_err-made-clause-apart g c = apart_then c.exchange.ensures.same c.exchange.ensures.holding
-    c.reconnect.ensures.apart c.exchange.ensures.apart
-
-pub returns-then-not-made-clause-apart : goal.returns-then-not-made-clause-apart
-returns-then-not-made-clause-apart g c = apart_then c.exchange.ensures.same c.exchange.ensures.holding
-    c.reconnect.ensures.apart c.exchange.ensures.apart
-
-pub returns-in_err-heard-clause-apart : goal.returns-in_err-heard-clause-apart
-returns-in_err-heard-clause-apart g c = apart_then (c.reconnect.ensures.same ∙ c.exchange.ensures.same)
-    (c.reconnect.ensures.holding ∙ c.exchange.ensures.holding) c.exchange-2.ensures.apart
-    (apart_then c.exchange.ensures.same c.exchange.ensures.holding c.reconnect.ensures.apart
-    c.exchange.ensures.apart)
-
-pub returns-clause-apart : goal.returns-clause-apart
-returns-clause-apart g c = apart_then (c.reconnect.ensures.same ∙ c.exchange.ensures.same)
-    (c.reconnect.ensures.holding ∙ c.exchange.ensures.holding) c.exchange-2.ensures.apart
-    (apart_then c.exchange.ensures.same c.exchange.ensures.holding c.reconnect.ensures.apart
-    c.exchange.ensures.apart)
+returns-then-not-made-clause-leaves g c = known_still g.H.Disk.Disk c.exchange.new.noticed
+    (c.reconnect.ensures.told c.exchange.new.core c.in_ok-exchange.ensures.leaves.told) c.reconnect.ensures.noticed
+    c.in_ok-exchange.ensures.leaves.seen

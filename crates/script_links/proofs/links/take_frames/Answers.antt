@@ -3,7 +3,6 @@ use Rattle.std.specs.Result.{IsErrAnd}
 use Rattle.script_model.specs.Bounds.{pace}
 use Rattle.script_model.specs.Origins.{passed}
 use Rattle.script_container.proofs.Known.{stopped_on}
-use Rattle.script_links.proofs.Apart.{apart_then}
 use Rattle.script_links.proofs.Served.{message_taken, turn_taken}
 use Rattle.script_links.proofs.links.take_frames.Goals as goal
 
@@ -22,9 +21,6 @@ returns-in_err-meet-in-Ok-Some-Message-clause-leaves g c =
     (g.H.Host.told c.meet.new.host) c.meet.new.core c.meet.new.noticed again
     c.in_err-meet-in-Ok-Some-Message.ensures.leaves
 
-pub returns-in_err-meet-in-Ok-Some-Message-clause-apart : goal.returns-in_err-meet-in-Ok-Some-Message-clause-apart
-returns-in_err-meet-in-Ok-Some-Message-clause-apart g c = apart_then c.loop.invariant.same c.loop.invariant.holding
-    c.meet.ensures.apart c.loop.invariant.apart
 
 pub returns-in_err-meet-in-Ok-Some-Message-clause-paced : goal.returns-in_err-meet-in-Ok-Some-Message-clause-paced
 returns-in_err-meet-in-Ok-Some-Message-clause-paced g c =

@@ -1,6 +1,6 @@
 use Rattle.std.proofs.Common.{◌∙◌, ap, refl}
 use Rattle.script_model.specs.Notices.{notices}
-use Rattle.script_container.specs.Servers.{turned}
+use Rattle.script_container.specs.Servers.{turned, servers}
 use Rattle.script_container.proofs.Noticed.{seen_still}
 use Rattle.script_container.proofs.Servers.{quiet_of, still_of, turned_of}
 use Rattle.script_links.specs.Links.{AreServed}
@@ -17,6 +17,7 @@ reaped-requires-clause-seen g c = seen_still (notices (g.H.Host.told c.args.host
     (notices (g.H.Host.told c.end.new.self)) c.args.progress.now.noticed (ap notices c.end.ensures) c.requires.seen
 
 pub returns-clause-served : goal.returns-clause-served
+unfolding servers
 returns-clause-served g c =
     ended_served (g.H.Host.told c.args.host.now) (g.H.Host.told c.end.new.self) (g.H.Host.told c.reaped.new.host)
     c.args.progress.now.links.items c.remove-link.new.self.items c.args.place c.remove-link.result c.requires.within
@@ -24,6 +25,7 @@ returns-clause-served g c =
     c.end.ensures (quiet_of c.reaped.ensures.serving) c.requires.served
 
 pub returns-clause-leaves : goal.returns-clause-leaves
+unfolding servers
 returns-clause-leaves g c =
     goes_by g.H.Disk.Disk c.reaped.result (g.H.Host.told c.reaped.new.host) _ c.reaped.ensures.leaves
     (λ s. still_of c.reaped.ensures.serving s
@@ -33,5 +35,5 @@ returns-clause-leaves g c =
     (returns-clause-served g c))
 
 pub returns-clause-turning : goal.returns-clause-turning
-unfolding turned
+unfolding servers turned
 returns-clause-turning g c = turned_of c.reaped.ensures.serving ∙ ap turned c.end.ensures

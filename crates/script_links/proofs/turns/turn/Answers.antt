@@ -3,6 +3,7 @@ use Rattle.std.specs.Result.{IsErrAnd}
 use Rattle.script_container.proofs.Servers.{handing_of, paced_of}
 use Rattle.script_links.proofs.Going.{ends_on, keeps_then}
 use Rattle.script_links.proofs.Paces.{had_all, had_without, links_more, links_still, turn_without}
+use Rattle.script_container.specs.Servers.{turned}
 use Rattle.script_links.proofs.turns.turn.Goals as goal
 
 pub loop-place-preserved-then-branch : goal.loop-place-preserved-then-branch
@@ -16,6 +17,7 @@ loop-place-preserved-then-branch g c = record {
 }
 
 pub loop-place-preserved : goal.loop-place-preserved
+unfolding turned
 loop-place-preserved g c =
     let many = c.serve_at.ensures.many in
     let test = c.loop-place-test.true in
@@ -72,6 +74,7 @@ pub returns-in_err-serve_at-clause-kept : goal.returns-in_err-serve_at-clause-ke
 returns-in_err-serve_at-clause-kept g c = keeps_then c.loop-place.invariant.kept c.serve_at.ensures.kept
 
 pub returns-in_err-end_at-clause-kept : goal.returns-in_err-end_at-clause-kept
+unfolding turned
 returns-in_err-end_at-clause-kept g c =
     keeps_then (keeps_then c.loop-place.invariant.kept c.serve_at.ensures.kept) (record {
       ordered = c.end_at.ensures.ordered;
