@@ -79,7 +79,14 @@ fn begin<H: Host>(
 {
     match command {
         ScriptCommand::Container(ordered) => order(alloc, host, progress, ordered),
-        ScriptCommand::Open(name, width, height) => open(alloc, host, &mut progress.core, name, width, height),
+        ScriptCommand::Open(name, width, height) => open(
+            alloc,
+            host,
+            &mut progress.core,
+            name,
+            width,
+            height,
+        ),
         ScriptCommand::Screen(frame) => show(alloc, &progress.core, frame, text),
         ScriptCommand::Cut(inc) => cut_link(alloc, host, progress, inc),
         ScriptCommand::Hold(inc) => Ok(hold_link(&mut progress.links, inc)),

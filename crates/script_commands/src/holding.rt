@@ -89,7 +89,14 @@ fn release<H: Host>(
 {
     let inc = progress.links[place].inc;
     let waiting = let_go(alloc, &mut progress.links, place);
-    if hand_all(alloc, host, &mut progress.core, inc, waiting, &mut progress.noticed)? {
+    if hand_all(
+        alloc,
+        host,
+        &mut progress.core,
+        inc,
+        waiting,
+        &mut progress.noticed,
+    )? {
         return Ok(());
     }
     end_at(alloc, host, progress, place)

@@ -51,7 +51,13 @@ fn act<H: Host>(
 {
     start_asked(alloc, host, progress, answer)?;
     end_asked(alloc, host, progress, answer)?;
-    save_all(alloc, host, &mut progress.core, answer, &mut progress.noticed)
+    save_all(
+        alloc,
+        host,
+        &mut progress.core,
+        answer,
+        &mut progress.noticed,
+    )
 }
 
 /// Gives the container a user's command, and does what it asks for. A start comes where it has a session, or was to get

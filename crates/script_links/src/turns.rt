@@ -74,7 +74,13 @@ pub fn end_at<H: Host>(
 {
     let link = progress.links.remove(place);
     host.end(link.inc);
-    reaped(alloc, host, &mut progress.core, link.inc, &mut progress.noticed)
+    reaped(
+        alloc,
+        host,
+        &mut progress.core,
+        link.inc,
+        &mut progress.noticed,
+    )
 }
 
 /// Ends the servers of all links.
@@ -178,11 +184,7 @@ fn serve_at<H: Host>(
 }
 
 /// A turn of each link, by rising number. A link that doesn't stand is ended.
-fn turn<H: Host>(
-    alloc: Global,
-    host: &mut H,
-    progress: &mut Progress,
-) -> Result<(), ScriptFault>
+fn turn<H: Host>(alloc: Global, host: &mut H, progress: &mut Progress) -> Result<(), ScriptFault>
     requires going { IsGoingOn ⟦<H::Disk as Disk>⟧ (H.told host.old) progress.old }
     requires ready { AreReady 1000 (H.told host.old) progress.old.links.items }
     ensures leaves { LeavesGoing ⟦<H::Disk as Disk>⟧ result (H.told host.new) progress.new }

@@ -48,7 +48,6 @@ pub returns-in-Hold-clause-ready : goal.returns-in-Hold-clause-ready
 returns-in-Hold-clause-ready g c = all_rested (g.H.Host.told c.args.host.now) c.hold_link.new.links.items
     c.requires.rested
 
-
 pub returns-in-Container-clause-holding : goal.returns-in-Container-clause-holding
 returns-in-Container-clause-holding g c = λ f hold. as_command f _ c.args.command c.order.new.progress.links.items
     c.in-Container.is (c.order.ensures.holding f hold)
@@ -174,7 +173,6 @@ pub returns-in-Release-clause-standing : goal.returns-in-Release-clause-standing
 returns-in-Release-clause-standing g c = begun_same (g.H.Host.told c.args.host.now)
     (g.H.Host.told c.release_link.new.host) c.release_link.ensures.ordered
 
-
 pub returns-in-Container-clause-first : goal.returns-in-Container-clause-first
 returns-in-Container-clause-first g c =
     begun_by g.H.Disk.Disk (g.H.Host.told c.args.host.now) (g.H.Host.told c.order.new.host) c.requires.begins
@@ -273,7 +271,6 @@ returns-in-Release-clause-handing g c = λ f.
     c.release_link.ensures.handing (λ s. behind_hold c.args.command s (f s))
     (released c.args.command c.in-Release.inc (f c.in-Release.inc) c.in-Release.is)
     ∙ none_handed (g.H.Host.told c.args.host.now) c.requires.begins (λ s. behind_hold c.args.command s (f s))
-
 
 pub returns-in-Hold-clause-leaves : goal.returns-in-Hold-clause-leaves
 returns-in-Hold-clause-leaves g c = record {

@@ -13,7 +13,6 @@ use Rattle.script_commands.proofs.Lines.{begins_quiet, line_of}
 use Rattle.script_commands.proofs.Ordered.{begun_on}
 use Rattle.script_commands.proofs.commands.carry_out.Goals as goal
 
-
 pub returns-in_err-turns-clause-holding : goal.returns-in_err-turns-clause-holding
 returns-in_err-turns-clause-holding g c = λ f hold. c.turns.ensures.kept.holding
     (λ s. behind_hold c.args.command s (f s)) (c.begin.ensures.holding f hold)
@@ -94,7 +93,6 @@ pub returns-clause-standing : goal.returns-clause-standing
 returns-clause-standing g c = begun_same (g.H.Host.told c.begin.new.host) (g.H.Host.told c.turns.new.host)
     c.turns.ensures.kept.ordered ∙ c.begin.ensures.standing
 
-
 pub returns-in-Ok-clause-printed : goal.returns-in-Ok-clause-printed
 returns-in-Ok-clause-printed g c =
     line_of g.H.Disk.Disk c.args.command (g.H.Host.told c.begin.new.host) (g.H.Host.told c.turns.new.host)
@@ -161,5 +159,5 @@ returns-then-is_any_unsaved-clause-leaves g c = record {
   linked = c.in_ok-turns.ensures.leaves.linked;
   shown = inr (ap (λ (r : Record). is_any_unsaved r.frames) c.in_ok-turns.ensures.leaves.told.recorded
       ∙ sym c.is_any_unsaved.ensures
-    ∙ c.if-is_any_unsaved.true);
+      ∙ c.if-is_any_unsaved.true);
 }

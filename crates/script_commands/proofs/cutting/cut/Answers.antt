@@ -60,7 +60,6 @@ returns-clause-ready g c =
     (c.reconnect_at.ensures.aside c.index.result.now))
     (g.H.Host.told c.end_at.new.host) c.end_at.new.progress.links.items (paced_of c.end_at.ensures.turning) none)
 
-
 pub returns-clause-holding : goal.returns-clause-holding
 returns-clause-holding g c = λ f hold. c.end_at.ensures.holding f (c.reconnect_at.ensures.holding f hold)
 

@@ -10,7 +10,6 @@ use Rattle.script_commands.proofs.Lines.{cut_none, cut_some, told_none, told_som
 use Rattle.script_commands.proofs.Starting.{linked_runs}
 use Rattle.script_commands.proofs.cutting.cut_link.Goals as goal
 
-
 pub returns-in_default-clause-first : goal.returns-in_default-clause-first
 returns-in_default-clause-first g c =
     let none : running c.args.inc (g.H.Host.told c.args.host.now) ≡ 0 = c.requires.going.linked c.args.inc
@@ -29,7 +28,7 @@ returns-clause-first g c =
     let within = subst (λ (ls : List Link). c.in-Some.place < length ls) c.deref.ensures.value
     c.in-Some.ensures.within in (
       told_some ran (linked_runs c.args.inc (g.H.Host.told c.args.host.now) c.args.progress.now.links.items
-      c.requires.going.linked
+          c.requires.going.linked
           (linked_there c.args.inc c.args.progress.now.links.items c.in-Some.place within at)),
       cut_some ran (pace c.args.inc (g.H.Host.told c.cut.new.host)).links
           (cut_anew (g.H.Host.told c.cut.new.host) c.args.inc c.args.progress.now.links.items c.in-Some.place at

@@ -13,7 +13,6 @@ use Rattle.script_links.proofs.Shown.{hold_set}
 use Rattle.script_links.specs.Apart.{others}
 use Rattle.script_commands.proofs.cutting.reconnect_at.Goals as goal
 
-
 pub returns-clause-same : goal.returns-clause-same
 returns-clause-same g c = λ d.
     ap (λ (l : Link). l.inc) (set_at c.args.progress.now.links.items c.args.place c.reconnect.new.link d

@@ -11,7 +11,6 @@ loop-action-preserved g c = record {
   ordered = c.end_on.ensures.ordered ∙ c.loop-action.invariant.ordered;
 }
 
-
 pub returns-in_err-end_on-clause-holding : goal.returns-in_err-end_on-clause-holding
 returns-in_err-end_on-clause-holding g c = λ f hold. c.end_on.ensures.holding f (c.loop-action.invariant.holding f hold)
 

@@ -14,11 +14,11 @@ loop-taken-preserved g c =
     record {
       known = c.in_ok-hand_over.ensures.leaves;
       paced = λ s. message_paced (g.H.Host.told c.loop-taken.host) (g.H.Host.told c.hand_over.new.host)
-      c.args.inc c.in-Some.taken c.hand_over.ensures.serving s
+          c.args.inc c.in-Some.taken c.hand_over.ensures.serving s
           ∙ c.loop-taken.invariant.paced s;
       apart = message_apart (g.H.Host.told c.loop-taken.host) (g.H.Host.told c.hand_over.new.host)
-      c.args.inc c.in-Some.taken c.hand_over.ensures.serving false refl c.hand_over.ensures.ordered
-      ∙ c.loop-taken.invariant.apart;
+          c.args.inc c.in-Some.taken c.hand_over.ensures.serving false refl c.hand_over.ensures.ordered
+          ∙ c.loop-taken.invariant.apart;
       next = others_next (passed c.args.inc (g.H.Host.told c.loop-taken.host))
           (passed c.args.inc (g.H.Host.told c.hand_over.new.host)) c.in-Some.taken
           (into_iter_items c.loop-taken.taken-iterator)
@@ -43,23 +43,23 @@ returns-in_err-hand_over-clause-leaves g c =
 pub returns-in_err-hand_over-clause-paced : goal.returns-in_err-hand_over-clause-paced
 returns-in_err-hand_over-clause-paced g c = λ s. message_paced (g.H.Host.told c.loop-taken.host)
     (g.H.Host.told c.hand_over.new.host)
-      c.args.inc c.in-Some.taken c.hand_over.ensures.serving s
+    c.args.inc c.in-Some.taken c.hand_over.ensures.serving s
     ∙ c.loop-taken.invariant.paced s
 
 pub returns-in_err-hand_over-clause-apart : goal.returns-in_err-hand_over-clause-apart
 returns-in_err-hand_over-clause-apart g c = message_apart (g.H.Host.told c.loop-taken.host)
     (g.H.Host.told c.hand_over.new.host)
-      c.args.inc c.in-Some.taken c.hand_over.ensures.serving false refl c.hand_over.ensures.ordered
-      ∙ c.loop-taken.invariant.apart
+    c.args.inc c.in-Some.taken c.hand_over.ensures.serving false refl c.hand_over.ensures.ordered
+    ∙ c.loop-taken.invariant.apart
 
 pub returns-then-not-branch-clause-paced : goal.returns-then-not-branch-clause-paced
 returns-then-not-branch-clause-paced g c = λ s. message_paced (g.H.Host.told c.loop-taken.host)
     (g.H.Host.told c.hand_over.new.host)
-      c.args.inc c.in-Some.taken c.hand_over.ensures.serving s
+    c.args.inc c.in-Some.taken c.hand_over.ensures.serving s
     ∙ c.loop-taken.invariant.paced s
 
 pub returns-then-not-branch-clause-apart : goal.returns-then-not-branch-clause-apart
 returns-then-not-branch-clause-apart g c = message_apart (g.H.Host.told c.loop-taken.host)
     (g.H.Host.told c.hand_over.new.host)
-      c.args.inc c.in-Some.taken c.hand_over.ensures.serving false refl c.hand_over.ensures.ordered
-      ∙ c.loop-taken.invariant.apart
+    c.args.inc c.in-Some.taken c.hand_over.ensures.serving false refl c.hand_over.ensures.ordered
+    ∙ c.loop-taken.invariant.apart

@@ -26,7 +26,6 @@ end_at-requires-clause-served g c =
     c.requires.within c.index.ensures c.requires.going.told.single c.requires.going.linked
     (c.let_go-waiting.ensures.changed c.index.result.now) (apart_of c.hand_all.ensures.apart) c.requires.going.served
 
-
 pub returns-in_err-hand_all-clause-holding : goal.returns-in_err-hand_all-clause-holding
 returns-in_err-hand_all-clause-holding g c = λ f inc at hold.
     let_go_holds f (g.H.Host.told c.args.host.now) c.args.progress.now.links.items c.let_go-waiting.new.links.items
@@ -57,7 +56,7 @@ returns-in_err-hand_all-clause-leaves g c =
     }) again (record {
       told = c.in_err-hand_all.ensures.leaves.told;
       linked = (λ s. still_apart c.hand_all.ensures.apart s ∙ c.requires.going.linked s
-        ∙ sym (c.let_go-waiting.ensures.same s));
+          ∙ sym (c.let_go-waiting.ensures.same s));
       shown = c.in_err-hand_all.ensures.leaves.shown;
     })
 
@@ -66,7 +65,7 @@ unfolding others
 returns-then-branch-clause-leaves g c = record {
   told = c.in_ok-hand_all.ensures.leaves.told;
   linked = (λ s. still_apart c.hand_all.ensures.apart s ∙ c.requires.going.linked s
-    ∙ sym (c.let_go-waiting.ensures.same s));
+      ∙ sym (c.let_go-waiting.ensures.same s));
   served =
       release_served (g.H.Host.told c.args.host.now) (g.H.Host.told c.hand_all.new.host) c.args.progress.now.links.items
       c.let_go-waiting.new.links.items c.args.place c.index.result.now c.let_go-waiting.result

@@ -9,7 +9,6 @@ use Rattle.script_commands.proofs.Lines.{told_none, told_some}
 use Rattle.script_commands.proofs.Starting.{linked_runs}
 use Rattle.script_commands.proofs.holding.release_link.Goals as goal
 
-
 pub returns-in_default-clause-holding : goal.returns-in_default-clause-holding
 returns-in_default-clause-holding g c =
     let none : links_of c.args.inc c.deref.result.now ≡ 0 = c.in_default.ensures.none in

@@ -7,7 +7,6 @@ use Rattle.std.specs.Result.{IsErrAnd}
 use Rattle.script_links.proofs.Going.{ends_on}
 use Rattle.script_commands.proofs.launching.start_asked.Goals as goal
 
-
 pub returns-in_err-start_on-clause-holding : goal.returns-in_err-start_on-clause-holding
 returns-in_err-start_on-clause-holding g c = λ f hold. c.start_on.ensures.holding f
     (c.loop-action.invariant.holding f hold)

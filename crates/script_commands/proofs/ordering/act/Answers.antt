@@ -8,14 +8,12 @@ use Rattle.script_commands.proofs.Coursed.{starts_same, unstarted_same}
 use Rattle.script_container.specs.Servers.{servers}
 use Rattle.script_commands.proofs.ordering.act.Goals as goal
 
-
 pub returns-in_err-end_asked-clause-holding : goal.returns-in_err-end_asked-clause-holding
 returns-in_err-end_asked-clause-holding g c = λ f hold. c.end_asked.ensures.holding f
     (c.start_asked.ensures.holding f hold).each
 
 pub returns-clause-holding : goal.returns-clause-holding
 returns-clause-holding g c = λ f hold. c.end_asked.ensures.holding f (c.start_asked.ensures.holding f hold).each
-
 
 pub returns-in_err-end_asked-clause-ordered : goal.returns-in_err-end_asked-clause-ordered
 returns-in_err-end_asked-clause-ordered g c = starts_same (g.H.Host.told c.start_asked.new.host)

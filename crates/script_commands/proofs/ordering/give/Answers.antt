@@ -14,7 +14,6 @@ use Rattle.script_commands.proofs.Starting.{asked_for, none_for}
 use Rattle.script_container.specs.Servers.{servers}
 use Rattle.script_commands.proofs.ordering.give.Goals as goal
 
-
 pub act-requires-clause-wanted : goal.act-requires-clause-wanted
 act-requires-clause-wanted g c =
     asked_for (g.H.Host.told c.args.host.now) (g.H.Host.told c.command.new.host) c.args.progress.now.core c.args.ordered
@@ -27,7 +26,6 @@ act-requires-clause-raised g c = λ zero.
     (Ok (counts_none c.command.new.core c.in-Ok.answer)) c.requires.going.told.recorded c.in-Ok.ensures.answered
     c.command.ensures.ordered c.requires.idle
     (c.in-Ok.ensures.starts (sym c.command.ensures.session ∙ zero))
-
 
 pub returns-in_err-act-in-Ok-clause-ordered : goal.returns-in_err-act-in-Ok-clause-ordered
 returns-in_err-act-in-Ok-clause-ordered g c = given_on (g.H.Host.told c.args.host.now)
@@ -53,7 +51,6 @@ returns-in-Err-clause-tried g c =
     (refused_with (on_command c.args.progress.now.core c.args.ordered) c.in-Err.fault some c.in-Err.ensures.refused)
     c.command.ensures.ordered c.requires.idle refl)
 
-
 pub returns-in-Err-clause-holding : goal.returns-in-Err-clause-holding
 returns-in-Err-clause-holding g c = λ f hold. hold.each
 
@@ -62,7 +59,6 @@ returns-in_err-act-in-Ok-clause-leaves g c =
     let again : IsErrAnd c.from_residual.result (λ x. x ≡ c.in_err-act-in-Ok.field-0.0) = search rules in
     ends_on g.H.Disk.Disk c.from_residual.result c.in_err-act-in-Ok.field-0.0 (g.H.Host.told c.act.new.host)
     c.act.new.progress again c.in_err-act-in-Ok.ensures.leaves
-
 
 pub returns-in_err-act-in-Ok-clause-turning : goal.returns-in_err-act-in-Ok-clause-turning
 unfolding servers

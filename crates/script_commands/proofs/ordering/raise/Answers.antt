@@ -14,7 +14,6 @@ use Rattle.script_opens.proofs.Results.{refused_on, refused_then}
 use Rattle.script_commands.proofs.Starting.{none_for}
 use Rattle.script_commands.proofs.ordering.raise.Goals as goal
 
-
 pub returns-in_err-save_all-in-Ok-clause-ordered : goal.returns-in_err-save_all-in-Ok-clause-ordered
 returns-in_err-save_all-in-Ok-clause-ordered g c = given_on (g.H.Host.told c.args.host.now)
     (g.H.Host.told c.save_all.new.host) (g.H.Host.told c.command.new.host) asks.Session

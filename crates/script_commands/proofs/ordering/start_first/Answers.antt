@@ -109,7 +109,7 @@ pub returns-then-lacks-clause-first : goal.returns-then-lacks-clause-first
 returns-then-lacks-clause-first g c = (
   commanded_before (g.H.Host.told c.raise.new.host) (g.H.Host.told c.give.new.host) c.raise.new.core asks.Start
       (told_left g.H.Disk.Disk c.raise.result (g.H.Host.told c.raise.new.host) c.raise.new.core
-    c.raise.new.noticed c.raise.ensures.leaves).recorded c.give.ensures.ordered c.in_ok-raised.raised
+      c.raise.new.noticed c.raise.ensures.leaves).recorded c.give.ensures.ordered c.in_ok-raised.raised
       (unraised_so c.raise.new.core (sym c.session-lacks.ensures ∙ c.if-lacks.true))
       (commanded_so (g.H.Host.told c.args.host.now) (g.H.Host.told c.raise.new.host) c.args.progress.now.core
       asks.Session
@@ -122,7 +122,7 @@ pub returns-clause-first : goal.returns-clause-first
 returns-clause-first g c = (
   commanded_so (g.H.Host.told c.raise.new.host) (g.H.Host.told c.give.new.host) c.raise.new.core asks.Start
       (told_left g.H.Disk.Disk c.raise.result (g.H.Host.told c.raise.new.host) c.raise.new.core
-    c.raise.new.noticed c.raise.ensures.leaves).recorded c.give.ensures.ordered c.in_ok-started.started
+      c.raise.new.noticed c.raise.ensures.leaves).recorded c.give.ensures.ordered c.in_ok-started.started
       (raised_so c.raise.new.core (λ none. c.if-lacks.false (c.session-lacks.ensures ∙ none)))
       c.in_ok-started.ensures.answered,
   c.in_ok-started.ensures.tried,
@@ -130,7 +130,6 @@ returns-clause-first g c = (
 
 pub returns-in_err-raised-clause-holding : goal.returns-in_err-raised-clause-holding
 returns-in_err-raised-clause-holding g c = λ f hold. hold.each
-
 
 pub returns-in_err-raised-clause-leaves : goal.returns-in_err-raised-clause-leaves
 unfolding servers

@@ -30,7 +30,6 @@ returns-in-Ok-clause-left g c =
 pub returns-in-Err-clause-left : goal.returns-in-Err-clause-left
 returns-in-Err-clause-left g c = c.commit_again.ensures.left (g.H.Host.told c.args.host.now, c.in-Err.ensures)
 
-
 pub returns-in-Ok-clause-serving : goal.returns-in-Ok-clause-serving
 unfolding servers turned
 returns-in-Ok-clause-serving g c = ap servers c.shut.ensures ∙ ap servers c.disk-given.ensures

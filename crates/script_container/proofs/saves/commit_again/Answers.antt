@@ -22,7 +22,6 @@ pub returns-in-Err-clause-unopened : goal.returns-in-Err-clause-unopened
 returns-in-Err-clause-unopened g c = λ missing. missing_twice g.H.Disk.Disk c.args.name.now c.in-Err.fault
     (g.H.Host.told c.args.host.now) (g.H.Host.told c.disk.new.self) missing c.in-Err.ensures
 
-
 pub returns-in-Ok-clause-serving : goal.returns-in-Ok-clause-serving
 unfolding servers turned
 returns-in-Ok-clause-serving g c = ap servers c.shut.ensures ∙ ap servers c.disk.ensures

@@ -21,7 +21,6 @@ returns-in_err-meet-in-Ok-Some-Message-clause-leaves g c =
     (g.H.Host.told c.meet.new.host) c.meet.new.core c.meet.new.noticed again
     c.in_err-meet-in-Ok-Some-Message.ensures.leaves
 
-
 pub returns-in_err-meet-in-Ok-Some-Message-clause-paced : goal.returns-in_err-meet-in-Ok-Some-Message-clause-paced
 returns-in_err-meet-in-Ok-Some-Message-clause-paced g c =
     subst (λ (i : ℕ). pace i (g.H.Host.told c.meet.new.host) ≡ pace i (g.H.Host.told c.loop.host))

@@ -28,7 +28,6 @@ returns-in-Err-clause-first g c =
     c.unread.result c.in-Err.fault (λ m is. c.document_on-file.ensures.large m
     (err_same c.in-Err.fault c.in-Err.is is)) refl c.unread.ensures.told
 
-
 pub returns-in-Ok-clause-serving : goal.returns-in-Ok-clause-serving
 unfolding servers turned
 returns-in-Ok-clause-serving g c = c.open_found.ensures.serving ∙ ap servers c.shut.ensures

@@ -17,7 +17,6 @@ returns-in-Err-clause-first g c =
     (found_none (g.H.Host.told c.args.host.now) (g.H.Host.told c.find.new.self) c.args.name c.as_slice.result.now
     None c.in-Err.ensures.told c.as_slice.ensures refl) c.unfound.result c.in-Err.fault c.unfound.ensures.told
 
-
 pub returns-in-Ok-Some-clause-serving : goal.returns-in-Ok-Some-clause-serving
 unfolding servers turned
 returns-in-Ok-Some-clause-serving g c = c.open_disk.ensures.serving ∙ ap servers c.find.ensures

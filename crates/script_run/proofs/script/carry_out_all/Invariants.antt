@@ -20,6 +20,6 @@ invariant-loop-place g l = record {
       (g.W.Write.contents l.fn.writer) (g.W.Write.contents l.writer);
   back : AreHeldBack l.fn.commands.items (g.H.Host.told l.host);
   so_far : SoFar (g.H.Host.told l.host) l.progress.links.items l.fn.commands.items
-  (into_iter_items l.place-iterator.iter)
+      (into_iter_items l.place-iterator.iter)
       l.place-iterator.count;
 }
