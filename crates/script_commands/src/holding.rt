@@ -46,6 +46,7 @@ fn hand_all<H: Host>(
         ≡ giving waiting (passed inc (H.told host.old))) }
     ensures paced { (s : ℕ) → pace s (H.told host.new) ≡ pace s (H.told host.old) }
     ensures apart { others inc false (H.told host.new) ≡ others inc false (H.told host.old) }
+    ensures ordered { course (H.told host.new) ≡ course (H.told host.old) }
 {
     for taken in waiting.into_vec() {
         if !hand_over(alloc, host, core, inc, taken, noticed)? {

@@ -9,7 +9,7 @@ use Rattle.script_model.specs.Notices.{notices}
 use Rattle.script_model.specs.Origins.{passed}
 use Rattle.script_container.proofs.Noticed.{seen_still}
 use Rattle.script_container.proofs.Servers.{handing_of, paced_of}
-use Rattle.script_links.proofs.Apart.{aside_of, ordered_of, still_apart}
+use Rattle.script_links.proofs.Apart.{aside_of, still_apart}
 use Rattle.script_links.proofs.Going.{ends_on}
 use Rattle.script_commands.proofs.Lines.{one_link}
 use Rattle.script_container.specs.Servers.{turned}
@@ -106,22 +106,6 @@ returns-in_err-made-clause-leaves g c =
     ends_on g.H.Disk.Disk c.from_residual-in_err-made.result c.in_err-made.field-0.0
     (g.H.Host.told c.reconnect_at.new.host) c.reconnect_at.new.progress again c.in_err-made.ensures.leaves
 
-pub returns-in_err-send_turn-clause-ordered : goal.returns-in_err-send_turn-clause-ordered
-unfolding others
-returns-in_err-send_turn-clause-ordered g c = ordered_of (c.send_turn.ensures.apart false)
-
-pub returns-in_err-made-clause-ordered : goal.returns-in_err-made-clause-ordered
-unfolding others
-returns-in_err-made-clause-ordered g c = c.reconnect_at.ensures.ordered ∙ ordered_of (c.send_turn.ensures.apart false)
-
-pub returns-then-made-clause-ordered : goal.returns-then-made-clause-ordered
-unfolding others
-returns-then-made-clause-ordered g c = c.reconnect_at.ensures.ordered ∙ ordered_of (c.send_turn.ensures.apart false)
-
-pub returns-clause-ordered : goal.returns-clause-ordered
-unfolding others
-returns-clause-ordered g c = c.end_at.ensures.ordered ∙ c.reconnect_at.ensures.ordered
-    ∙ ordered_of (c.send_turn.ensures.apart false)
 
 pub returns-clause-handing : goal.returns-clause-handing
 unfolding turned

@@ -19,6 +19,7 @@ loop-taken-preserved g c =
       apart = message_apart (g.H.Host.told c.loop-taken.host) (g.H.Host.told c.hand_over.new.host)
           c.args.inc c.in-Some.taken c.hand_over.ensures.serving false refl c.hand_over.ensures.ordered
           ∙ c.loop-taken.invariant.apart;
+      ordered = c.hand_over.ensures.ordered ∙ c.loop-taken.invariant.ordered;
       next = others_next (passed c.args.inc (g.H.Host.told c.loop-taken.host))
           (passed c.args.inc (g.H.Host.told c.hand_over.new.host)) c.in-Some.taken
           (into_iter_items c.loop-taken.taken-iterator)

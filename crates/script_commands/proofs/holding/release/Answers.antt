@@ -3,7 +3,7 @@ use Rattle.script_model.specs.Origins.{passed}
 use Rattle.script_links.proofs.Served.{others_placed, release_next, release_served}
 use Rattle.std.specs.Result.{IsErrAnd}
 use Rattle.script_container.proofs.Servers.{handing_of, paced_of}
-use Rattle.script_links.proofs.Apart.{apart_of, handed_of, ordered_of, still_apart}
+use Rattle.script_links.proofs.Apart.{apart_of, handed_of, still_apart}
 use Rattle.script_links.proofs.Going.{ends_on}
 use Rattle.script_commands.proofs.Held.{let_go_holds, server_at}
 use Rattle.script_container.specs.Servers.{turned}
@@ -85,9 +85,6 @@ pub returns-clause-paced : goal.returns-clause-paced
 unfolding turned
 returns-clause-paced g c = λ s. paced_of c.end_at.ensures.turning s ∙ c.hand_all.ensures.paced s
 
-pub returns-clause-ordered : goal.returns-clause-ordered
-unfolding others
-returns-clause-ordered g c = c.end_at.ensures.ordered ∙ ordered_of c.hand_all.ensures.apart
 
 pub returns-in_err-hand_all-clause-handing : goal.returns-in_err-hand_all-clause-handing
 returns-in_err-hand_all-clause-handing g c = λ f inc at free. handed_of (g.H.Host.told c.args.host.now)
@@ -95,9 +92,6 @@ returns-in_err-hand_all-clause-handing g c = λ f inc at free. handed_of (g.H.Ho
     (ap f (server_at c.args.progress.now.links.items c.args.place inc c.index.result.now c.requires.within
     c.index.ensures at) ∙ free)
 
-pub returns-in_err-hand_all-clause-ordered : goal.returns-in_err-hand_all-clause-ordered
-unfolding others
-returns-in_err-hand_all-clause-ordered g c = ordered_of c.hand_all.ensures.apart
 
 pub returns-then-branch-clause-handing : goal.returns-then-branch-clause-handing
 returns-then-branch-clause-handing g c = λ f inc at free. handed_of (g.H.Host.told c.args.host.now)
@@ -105,9 +99,6 @@ returns-then-branch-clause-handing g c = λ f inc at free. handed_of (g.H.Host.t
     (ap f (server_at c.args.progress.now.links.items c.args.place inc c.index.result.now c.requires.within
     c.index.ensures at) ∙ free)
 
-pub returns-then-branch-clause-ordered : goal.returns-then-branch-clause-ordered
-unfolding others
-returns-then-branch-clause-ordered g c = ordered_of c.hand_all.ensures.apart
 
 pub returns-clause-handing : goal.returns-clause-handing
 unfolding turned

@@ -8,7 +8,3 @@ save_all-requires g c = record {
 
 pub returns-in-Err-NoMemory-clause-leaves : goal.returns-in-Err-NoMemory-clause-leaves
 returns-in-Err-NoMemory-clause-leaves g c = record { told = c.reap.ensures.told; shown = tt }
-
-pub returns-clause-leaves : goal.returns-clause-leaves
-returns-clause-leaves g c = known_still g.H.Disk.Disk c.args.noticed.now c.reap.ensures.told c.reap.ensures.noticed
-    c.requires.seen
