@@ -19,12 +19,12 @@ returns-in-Err-clause-first g c =
 
 pub returns-in-Ok-Some-clause-serving : goal.returns-in-Ok-Some-clause-serving
 unfolding servers turned
-returns-in-Ok-Some-clause-serving g c = c.open_disk.ensures.serving ∙ ap servers c.find.ensures
+returns-in-Ok-Some-clause-serving g c = c.open_disk.ensures.serving ∙ ap servers c.find.ensures.told
 
 pub returns-in-Ok-None-clause-serving : goal.returns-in-Ok-None-clause-serving
 unfolding servers turned
-returns-in-Ok-None-clause-serving g c = ap servers c.find.ensures
+returns-in-Ok-None-clause-serving g c = ap servers c.find.ensures.told
 
 pub returns-in-Err-clause-serving : goal.returns-in-Err-clause-serving
 unfolding servers turned
-returns-in-Err-clause-serving g c = ap servers c.find.ensures
+returns-in-Err-clause-serving g c = ap servers c.find.ensures.told
