@@ -4,3 +4,4 @@ pub mod Held
 pub mod Lines
 pub mod Ordered
 pub mod Starting
+pub mod Told

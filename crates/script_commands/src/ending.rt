@@ -1,21 +1,16 @@
 //! Servers that are ended.
 
-ghost use Rattle.script_model.specs.Bounds.{pace};
 ghost use Rattle.script_model.specs.Courses.{course};
-ghost use Rattle.script_model.specs.Notices.{Tells, notices};
-ghost use Rattle.script_links.specs.Links.{AreLinked, AreServed, HoldFor};
-ghost use Rattle.script_links.specs.Shown.{Shows};
-ghost use Rattle.script_container.specs.Told.{IsTold};
-ghost use Rattle.script_container.specs.Handed.{handed};
-ghost use Rattle.std.specs.Prelude.{◌≡◌, Bool, IfErr, OnOk, ℕ};
+ghost use Rattle.script_container.specs.Servers.{turned};
+ghost use Rattle.script_links.specs.Going.{IsGoingOn, LeavesGoing};
+ghost use Rattle.script_links.specs.Links.{HoldFor};
+ghost use Rattle.std.specs.Prelude.{◌≡◌, Bool, ℕ};
 
 use crate::placing::place_of;
-use container_core::container::ContainerCore;
 use container_model::answer::{Action, Answer};
 use script_container::fault::ScriptFault;
-use script_links::links::Link;
+use script_links::progress::Progress;
 use script_links::turns::end_at;
-use script_model::answer::Told;
 use script_model::host::Host;
 use std::alloc::Global;
 use store_model::disk::Disk;
@@ -24,27 +19,17 @@ use store_model::disk::Disk;
 fn end<H: Host>(
     alloc: Global,
     host: &mut H,
-    core: &mut ContainerCore,
-    links: &mut Vec<Link>,
+    progress: &mut Progress,
     inc: u32,
-    noticed: &mut Option<Told>,
 ) -> Result<(), ScriptFault>
-    requires told { IsTold ⟦<H::Disk as Disk>⟧ (H.told host.old) core.old }
-    requires linked { AreLinked (H.told host.old) links.old.items }
-    requires served { AreServed (H.told host.old) links.old.items }
-    requires seen { Tells (notices (H.told host.old)) noticed.old }
-    ensures told { IsTold ⟦<H::Disk as Disk>⟧ (H.told host.new) core.new }
-    ensures linked { AreLinked (H.told host.new) links.new.items }
-    ensures served { AreServed (H.told host.new) links.new.items }
-    ensures paced { (s : ℕ) → pace s (H.told host.new) ≡ pace s (H.told host.old) }
-    ensures handing { (f : ℕ → Bool) → handed f (H.told host.new) ≡ handed f (H.told host.old) }
+    requires going { IsGoingOn ⟦<H::Disk as Disk>⟧ (H.told host.old) progress.old }
+    ensures leaves { LeavesGoing ⟦<H::Disk as Disk>⟧ result (H.told host.new) progress.new }
+    ensures turning { turned (H.told host.new) ≡ turned (H.told host.old) }
     ensures ordered { course (H.told host.new) ≡ course (H.told host.old) }
-    ensures seen { OnOk result (Tells (notices (H.told host.new)) noticed.new) }
-    ensures shown { IfErr result (λ fault. Shows ⟦<H::Disk as Disk>⟧ (H.told host.new) fault) }
-    ensures holding { (f : ℕ → Bool) → HoldFor f links.old.items → HoldFor f links.new.items }
+    ensures holding { (f : ℕ → Bool) → HoldFor f progress.old.links.items → HoldFor f progress.new.links.items }
 {
-    match place_of(links, inc) {
-        Some(place) => end_at(alloc, host, core, links, place, noticed),
+    match place_of(&progress.links, inc) {
+        Some(place) => end_at(alloc, host, progress, place),
         None => Ok(()),
     }
 }
@@ -53,27 +38,17 @@ fn end<H: Host>(
 fn end_on<H: Host>(
     alloc: Global,
     host: &mut H,
-    core: &mut ContainerCore,
-    links: &mut Vec<Link>,
+    progress: &mut Progress,
     action: &Action,
-    noticed: &mut Option<Told>,
 ) -> Result<(), ScriptFault>
-    requires told { IsTold ⟦<H::Disk as Disk>⟧ (H.told host.old) core.old }
-    requires linked { AreLinked (H.told host.old) links.old.items }
-    requires served { AreServed (H.told host.old) links.old.items }
-    requires seen { Tells (notices (H.told host.old)) noticed.old }
-    ensures told { IsTold ⟦<H::Disk as Disk>⟧ (H.told host.new) core.new }
-    ensures linked { AreLinked (H.told host.new) links.new.items }
-    ensures served { AreServed (H.told host.new) links.new.items }
-    ensures paced { (s : ℕ) → pace s (H.told host.new) ≡ pace s (H.told host.old) }
-    ensures handing { (f : ℕ → Bool) → handed f (H.told host.new) ≡ handed f (H.told host.old) }
+    requires going { IsGoingOn ⟦<H::Disk as Disk>⟧ (H.told host.old) progress.old }
+    ensures leaves { LeavesGoing ⟦<H::Disk as Disk>⟧ result (H.told host.new) progress.new }
+    ensures turning { turned (H.told host.new) ≡ turned (H.told host.old) }
     ensures ordered { course (H.told host.new) ≡ course (H.told host.old) }
-    ensures seen { OnOk result (Tells (notices (H.told host.new)) noticed.new) }
-    ensures shown { IfErr result (λ fault. Shows ⟦<H::Disk as Disk>⟧ (H.told host.new) fault) }
-    ensures holding { (f : ℕ → Bool) → HoldFor f links.old.items → HoldFor f links.new.items }
+    ensures holding { (f : ℕ → Bool) → HoldFor f progress.old.links.items → HoldFor f progress.new.links.items }
 {
     match action {
-        Action::End(inc) => end(alloc, host, core, links, *inc, noticed),
+        Action::End(inc) => end(alloc, host, progress, *inc),
         Action::Start(_) | Action::Send(_) | Action::Commit(_) => Ok(()),
     }
 }
@@ -82,27 +57,17 @@ fn end_on<H: Host>(
 pub(crate) fn end_asked<H: Host>(
     alloc: Global,
     host: &mut H,
-    core: &mut ContainerCore,
-    links: &mut Vec<Link>,
+    progress: &mut Progress,
     answer: &Answer,
-    noticed: &mut Option<Told>,
 ) -> Result<(), ScriptFault>
-    requires told { IsTold ⟦<H::Disk as Disk>⟧ (H.told host.old) core.old }
-    requires linked { AreLinked (H.told host.old) links.old.items }
-    requires served { AreServed (H.told host.old) links.old.items }
-    requires seen { Tells (notices (H.told host.old)) noticed.old }
-    ensures told { IsTold ⟦<H::Disk as Disk>⟧ (H.told host.new) core.new }
-    ensures linked { AreLinked (H.told host.new) links.new.items }
-    ensures served { AreServed (H.told host.new) links.new.items }
-    ensures paced { (s : ℕ) → pace s (H.told host.new) ≡ pace s (H.told host.old) }
-    ensures handing { (f : ℕ → Bool) → handed f (H.told host.new) ≡ handed f (H.told host.old) }
+    requires going { IsGoingOn ⟦<H::Disk as Disk>⟧ (H.told host.old) progress.old }
+    ensures leaves { LeavesGoing ⟦<H::Disk as Disk>⟧ result (H.told host.new) progress.new }
+    ensures turning { turned (H.told host.new) ≡ turned (H.told host.old) }
     ensures ordered { course (H.told host.new) ≡ course (H.told host.old) }
-    ensures seen { OnOk result (Tells (notices (H.told host.new)) noticed.new) }
-    ensures shown { IfErr result (λ fault. Shows ⟦<H::Disk as Disk>⟧ (H.told host.new) fault) }
-    ensures holding { (f : ℕ → Bool) → HoldFor f links.old.items → HoldFor f links.new.items }
+    ensures holding { (f : ℕ → Bool) → HoldFor f progress.old.links.items → HoldFor f progress.new.links.items }
 {
     for action in answer.actions.as_slice() {
-        end_on(alloc, host, core, links, action, noticed)?;
+        end_on(alloc, host, progress, action)?;
     }
     Ok(())
 }

@@ -4,17 +4,17 @@ ghost use Rattle.script_model.specs.Bounds.{pace, resting};
 ghost use Rattle.script_model.specs.Courses.{course};
 ghost use Rattle.script_model.specs.Errors.{behind_hold};
 ghost use Rattle.script_model.specs.Events.{running};
-ghost use Rattle.script_model.specs.Notices.{Tells, notices};
 ghost use Rattle.script_model.specs.Origins.{AreNext, Passed, giving, passed};
 ghost use Rattle.script_model.specs.declared.command.ScriptCommand.TheVariants as script;
-ghost use Rattle.script_links.specs.Links.{AreLinked, AreServed, EachServed, HoldFor, IsLinkAt, beside, links_of};
+ghost use Rattle.script_links.specs.Apart.{others};
+ghost use Rattle.script_links.specs.Going.{IsGoingOn, LeavesGoing};
+ghost use Rattle.script_links.specs.Links.{EachServed, HoldFor, IsLinkAt, links_of};
 ghost use Rattle.script_links.specs.Ready.{AreReady};
-ghost use Rattle.script_links.specs.Shown.{Shows};
-ghost use Rattle.script_container.specs.Told.{IsTold};
 ghost use Rattle.script_commands.specs.Lines.{told_of_server};
 ghost use Rattle.script_container.specs.Handed.{handed};
+ghost use Rattle.script_container.specs.Known.{IsKnown, Leaves};
 ghost use Rattle.script_links.specs.declared.links.Link.{Link};
-ghost use Rattle.std.specs.Prelude.{◌≡◌, ◌≤◌, ◌<◌, Bool, [], false, true, IfErr, IfOk, OnOk, length, ℕ, slice_index_or};
+ghost use Rattle.std.specs.Prelude.{◌≡◌, ◌≤◌, ◌<◌, Bool, [], false, true, IfOk, OnOk, length, ℕ, slice_index_or};
 ghost use Rattle.std.specs.Prelude.{slice_set};
 
 use crate::placing::place_of;
@@ -22,6 +22,7 @@ use container_core::container::ContainerCore;
 use container_model::fault::ContainerFault;
 use script_container::fault::ScriptFault;
 use script_links::links::{Link, hand_over};
+use script_links::progress::Progress;
 use script_links::turns::end_at;
 use script_links::waiting::Waiting;
 use script_model::answer::Told;
@@ -38,19 +39,14 @@ fn hand_all<H: Host>(
     waiting: Waiting,
     noticed: &mut Option<Told>,
 ) -> Result<bool, ScriptFault>
-    requires told { IsTold ⟦<H::Disk as Disk>⟧ (H.told host.old) core.old }
+    requires known { IsKnown ⟦<H::Disk as Disk>⟧ (H.told host.old) core.old noticed.old }
     requires next { AreNext (passed inc (H.told host.old)) waiting }
-    requires seen { Tells (notices (H.told host.old)) noticed.old }
-    ensures told { IsTold ⟦<H::Disk as Disk>⟧ (H.told host.new) core.new }
-    ensures still { (s : ℕ) → running s (H.told host.new) ≡ running s (H.told host.old) }
-    ensures apart { (s : ℕ) → beside inc s (H.told host.new) ≡ beside inc s (H.told host.old) }
-    ensures handing { (f : ℕ → Bool) → f inc ≡ false → handed f (H.told host.new) ≡ handed f (H.told host.old) }
+    ensures leaves { Leaves ⟦<H::Disk as Disk>⟧ result (H.told host.new) core.new noticed.new }
     ensures given { IfOk result (λ all. all ≡ true → passed inc (H.told host.new)
         ≡ giving waiting (passed inc (H.told host.old))) }
     ensures paced { (s : ℕ) → pace s (H.told host.new) ≡ pace s (H.told host.old) }
+    ensures apart { others inc false (H.told host.new) ≡ others inc false (H.told host.old) }
     ensures ordered { course (H.told host.new) ≡ course (H.told host.old) }
-    ensures seen { OnOk result (Tells (notices (H.told host.new)) noticed.new) }
-    ensures shown { IfErr result (λ fault. Shows ⟦<H::Disk as Disk>⟧ (H.told host.new) fault) }
 {
     for taken in waiting.into_vec() {
         if !hand_over(alloc, host, core, inc, taken, noticed)? {
@@ -78,34 +74,33 @@ fn let_go(alloc: Global, links: &mut Vec<Link>, place: usize) -> Waiting
 fn release<H: Host>(
     alloc: Global,
     host: &mut H,
-    core: &mut ContainerCore,
-    links: &mut Vec<Link>,
+    progress: &mut Progress,
     place: usize,
-    noticed: &mut Option<Told>,
 ) -> Result<(), ScriptFault>
-    requires within { place < length links.old.items }
-    requires told { IsTold ⟦<H::Disk as Disk>⟧ (H.told host.old) core.old }
-    requires linked { AreLinked (H.told host.old) links.old.items }
-    requires served { AreServed (H.told host.old) links.old.items }
-    requires seen { Tells (notices (H.told host.old)) noticed.old }
-    ensures told { IsTold ⟦<H::Disk as Disk>⟧ (H.told host.new) core.new }
-    ensures linked { AreLinked (H.told host.new) links.new.items }
-    ensures served { OnOk result (AreServed (H.told host.new) links.new.items) }
+    requires within { place < length progress.old.links.items }
+    requires going { IsGoingOn ⟦<H::Disk as Disk>⟧ (H.told host.old) progress.old }
+    ensures leaves { LeavesGoing ⟦<H::Disk as Disk>⟧ result (H.told host.new) progress.new }
     ensures paced { (s : ℕ) → pace s (H.told host.new) ≡ pace s (H.told host.old) }
-    ensures handing { (f : ℕ → Bool) (inc : ℕ) → IsLinkAt links.old.items place inc → f inc ≡ false
+    ensures handing { (f : ℕ → Bool) (inc : ℕ) → IsLinkAt progress.old.links.items place inc → f inc ≡ false
         → handed f (H.told host.new) ≡ handed f (H.told host.old) }
     ensures ordered { course (H.told host.new) ≡ course (H.told host.old) }
-    ensures seen { OnOk result (Tells (notices (H.told host.new)) noticed.new) }
-    ensures shown { IfErr result (λ fault. Shows ⟦<H::Disk as Disk>⟧ (H.told host.new) fault) }
-    ensures holding { (f : ℕ → Bool) (inc : ℕ) → IsLinkAt links.old.items place inc → HoldFor f links.old.items
-        → HoldFor (λ s. behind_hold (script.Release inc) s (f s)) links.new.items }
+    ensures holding { (f : ℕ → Bool) (inc : ℕ) → IsLinkAt progress.old.links.items place inc
+        → HoldFor f progress.old.links.items
+        → HoldFor (λ s. behind_hold (script.Release inc) s (f s)) progress.new.links.items }
 {
-    let inc = links[place].inc;
-    let waiting = let_go(alloc, links, place);
-    if hand_all(alloc, host, core, inc, waiting, noticed)? {
+    let inc = progress.links[place].inc;
+    let waiting = let_go(alloc, &mut progress.links, place);
+    if hand_all(
+        alloc,
+        host,
+        &mut progress.core,
+        inc,
+        waiting,
+        &mut progress.noticed,
+    )? {
         return Ok(());
     }
-    end_at(alloc, host, core, links, place, noticed)
+    end_at(alloc, host, progress, place)
 }
 
 /// What comes on the link at a place waits from now on.
@@ -124,32 +119,23 @@ fn hold(links: &mut Vec<Link>, place: usize)
 pub(crate) fn release_link<H: Host>(
     alloc: Global,
     host: &mut H,
-    core: &mut ContainerCore,
-    links: &mut Vec<Link>,
+    progress: &mut Progress,
     inc: u32,
-    noticed: &mut Option<Told>,
 ) -> Result<Told, ScriptFault>
-    requires told { IsTold ⟦<H::Disk as Disk>⟧ (H.told host.old) core.old }
-    requires linked { AreLinked (H.told host.old) links.old.items }
-    requires served { AreServed (H.told host.old) links.old.items }
+    requires going { IsGoingOn ⟦<H::Disk as Disk>⟧ (H.told host.old) progress.old }
     requires rested { (s : ℕ) → pace s (H.told host.old) ≡ resting }
-    requires seen { Tells (notices (H.told host.old)) noticed.old }
-    ensures told { IsTold ⟦<H::Disk as Disk>⟧ (H.told host.new) core.new }
-    ensures linked { AreLinked (H.told host.new) links.new.items }
-    ensures served { OnOk result (AreServed (H.told host.new) links.new.items) }
-    ensures ready { OnOk result (AreReady 1 (H.told host.new) links.new.items) }
+    ensures leaves { LeavesGoing ⟦<H::Disk as Disk>⟧ result (H.told host.new) progress.new }
+    ensures ready { OnOk result (AreReady 1 (H.told host.new) progress.new.links.items) }
     ensures ordered { course (H.told host.new) ≡ course (H.told host.old) }
     ensures first { IfOk result (λ t. t ≡ told_of_server (running inc (H.told host.old))) }
-    ensures seen { OnOk result (Tells (notices (H.told host.new)) noticed.new) }
-    ensures shown { IfErr result (λ fault. Shows ⟦<H::Disk as Disk>⟧ (H.told host.new) fault) }
-    ensures holding { (f : ℕ → Bool) → HoldFor f links.old.items
-        → HoldFor (λ s. behind_hold (script.Release inc) s (f s)) links.new.items }
+    ensures holding { (f : ℕ → Bool) → HoldFor f progress.old.links.items
+        → HoldFor (λ s. behind_hold (script.Release inc) s (f s)) progress.new.links.items }
     ensures handing { (f : ℕ → Bool) → f inc ≡ false → handed f (H.told host.new) ≡ handed f (H.told host.old) }
 {
-    let Some(place) = place_of(links, inc) else {
+    let Some(place) = place_of(&progress.links, inc) else {
         return Ok(Told::Fault(ContainerFault::NoSuch));
     };
-    release(alloc, host, core, links, place, noticed)?;
+    release(alloc, host, progress, place)?;
     Ok(Told::Done)
 }
 

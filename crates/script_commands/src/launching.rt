@@ -1,20 +1,17 @@
 //! Servers that are started.
 
-ghost use Rattle.script_model.specs.Bounds.{pace};
 ghost use Rattle.script_model.specs.Courses.{but_starts, course, starts_in, with_start, without};
-ghost use Rattle.script_model.specs.Notices.{notices};
-ghost use Rattle.script_links.specs.Links.{AreHeld, AreLinked, AreServed};
-ghost use Rattle.script_links.specs.Shown.{Shows};
-ghost use Rattle.script_container.specs.Told.{IsTold};
+ghost use Rattle.script_container.specs.Servers.{turned};
+ghost use Rattle.script_links.specs.Going.{IsGoingOn, LeavesGoing};
+ghost use Rattle.script_links.specs.Links.{AreHeld};
 ghost use Rattle.script_commands.specs.Starts.{AreIn};
-ghost use Rattle.script_container.specs.Handed.{handed};
-ghost use Rattle.std.specs.Prelude.{◌≡◌, ◌≢◌, ◌<◌, ◌++◌, ◌∷◌, Bool, [], IfErr, List, OnOk, ℕ, vec_capacity, vec_len};
+ghost use Rattle.std.specs.Prelude.{◌≡◌, ◌≢◌, ◌<◌, ◌++◌, ◌∷◌, Bool, [], List, OnOk, ℕ, vec_capacity, vec_len};
 
 use crate::placing::place_of;
-use container_core::container::ContainerCore;
 use container_model::answer::{Action, Answer};
 use script_container::fault::ScriptFault;
 use script_links::links::Link;
+use script_links::progress::Progress;
 use script_model::host::{Host, HostFault};
 use std::alloc::Global;
 use store_model::disk::Disk;
@@ -24,35 +21,28 @@ use store_model::disk::Disk;
 fn start<H: Host>(
     alloc: Global,
     host: &mut H,
-    core: &ContainerCore,
-    links: &mut Vec<Link>,
+    progress: &mut Progress,
     inc: u32,
 ) -> Result<(), ScriptFault>
-    requires told { IsTold ⟦<H::Disk as Disk>⟧ (H.told host.old) core.now }
-    requires linked { AreLinked (H.told host.old) links.old.items }
-    requires served { AreServed (H.told host.old) links.old.items }
-    requires session { core.now.session ≢ 0 }
-    ensures told { IsTold ⟦<H::Disk as Disk>⟧ (H.told host.new) core.now }
-    ensures linked { AreLinked (H.told host.new) links.new.items }
-    ensures served { AreServed (H.told host.new) links.new.items }
-    ensures paced { (s : ℕ) → pace s (H.told host.new) ≡ pace s (H.told host.old) }
-    ensures handing { (f : ℕ → Bool) → handed f (H.told host.new) ≡ handed f (H.told host.old) }
+    requires going { IsGoingOn ⟦<H::Disk as Disk>⟧ (H.told host.old) progress.old }
+    requires session { progress.old.core.session ≢ 0 }
+    ensures leaves { LeavesGoing ⟦<H::Disk as Disk>⟧ result (H.told host.new) progress.new }
+    ensures same { progress.new.core ≡ progress.old.core }
+    ensures turning { turned (H.told host.new) ≡ turned (H.told host.old) }
     ensures ordered { but_starts (course (H.told host.new)) ≡ but_starts (course (H.told host.old)) }
-    ensures noticed { notices (H.told host.new) ≡ notices (H.told host.old) }
     ensures tried { OnOk result ((course (H.told host.new)).unstarted
         ≡ without inc (course (H.told host.old)).unstarted) }
-    ensures shown { IfErr result (λ fault. Shows ⟦<H::Disk as Disk>⟧ (H.told host.new) fault) }
-    ensures holding { (f : ℕ → Bool) → AreHeld f links.old.items → AreHeld f links.new.items }
+    ensures holding { (f : ℕ → Bool) → AreHeld f progress.old.links.items → AreHeld f progress.new.links.items }
 {
-    let session = core.session();
-    match place_of(links, inc) {
+    let session = progress.core.session();
+    match place_of(&progress.links, inc) {
         Some(_) => return Ok(()),
         None => {}
     }
-    links.reserve(1)?;
+    progress.links.reserve(1)?;
     match host.start(session, inc) {
         Ok(()) => {
-            add(links, Link::new(alloc, inc));
+            add(&mut progress.links, Link::new(alloc, inc));
             Ok(())
         }
         Err(HostFault::NoMemory) => Err(ScriptFault::NoMemory),
@@ -72,28 +62,21 @@ fn add<T: Drop>(list: &mut Vec<T>, value: T)
 fn start_on<H: Host>(
     alloc: Global,
     host: &mut H,
-    core: &ContainerCore,
-    links: &mut Vec<Link>,
+    progress: &mut Progress,
     action: &Action,
 ) -> Result<(), ScriptFault>
-    requires told { IsTold ⟦<H::Disk as Disk>⟧ (H.told host.old) core.now }
-    requires linked { AreLinked (H.told host.old) links.old.items }
-    requires served { AreServed (H.told host.old) links.old.items }
-    requires session { core.now.session ≢ 0 }
-    ensures told { IsTold ⟦<H::Disk as Disk>⟧ (H.told host.new) core.now }
-    ensures linked { AreLinked (H.told host.new) links.new.items }
-    ensures served { AreServed (H.told host.new) links.new.items }
-    ensures paced { (s : ℕ) → pace s (H.told host.new) ≡ pace s (H.told host.old) }
-    ensures handing { (f : ℕ → Bool) → handed f (H.told host.new) ≡ handed f (H.told host.old) }
+    requires going { IsGoingOn ⟦<H::Disk as Disk>⟧ (H.told host.old) progress.old }
+    requires session { progress.old.core.session ≢ 0 }
+    ensures leaves { LeavesGoing ⟦<H::Disk as Disk>⟧ result (H.told host.new) progress.new }
+    ensures same { progress.new.core ≡ progress.old.core }
+    ensures turning { turned (H.told host.new) ≡ turned (H.told host.old) }
     ensures ordered { but_starts (course (H.told host.new)) ≡ but_starts (course (H.told host.old)) }
-    ensures noticed { notices (H.told host.new) ≡ notices (H.told host.old) }
     ensures tried { (incs : List ℕ) → AreIn (course (H.told host.old)).unstarted (with_start action.now incs)
         → OnOk result (AreIn (course (H.told host.new)).unstarted incs) }
-    ensures shown { IfErr result (λ fault. Shows ⟦<H::Disk as Disk>⟧ (H.told host.new) fault) }
-    ensures holding { (f : ℕ → Bool) → AreHeld f links.old.items → AreHeld f links.new.items }
+    ensures holding { (f : ℕ → Bool) → AreHeld f progress.old.links.items → AreHeld f progress.new.links.items }
 {
     match action {
-        Action::Start(inc) => start(alloc, host, core, links, *inc),
+        Action::Start(inc) => start(alloc, host, progress, *inc),
         Action::End(_) | Action::Send(_) | Action::Commit(_) => Ok(()),
     }
 }
@@ -102,31 +85,23 @@ fn start_on<H: Host>(
 pub(crate) fn start_asked<H: Host>(
     alloc: Global,
     host: &mut H,
-    core: &ContainerCore,
-    links: &mut Vec<Link>,
+    progress: &mut Progress,
     answer: &Answer,
 ) -> Result<(), ScriptFault>
-    requires told { IsTold ⟦<H::Disk as Disk>⟧ (H.told host.old) core.now }
-    requires linked { AreLinked (H.told host.old) links.old.items }
-    requires served { AreServed (H.told host.old) links.old.items }
+    requires going { IsGoingOn ⟦<H::Disk as Disk>⟧ (H.told host.old) progress.old }
     requires wanted { AreIn (course (H.told host.old)).unstarted (starts_in answer.now.actions) }
-    requires raised { core.now.session ≡ 0 → (course (H.told host.old)).unstarted ≡ [] }
-    ensures told { IsTold ⟦<H::Disk as Disk>⟧ (H.told host.new) core.now }
-    ensures linked { AreLinked (H.told host.new) links.new.items }
-    ensures served { AreServed (H.told host.new) links.new.items }
-    ensures paced { (s : ℕ) → pace s (H.told host.new) ≡ pace s (H.told host.old) }
-    ensures handing { (f : ℕ → Bool) → handed f (H.told host.new) ≡ handed f (H.told host.old) }
+    requires raised { progress.old.core.session ≡ 0 → (course (H.told host.old)).unstarted ≡ [] }
+    ensures leaves { LeavesGoing ⟦<H::Disk as Disk>⟧ result (H.told host.new) progress.new }
+    ensures turning { turned (H.told host.new) ≡ turned (H.told host.old) }
     ensures ordered { but_starts (course (H.told host.new)) ≡ but_starts (course (H.told host.old)) }
-    ensures noticed { notices (H.told host.new) ≡ notices (H.told host.old) }
     ensures tried { OnOk result ((course (H.told host.new)).unstarted ≡ []) }
-    ensures shown { IfErr result (λ fault. Shows ⟦<H::Disk as Disk>⟧ (H.told host.new) fault) }
-    ensures holding { (f : ℕ → Bool) → AreHeld f links.old.items → AreHeld f links.new.items }
+    ensures holding { (f : ℕ → Bool) → AreHeld f progress.old.links.items → AreHeld f progress.new.links.items }
 {
-    if core.session() == 0 {
+    if progress.core.session() == 0 {
         return Ok(());
     }
     for action in answer.actions.as_slice() {
-        start_on(alloc, host, core, links, action)?;
+        start_on(alloc, host, progress, action)?;
     }
     Ok(())
 }

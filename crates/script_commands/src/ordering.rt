@@ -3,21 +3,18 @@
 ghost use Rattle.container_model.specs.Commands.{on_command};
 ghost use Rattle.container_model.specs.declared.command.Command.TheVariants as asks;
 ghost use Rattle.script_model.specs.Answers.{told_by};
-ghost use Rattle.script_model.specs.Bounds.{pace};
 ghost use Rattle.script_model.specs.Containers.{record_of};
 ghost use Rattle.script_model.specs.Courses.{but_starts, course, is_unraised, starts_in};
-ghost use Rattle.script_model.specs.Events.{Stepped, running};
-ghost use Rattle.script_model.specs.Notices.{Tells, notices};
+ghost use Rattle.script_model.specs.Events.{Stepped};
 ghost use Rattle.script_model.specs.Orders.{IsBegun, IsReadied, asked, behind_given, orders};
-ghost use Rattle.script_model.specs.Origins.{passed};
 ghost use Rattle.script_model.specs.declared.command.ScriptCommand.TheVariants as script;
 ghost use Rattle.script_model.specs.declared.step.Step.{Step};
-ghost use Rattle.script_links.specs.Links.{AreHeld, AreLinked, AreServed, HoldFor};
-ghost use Rattle.script_links.specs.Shown.{Shows};
-ghost use Rattle.script_container.specs.Told.{IsTold};
+ghost use Rattle.script_container.specs.Known.{IsKnown, Leaves};
+ghost use Rattle.script_container.specs.Servers.{servers, turned};
+ghost use Rattle.script_links.specs.Going.{IsGoingOn, LeavesGoing};
+ghost use Rattle.script_links.specs.Links.{AreHeld, HoldFor};
 ghost use Rattle.script_commands.specs.Starts.{AreIn};
-ghost use Rattle.script_container.specs.Handed.{handed};
-ghost use Rattle.std.specs.Prelude.{◌≡◌, ◌∷◌, Bool, [], false, true, IfErr, IfOk, List, OnOk, Some, ℕ};
+ghost use Rattle.std.specs.Prelude.{◌≡◌, ◌∷◌, Bool, [], false, true, IfOk, List, OnOk, Some, ℕ};
 
 use crate::ending::end_asked;
 use crate::launching::start_asked;
@@ -27,7 +24,7 @@ use container_model::command::Command;
 use script_container::container::command;
 use script_container::fault::ScriptFault;
 use script_container::saves::save_all;
-use script_links::links::Link;
+use script_links::progress::Progress;
 use script_model::answer::Told;
 use script_model::host::Host;
 use script_opens::refusals::refusal;
@@ -40,31 +37,27 @@ use store_model::disk::Disk;
 fn act<H: Host>(
     alloc: Global,
     host: &mut H,
-    core: &mut ContainerCore,
-    links: &mut Vec<Link>,
+    progress: &mut Progress,
     answer: &Answer,
-    noticed: &mut Option<Told>,
 ) -> Result<(), ScriptFault>
-    requires told { IsTold ⟦<H::Disk as Disk>⟧ (H.told host.old) core.old }
-    requires linked { AreLinked (H.told host.old) links.old.items }
-    requires served { AreServed (H.told host.old) links.old.items }
+    requires going { IsGoingOn ⟦<H::Disk as Disk>⟧ (H.told host.old) progress.old }
     requires wanted { AreIn (course (H.told host.old)).unstarted (starts_in answer.now.actions) }
-    requires raised { core.old.session ≡ 0 → (course (H.told host.old)).unstarted ≡ [] }
-    requires seen { Tells (notices (H.told host.old)) noticed.old }
-    ensures told { IsTold ⟦<H::Disk as Disk>⟧ (H.told host.new) core.new }
-    ensures linked { AreLinked (H.told host.new) links.new.items }
-    ensures served { AreServed (H.told host.new) links.new.items }
-    ensures paced { (s : ℕ) → pace s (H.told host.new) ≡ pace s (H.told host.old) }
-    ensures handing { (f : ℕ → Bool) → handed f (H.told host.new) ≡ handed f (H.told host.old) }
+    requires raised { progress.old.core.session ≡ 0 → (course (H.told host.old)).unstarted ≡ [] }
+    ensures leaves { LeavesGoing ⟦<H::Disk as Disk>⟧ result (H.told host.new) progress.new }
+    ensures turning { turned (H.told host.new) ≡ turned (H.told host.old) }
     ensures ordered { but_starts (course (H.told host.new)) ≡ but_starts (course (H.told host.old)) }
     ensures tried { OnOk result ((course (H.told host.new)).unstarted ≡ []) }
-    ensures seen { OnOk result (Tells (notices (H.told host.new)) noticed.new) }
-    ensures shown { IfErr result (λ fault. Shows ⟦<H::Disk as Disk>⟧ (H.told host.new) fault) }
-    ensures holding { (f : ℕ → Bool) → AreHeld f links.old.items → HoldFor f links.new.items }
+    ensures holding { (f : ℕ → Bool) → AreHeld f progress.old.links.items → HoldFor f progress.new.links.items }
 {
-    start_asked(alloc, host, core, links, answer)?;
-    end_asked(alloc, host, core, links, answer, noticed)?;
-    save_all(alloc, host, core, answer, noticed)
+    start_asked(alloc, host, progress, answer)?;
+    end_asked(alloc, host, progress, answer)?;
+    save_all(
+        alloc,
+        host,
+        &mut progress.core,
+        answer,
+        &mut progress.noticed,
+    )
 }
 
 /// Gives the container a user's command, and does what it asks for. A start comes where it has a session, or was to get
@@ -72,33 +65,23 @@ fn act<H: Host>(
 fn give<H: Host>(
     alloc: Global,
     host: &mut H,
-    core: &mut ContainerCore,
-    links: &mut Vec<Link>,
+    progress: &mut Progress,
     ordered: Command,
-    noticed: &mut Option<Told>,
 ) -> Result<Told, ScriptFault>
-    requires told { IsTold ⟦<H::Disk as Disk>⟧ (H.told host.old) core.old }
     requires readied { IsReadied ordered (record_of (H.told host.old)) (asked (H.told host.old)) }
-    requires linked { AreLinked (H.told host.old) links.old.items }
-    requires served { AreServed (H.told host.old) links.old.items }
+    requires going { IsGoingOn ⟦<H::Disk as Disk>⟧ (H.told host.old) progress.old }
     requires idle { (course (H.told host.old)).unstarted ≡ [] }
-    requires seen { Tells (notices (H.told host.old)) noticed.old }
-    ensures told { IsTold ⟦<H::Disk as Disk>⟧ (H.told host.new) core.new }
-    ensures linked { AreLinked (H.told host.new) links.new.items }
-    ensures served { AreServed (H.told host.new) links.new.items }
-    ensures paced { (s : ℕ) → pace s (H.told host.new) ≡ pace s (H.told host.old) }
-    ensures handing { (f : ℕ → Bool) → handed f (H.told host.new) ≡ handed f (H.told host.old) }
+    ensures leaves { LeavesGoing ⟦<H::Disk as Disk>⟧ result (H.told host.new) progress.new }
+    ensures turning { turned (H.told host.new) ≡ turned (H.told host.old) }
     ensures ordered { but_starts (course (H.told host.new))
         ≡ but_starts (course (Stepped (Step.Command ordered) ∷ H.told host.old)) }
     ensures tried { OnOk result ((course (H.told host.new)).unstarted ≡ []) }
-    ensures answered { IfOk result (λ t. t ≡ told_by (on_command core.old ordered)) }
-    ensures seen { OnOk result (Tells (notices (H.told host.new)) noticed.new) }
-    ensures shown { IfErr result (λ fault. Shows ⟦<H::Disk as Disk>⟧ (H.told host.new) fault) }
-    ensures holding { (f : ℕ → Bool) → AreHeld f links.old.items → HoldFor f links.new.items }
+    ensures answered { IfOk result (λ t. t ≡ told_by (on_command progress.old.core ordered)) }
+    ensures holding { (f : ℕ → Bool) → AreHeld f progress.old.links.items → HoldFor f progress.new.links.items }
 {
-    match command(alloc, host, core, ordered) {
+    match command(alloc, host, &mut progress.core, ordered) {
         Ok(answer) => {
-            act(alloc, host, core, links, &answer, noticed)?;
+            act(alloc, host, progress, &answer)?;
             Ok(made_by(&answer))
         }
         Err(fault) => refusal(fault),
@@ -126,21 +109,15 @@ fn raise<H: Host>(
     core: &mut ContainerCore,
     noticed: &mut Option<Told>,
 ) -> Result<Told, ScriptFault>
-    requires told { IsTold ⟦<H::Disk as Disk>⟧ (H.told host.old) core.old }
+    requires known { IsKnown ⟦<H::Disk as Disk>⟧ (H.told host.old) core.old noticed.old }
     requires none { core.old.session ≡ 0 }
     requires idle { (course (H.told host.old)).unstarted ≡ [] }
-    requires seen { Tells (notices (H.told host.old)) noticed.old }
-    ensures told { IsTold ⟦<H::Disk as Disk>⟧ (H.told host.new) core.new }
-    ensures still { (s : ℕ) → running s (H.told host.new) ≡ running s (H.told host.old) }
-    ensures quiet { (s : ℕ) → passed s (H.told host.new) ≡ passed s (H.told host.old) }
-    ensures paced { (s : ℕ) → pace s (H.told host.new) ≡ pace s (H.told host.old) }
-    ensures handing { (f : ℕ → Bool) → handed f (H.told host.new) ≡ handed f (H.told host.old) }
+    ensures leaves { Leaves ⟦<H::Disk as Disk>⟧ result (H.told host.new) core.new noticed.new }
+    ensures serving { servers (H.told host.new) ≡ servers (H.told host.old) }
     ensures ordered { but_starts (course (H.told host.new))
         ≡ but_starts (course (Stepped (Step.Command asks.Session) ∷ H.told host.old)) }
     ensures tried { OnOk result ((course (H.told host.new)).unstarted ≡ []) }
     ensures answered { IfOk result (λ t. t ≡ told_by (on_command core.old asks.Session)) }
-    ensures seen { OnOk result (Tells (notices (H.told host.new)) noticed.new) }
-    ensures shown { IfErr result (λ fault. Shows ⟦<H::Disk as Disk>⟧ (H.told host.new) fault) }
 {
     match command(alloc, host, core, Command::Session) {
         Ok(answer) => {
@@ -156,33 +133,23 @@ fn raise<H: Host>(
 fn start_first<H: Host>(
     alloc: Global,
     host: &mut H,
-    core: &mut ContainerCore,
-    links: &mut Vec<Link>,
-    noticed: &mut Option<Told>,
+    progress: &mut Progress,
 ) -> Result<Told, ScriptFault>
-    requires told { IsTold ⟦<H::Disk as Disk>⟧ (H.told host.old) core.old }
-    requires linked { AreLinked (H.told host.old) links.old.items }
-    requires served { AreServed (H.told host.old) links.old.items }
-    requires none { core.old.session ≡ 0 }
+    requires going { IsGoingOn ⟦<H::Disk as Disk>⟧ (H.told host.old) progress.old }
+    requires none { progress.old.core.session ≡ 0 }
     requires idle { (course (H.told host.old)).unstarted ≡ [] }
-    requires seen { Tells (notices (H.told host.old)) noticed.old }
-    ensures told { IsTold ⟦<H::Disk as Disk>⟧ (H.told host.new) core.new }
-    ensures linked { AreLinked (H.told host.new) links.new.items }
-    ensures served { AreServed (H.told host.new) links.new.items }
-    ensures paced { (s : ℕ) → pace s (H.told host.new) ≡ pace s (H.told host.old) }
-    ensures handing { (f : ℕ → Bool) → handed f (H.told host.new) ≡ handed f (H.told host.old) }
+    ensures leaves { LeavesGoing ⟦<H::Disk as Disk>⟧ result (H.told host.new) progress.new }
+    ensures turning { turned (H.told host.new) ≡ turned (H.told host.old) }
     ensures ordered { OnOk result (orders (H.told host.new) ≡ behind_given asks.Start (orders (H.told host.old))) }
     ensures begun { IsBegun (script.Container asks.Start) (orders (H.told host.old)) (orders (H.told host.new)) }
     ensures standing { (course (H.told host.new)).begun ≡ (course (H.told host.old)).begun }
     ensures first { IfOk result (λ t. ((course (H.told host.new)).commanded ≡ Some t)
         × ((course (H.told host.new)).unstarted ≡ [])) }
-    ensures seen { OnOk result (Tells (notices (H.told host.new)) noticed.new) }
-    ensures shown { IfErr result (λ fault. Shows ⟦<H::Disk as Disk>⟧ (H.told host.new) fault) }
-    ensures holding { (f : ℕ → Bool) → AreHeld f links.old.items → HoldFor f links.new.items }
+    ensures holding { (f : ℕ → Bool) → AreHeld f progress.old.links.items → HoldFor f progress.new.links.items }
 {
-    let raised = raise(alloc, host, core, noticed)?;
-    let lacks = core.session() == 0;
-    let started = give(alloc, host, core, links, Command::Start, noticed)?;
+    let raised = raise(alloc, host, &mut progress.core, &mut progress.noticed)?;
+    let lacks = progress.core.session() == 0;
+    let started = give(alloc, host, progress, Command::Start)?;
     if lacks {
         return Ok(raised);
     }
@@ -193,32 +160,22 @@ fn start_first<H: Host>(
 pub(crate) fn order<H: Host>(
     alloc: Global,
     host: &mut H,
-    core: &mut ContainerCore,
-    links: &mut Vec<Link>,
+    progress: &mut Progress,
     ordered: Command,
-    noticed: &mut Option<Told>,
 ) -> Result<Told, ScriptFault>
-    requires told { IsTold ⟦<H::Disk as Disk>⟧ (H.told host.old) core.old }
-    requires linked { AreLinked (H.told host.old) links.old.items }
-    requires served { AreServed (H.told host.old) links.old.items }
+    requires going { IsGoingOn ⟦<H::Disk as Disk>⟧ (H.told host.old) progress.old }
     requires idle { (course (H.told host.old)).unstarted ≡ [] }
-    requires seen { Tells (notices (H.told host.old)) noticed.old }
-    ensures told { IsTold ⟦<H::Disk as Disk>⟧ (H.told host.new) core.new }
-    ensures linked { AreLinked (H.told host.new) links.new.items }
-    ensures served { AreServed (H.told host.new) links.new.items }
-    ensures paced { (s : ℕ) → pace s (H.told host.new) ≡ pace s (H.told host.old) }
-    ensures handing { (f : ℕ → Bool) → handed f (H.told host.new) ≡ handed f (H.told host.old) }
+    ensures leaves { LeavesGoing ⟦<H::Disk as Disk>⟧ result (H.told host.new) progress.new }
+    ensures turning { turned (H.told host.new) ≡ turned (H.told host.old) }
     ensures ordered { OnOk result (orders (H.told host.new) ≡ behind_given ordered (orders (H.told host.old))) }
     ensures begun { IsBegun (script.Container ordered) (orders (H.told host.old)) (orders (H.told host.new)) }
     ensures standing { (course (H.told host.new)).begun ≡ (course (H.told host.old)).begun }
     ensures first { IfOk result (λ t. ((course (H.told host.new)).commanded ≡ Some t)
         × ((course (H.told host.new)).unstarted ≡ [])) }
-    ensures seen { OnOk result (Tells (notices (H.told host.new)) noticed.new) }
-    ensures shown { IfErr result (λ fault. Shows ⟦<H::Disk as Disk>⟧ (H.told host.new) fault) }
-    ensures holding { (f : ℕ → Bool) → AreHeld f links.old.items → HoldFor f links.new.items }
+    ensures holding { (f : ℕ → Bool) → AreHeld f progress.old.links.items → HoldFor f progress.new.links.items }
 {
-    if is_first_start(core, &ordered) {
-        return start_first(alloc, host, core, links, noticed);
+    if is_first_start(&progress.core, &ordered) {
+        return start_first(alloc, host, progress);
     }
-    give(alloc, host, core, links, ordered, noticed)
+    give(alloc, host, progress, ordered)
 }

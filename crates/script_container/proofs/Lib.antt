@@ -4,7 +4,9 @@ pub mod Done
 pub mod Given
 pub mod Handed
 pub mod Kept
+pub mod Known
 pub mod Opened
 pub mod Saved
+pub mod Servers
 pub mod Shown
 pub mod Noticed

@@ -8,23 +8,21 @@ ghost use Rattle.container_model.specs.declared.answer.FrameDocument.{FrameDocum
 ghost use Rattle.container_model.specs.declared.fault.ContainerFault.TheVariants as container;
 ghost use Rattle.container_model.specs.declared.command.Command.{Command};
 ghost use Rattle.ole_model.specs.declared.object.DocObject.{DocObject};
-ghost use Rattle.script_model.specs.Bounds.{pace};
 ghost use Rattle.script_model.specs.Containers.{record_of};
-ghost use Rattle.script_model.specs.Events.{Stepped, running};
+ghost use Rattle.script_model.specs.Events.{Stepped};
 ghost use Rattle.script_model.specs.Answers.{opened_by, told_opened};
 ghost use Rattle.script_model.specs.Courses.{course, starts_in};
 ghost use Rattle.script_model.specs.Notices.{first_noticed, lost_as, notices, refusal_noticed};
 ghost use Rattle.script_model.specs.Orders.{IsReadied, asked};
-ghost use Rattle.script_model.specs.Origins.{AreNext, giving, passed};
+ghost use Rattle.script_model.specs.Origins.{AreNext, passed};
 ghost use Rattle.script_model.specs.Saved.{IsLost, IsReadFrom, IsSavedThere};
 ghost use Rattle.script_model.specs.declared.step.Step.TheVariants as given;
-ghost use Rattle.script_container.specs.Beside.{beside};
 ghost use Rattle.script_container.specs.Done.{IsAnswered, IsCertain, IsDone, OnlyDone, OnlyDoneBut};
-ghost use Rattle.script_container.specs.Handed.{handed};
+ghost use Rattle.script_container.specs.Servers.{servers};
 ghost use Rattle.script_container.specs.Shown.{Shows};
 ghost use Rattle.script_container.specs.Told.{IsEnded, IsTold, noted_of};
 ghost use Rattle.script_container.specs.declared.fault.ScriptFault.TheVariants.{NoMemory};
-ghost use Rattle.std.specs.Prelude.{◌≡◌, ◌≢◌, ◌≤◌, ◌∷◌, [], Bool, IfErr, IfOk, List, Ok, OnOk, Some, false, length, ℕ};
+ghost use Rattle.std.specs.Prelude.{◌≡◌, ◌≢◌, ◌≤◌, ◌∷◌, [], IfErr, IfOk, List, Ok, OnOk, Some, length, ℕ};
 ghost use Rattle.message_values.specs.declared.message.Message.{Message};
 
 use crate::fault::ScriptFault;
@@ -83,10 +81,7 @@ fn noted<H: Host>(
 ) -> Result<Answer, ContainerFault>
     ensures same { result ≡ told }
     ensures noted { H.told host.new ≡ noted_of told (H.told host.old) }
-    ensures still { (s : ℕ) → running s (H.told host.new) ≡ running s (H.told host.old) }
-    ensures quiet { (s : ℕ) → passed s (H.told host.new) ≡ passed s (H.told host.old) }
-    ensures handing { (f : ℕ → Bool) → handed f (H.told host.new) ≡ handed f (H.told host.old) }
-    ensures paced { (s : ℕ) → pace s (H.told host.new) ≡ pace s (H.told host.old) }
+    ensures serving { servers (H.told host.new) ≡ servers (H.told host.old) }
     ensures ordered { course (H.told host.new) ≡ course (H.told host.old) }
     ensures noticed { notices (H.told host.new) ≡ notices (H.told host.old) }
 {
@@ -110,10 +105,7 @@ pub fn command<H: Host>(
     requires told { IsTold ⟦<H::Disk as Disk>⟧ (H.told host.old) core.old }
     requires readied { IsReadied command (record_of (H.told host.old)) (asked (H.told host.old)) }
     ensures told { IsTold ⟦<H::Disk as Disk>⟧ (H.told host.new) core.new }
-    ensures still { (s : ℕ) → running s (H.told host.new) ≡ running s (H.told host.old) }
-    ensures quiet { (s : ℕ) → passed s (H.told host.new) ≡ passed s (H.told host.old) }
-    ensures handing { (f : ℕ → Bool) → handed f (H.told host.new) ≡ handed f (H.told host.old) }
-    ensures paced { (s : ℕ) → pace s (H.told host.new) ≡ pace s (H.told host.old) }
+    ensures serving { servers (H.told host.new) ≡ servers (H.told host.old) }
     ensures ordered { course (H.told host.new) ≡ course (Stepped (Step.Command command) ∷ H.told host.old) }
     ensures noticed { notices (H.told host.new) ≡ notices (H.told host.old) }
     ensures answered { IfOk result (λ a. on_command core.old command ≡ Ok (counts_none core.new a)) }
@@ -143,11 +135,7 @@ pub fn message<H: Host>(
     requires told { IsTold ⟦<H::Disk as Disk>⟧ (H.told host.old) core.old }
     requires next { AreNext (passed inc (H.told host.old)) (message ∷ []) }
     ensures told { IsTold ⟦<H::Disk as Disk>⟧ (H.told host.new) core.new }
-    ensures still { (s : ℕ) → running s (H.told host.new) ≡ running s (H.told host.old) }
-    ensures apart { (s : ℕ) → beside inc s (H.told host.new) ≡ beside inc s (H.told host.old) }
-    ensures given { passed inc (H.told host.new) ≡ giving (message ∷ []) (passed inc (H.told host.old)) }
-    ensures handing { (f : ℕ → Bool) → f inc ≡ false → handed f (H.told host.new) ≡ handed f (H.told host.old) }
-    ensures paced { (s : ℕ) → pace s (H.told host.new) ≡ pace s (H.told host.old) }
+    ensures serving { servers (H.told host.new) ≡ servers (Stepped (Step.Message inc message) ∷ H.told host.old) }
     ensures ordered { course (H.told host.new) ≡ course (H.told host.old) }
     ensures noticed { IfOk result (λ a. notices (H.told host.new) ≡ first_noticed (notices (H.told host.old))
         (refusal_noticed a.refused)) }
@@ -182,10 +170,7 @@ pub fn opened<H: Host>(
     requires read { H.Disk.follows_model → IsReadFrom ⟦<H::Disk as Disk>⟧ (H.told host.old) name file.now }
     requires gives { IsReadAs (Some file.now) (Given.Holding document) }
     ensures told { IsTold ⟦<H::Disk as Disk>⟧ (H.told host.new) core.new }
-    ensures still { (s : ℕ) → running s (H.told host.new) ≡ running s (H.told host.old) }
-    ensures quiet { (s : ℕ) → passed s (H.told host.new) ≡ passed s (H.told host.old) }
-    ensures handing { (f : ℕ → Bool) → handed f (H.told host.new) ≡ handed f (H.told host.old) }
-    ensures paced { (s : ℕ) → pace s (H.told host.new) ≡ pace s (H.told host.old) }
+    ensures serving { servers (H.told host.new) ≡ servers (H.told host.old) }
     ensures few { IfOk result (λ a. length a.objects ≤ 64) }
     ensures ordered { course (H.told host.new)
         ≡ course (Stepped (Step.Open name width height document.session document.objects) ∷ H.told host.old) }
@@ -216,10 +201,7 @@ pub fn reap<H: Host>(
 ) -> Result<Answer, ContainerFault>
     requires { IsEnded ⟦<H::Disk as Disk>⟧ inc (H.told host.old) core.old }
     ensures told { IsTold ⟦<H::Disk as Disk>⟧ (H.told host.new) core.new }
-    ensures still { (s : ℕ) → running s (H.told host.new) ≡ running s (H.told host.old) }
-    ensures quiet { (s : ℕ) → passed s (H.told host.new) ≡ passed s (H.told host.old) }
-    ensures handing { (f : ℕ → Bool) → handed f (H.told host.new) ≡ handed f (H.told host.old) }
-    ensures paced { (s : ℕ) → pace s (H.told host.new) ≡ pace s (H.told host.old) }
+    ensures serving { servers (H.told host.new) ≡ servers (H.told host.old) }
     ensures ordered { course (H.told host.new) ≡ course (H.told host.old) }
     ensures noticed { notices (H.told host.new) ≡ notices (H.told host.old) }
 {
@@ -250,10 +232,7 @@ pub fn committed<H: Host>(
     requires saved { IsSavedThere ⟦<H::Disk as Disk>⟧ (H.told host.old) frame }
     requires told { IsTold ⟦<H::Disk as Disk>⟧ (H.told host.old) core.old }
     ensures told { IsTold ⟦<H::Disk as Disk>⟧ (H.told host.new) core.new }
-    ensures still { (s : ℕ) → running s (H.told host.new) ≡ running s (H.told host.old) }
-    ensures quiet { (s : ℕ) → passed s (H.told host.new) ≡ passed s (H.told host.old) }
-    ensures handing { (f : ℕ → Bool) → handed f (H.told host.new) ≡ handed f (H.told host.old) }
-    ensures paced { (s : ℕ) → pace s (H.told host.new) ≡ pace s (H.told host.old) }
+    ensures serving { servers (H.told host.new) ≡ servers (H.told host.old) }
     ensures ordered { course (H.told host.new) ≡ course (H.told host.old) }
     ensures noticed { notices (H.told host.new) ≡ notices (H.told host.old) }
     ensures shown { IfErr result (λ fault. Shows ⟦<H::Disk as Disk>⟧ (H.told host.new) fault) }
@@ -272,10 +251,7 @@ pub fn failed<H: Host>(alloc: Global, host: &mut H, core: &mut ContainerCore, fr
     requires lost { IsLost ⟦<H::Disk as Disk>⟧ (H.told host.old) frame }
     requires told { IsTold ⟦<H::Disk as Disk>⟧ (H.told host.old) core.old }
     ensures told { IsTold ⟦<H::Disk as Disk>⟧ (H.told host.new) core.new }
-    ensures still { (s : ℕ) → running s (H.told host.new) ≡ running s (H.told host.old) }
-    ensures quiet { (s : ℕ) → passed s (H.told host.new) ≡ passed s (H.told host.old) }
-    ensures handing { (f : ℕ → Bool) → handed f (H.told host.new) ≡ handed f (H.told host.old) }
-    ensures paced { (s : ℕ) → pace s (H.told host.new) ≡ pace s (H.told host.old) }
+    ensures serving { servers (H.told host.new) ≡ servers (H.told host.old) }
     ensures ordered { course (H.told host.new) ≡ course (H.told host.old) }
     ensures noticed { notices (H.told host.new) ≡ first_noticed (notices (H.told host.old))
         (Some (lost_as (image core.old frame))) }
@@ -295,10 +271,7 @@ pub fn dropped<H: Host>(
 ) -> Result<(), ScriptFault>
     requires { IsTold ⟦<H::Disk as Disk>⟧ (H.told host.old) core.old }
     ensures told { IsTold ⟦<H::Disk as Disk>⟧ (H.told host.new) core.new }
-    ensures still { (s : ℕ) → running s (H.told host.new) ≡ running s (H.told host.old) }
-    ensures quiet { (s : ℕ) → passed s (H.told host.new) ≡ passed s (H.told host.old) }
-    ensures handing { (f : ℕ → Bool) → handed f (H.told host.new) ≡ handed f (H.told host.old) }
-    ensures paced { (s : ℕ) → pace s (H.told host.new) ≡ pace s (H.told host.old) }
+    ensures serving { servers (H.told host.new) ≡ servers (H.told host.old) }
     ensures ordered { course (H.told host.new) ≡ course (H.told host.old) }
     ensures noticed { notices (H.told host.new) ≡ notices (H.told host.old) }
     ensures shown { IfErr result (λ fault. Shows ⟦<H::Disk as Disk>⟧ (H.told host.new) fault) }

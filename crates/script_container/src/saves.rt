@@ -6,19 +6,17 @@ ghost use Rattle.container_model.specs.Record.{Record};
 ghost use Rattle.container_model.specs.Saves.{image};
 ghost use Rattle.store_core.specs.Opened.{disk_of, needs_reopen_of};
 ghost use Rattle.script_model.specs.Answers.{first_told};
-ghost use Rattle.script_model.specs.Bounds.{pace};
 ghost use Rattle.script_model.specs.Courses.{course};
 ghost use Rattle.script_model.specs.Errors.{IsUnopened, IsUntoldFor};
-ghost use Rattle.script_model.specs.Events.{running};
-ghost use Rattle.script_model.specs.Notices.{Notes, Tells, first_noticed, lost_as, notices};
-ghost use Rattle.script_model.specs.Origins.{passed};
+ghost use Rattle.script_model.specs.Notices.{Notes, first_noticed, lost_as, notices};
 ghost use Rattle.script_model.specs.Saved.{IsLost, IsLostOn, IsMissing, IsRefusedOn, IsSavedOn, IsSavedThere};
 ghost use Rattle.script_model.specs.Saved.{IsShutWith, IsShutWithout, file_name};
 ghost use Rattle.script_container.specs.Done.{AreCarriedOut, IsCarriedOut, IsCertain, IsDone, OnlyDone};
-ghost use Rattle.script_container.specs.Handed.{handed};
+ghost use Rattle.script_container.specs.Known.{IsKnown, Leaves};
+ghost use Rattle.script_container.specs.Servers.{servers};
 ghost use Rattle.script_container.specs.Shown.{Shows};
 ghost use Rattle.script_container.specs.Told.{IfKept, IfLost, IsImage, IsLeftOn, IsReplacedOn, IsTold};
-ghost use Rattle.std.specs.Prelude.{◌≡◌, ◌<◌, ◌^◌, ℕ, Bool, IfErr, IfOk, OnOk, Some, false};
+ghost use Rattle.std.specs.Prelude.{◌≡◌, ◌<◌, ◌^◌, IfErr, IfOk, OnOk, Some, false};
 
 use crate::container::{committed, dropped, failed};
 use crate::fault::ScriptFault;
@@ -159,10 +157,7 @@ fn commit_again<H: Host>(
 ) -> Result<Outcome, StoreFault>
     ensures told { (r : Record) → IsTold ⟦<H::Disk as Disk>⟧ (H.told host.old) r
         → IsTold ⟦<H::Disk as Disk>⟧ (H.told host.new) r }
-    ensures still { (s : ℕ) → running s (H.told host.new) ≡ running s (H.told host.old) }
-    ensures quiet { (s : ℕ) → passed s (H.told host.new) ≡ passed s (H.told host.old) }
-    ensures handing { (f : ℕ → Bool) → handed f (H.told host.new) ≡ handed f (H.told host.old) }
-    ensures paced { (s : ℕ) → pace s (H.told host.new) ≡ pace s (H.told host.old) }
+    ensures serving { servers (H.told host.new) ≡ servers (H.told host.old) }
     ensures shut { H.Disk.follows_model
         → IfOk result
         (λ outcome. IfKept outcome (IsShutWith ⟦<H::Disk as Disk>⟧ (H.told host.new) name.now bytes.now)) }
@@ -195,10 +190,7 @@ fn commit<H: Host>(
 ) -> Result<Outcome, StoreFault>
     ensures told { (r : Record) → IsTold ⟦<H::Disk as Disk>⟧ (H.told host.old) r
         → IsTold ⟦<H::Disk as Disk>⟧ (H.told host.new) r }
-    ensures still { (s : ℕ) → running s (H.told host.new) ≡ running s (H.told host.old) }
-    ensures quiet { (s : ℕ) → passed s (H.told host.new) ≡ passed s (H.told host.old) }
-    ensures handing { (f : ℕ → Bool) → handed f (H.told host.new) ≡ handed f (H.told host.old) }
-    ensures paced { (s : ℕ) → pace s (H.told host.new) ≡ pace s (H.told host.old) }
+    ensures serving { servers (H.told host.new) ≡ servers (H.told host.old) }
     ensures shut { H.Disk.follows_model
         → IfOk result
         (λ outcome. IfKept outcome (IsShutWith ⟦<H::Disk as Disk>⟧ (H.told host.new) name.now bytes.now)) }
@@ -239,10 +231,7 @@ fn lose<H: Host>(
     requires lost { IsLost ⟦<H::Disk as Disk>⟧ (H.told host.old) frame }
     requires told { IsTold ⟦<H::Disk as Disk>⟧ (H.told host.old) core.old }
     ensures told { IsTold ⟦<H::Disk as Disk>⟧ (H.told host.new) core.new }
-    ensures still { (s : ℕ) → running s (H.told host.new) ≡ running s (H.told host.old) }
-    ensures quiet { (s : ℕ) → passed s (H.told host.new) ≡ passed s (H.told host.old) }
-    ensures handing { (f : ℕ → Bool) → handed f (H.told host.new) ≡ handed f (H.told host.old) }
-    ensures paced { (s : ℕ) → pace s (H.told host.new) ≡ pace s (H.told host.old) }
+    ensures serving { servers (H.told host.new) ≡ servers (H.told host.old) }
     ensures ordered { course (H.told host.new) ≡ course (H.told host.old) }
     ensures noticed { notices (H.told host.new) ≡ first_noticed (notices (H.told host.old))
         (Some (lost_as (image core.old frame))) }
@@ -266,10 +255,7 @@ fn save_file<H: Host>(
     requires image { IsImage core.old frame file }
     requires told { IsTold ⟦<H::Disk as Disk>⟧ (H.told host.old) core.old }
     ensures told { IsTold ⟦<H::Disk as Disk>⟧ (H.told host.new) core.new }
-    ensures still { (s : ℕ) → running s (H.told host.new) ≡ running s (H.told host.old) }
-    ensures quiet { (s : ℕ) → passed s (H.told host.new) ≡ passed s (H.told host.old) }
-    ensures handing { (f : ℕ → Bool) → handed f (H.told host.new) ≡ handed f (H.told host.old) }
-    ensures paced { (s : ℕ) → pace s (H.told host.new) ≡ pace s (H.told host.old) }
+    ensures serving { servers (H.told host.new) ≡ servers (H.told host.old) }
     ensures ordered { course (H.told host.new) ≡ course (H.told host.old) }
     ensures noticed { IfOk result (Notes (notices (H.told host.old)) (notices (H.told host.new))) }
     ensures shown { IfErr result (λ fault. Shows ⟦<H::Disk as Disk>⟧ (H.told host.new) fault) }
@@ -305,10 +291,7 @@ fn save<H: Host>(
 ) -> Result<Option<Told>, ScriptFault>
     requires { IsTold ⟦<H::Disk as Disk>⟧ (H.told host.old) core.old }
     ensures told { IsTold ⟦<H::Disk as Disk>⟧ (H.told host.new) core.new }
-    ensures still { (s : ℕ) → running s (H.told host.new) ≡ running s (H.told host.old) }
-    ensures quiet { (s : ℕ) → passed s (H.told host.new) ≡ passed s (H.told host.old) }
-    ensures handing { (f : ℕ → Bool) → handed f (H.told host.new) ≡ handed f (H.told host.old) }
-    ensures paced { (s : ℕ) → pace s (H.told host.new) ≡ pace s (H.told host.old) }
+    ensures serving { servers (H.told host.new) ≡ servers (H.told host.old) }
     ensures ordered { course (H.told host.new) ≡ course (H.told host.old) }
     ensures noticed { IfOk result (Notes (notices (H.told host.old)) (notices (H.told host.new))) }
     ensures shown { IfErr result (λ fault. Shows ⟦<H::Disk as Disk>⟧ (H.told host.new) fault) }
@@ -334,16 +317,10 @@ fn save_on<H: Host>(
     action: &Action,
     noticed: &mut Option<Told>,
 ) -> Result<(), ScriptFault>
-    requires told { IsTold ⟦<H::Disk as Disk>⟧ (H.told host.old) core.old }
-    requires seen { Tells (notices (H.told host.old)) noticed.old }
-    ensures told { IsTold ⟦<H::Disk as Disk>⟧ (H.told host.new) core.new }
-    ensures still { (s : ℕ) → running s (H.told host.new) ≡ running s (H.told host.old) }
-    ensures quiet { (s : ℕ) → passed s (H.told host.new) ≡ passed s (H.told host.old) }
-    ensures handing { (f : ℕ → Bool) → handed f (H.told host.new) ≡ handed f (H.told host.old) }
-    ensures paced { (s : ℕ) → pace s (H.told host.new) ≡ pace s (H.told host.old) }
+    requires known { IsKnown ⟦<H::Disk as Disk>⟧ (H.told host.old) core.old noticed.old }
+    ensures leaves { Leaves ⟦<H::Disk as Disk>⟧ result (H.told host.new) core.new noticed.new }
+    ensures serving { servers (H.told host.new) ≡ servers (H.told host.old) }
     ensures ordered { course (H.told host.new) ≡ course (H.told host.old) }
-    ensures seen { OnOk result (Tells (notices (H.told host.new)) noticed.new) }
-    ensures shown { IfErr result (λ fault. Shows ⟦<H::Disk as Disk>⟧ (H.told host.new) fault) }
     ensures others { OnOk result (OnlyDone core.old core.new) }
     ensures done { OnOk result (IsCarriedOut core.old core.new action.now) }
 {
@@ -366,16 +343,10 @@ pub fn save_all<H: Host>(
     answer: &Answer,
     noticed: &mut Option<Told>,
 ) -> Result<(), ScriptFault>
-    requires told { IsTold ⟦<H::Disk as Disk>⟧ (H.told host.old) core.old }
-    requires seen { Tells (notices (H.told host.old)) noticed.old }
-    ensures told { IsTold ⟦<H::Disk as Disk>⟧ (H.told host.new) core.new }
-    ensures still { (s : ℕ) → running s (H.told host.new) ≡ running s (H.told host.old) }
-    ensures quiet { (s : ℕ) → passed s (H.told host.new) ≡ passed s (H.told host.old) }
-    ensures handing { (f : ℕ → Bool) → handed f (H.told host.new) ≡ handed f (H.told host.old) }
-    ensures paced { (s : ℕ) → pace s (H.told host.new) ≡ pace s (H.told host.old) }
+    requires known { IsKnown ⟦<H::Disk as Disk>⟧ (H.told host.old) core.old noticed.old }
+    ensures leaves { Leaves ⟦<H::Disk as Disk>⟧ result (H.told host.new) core.new noticed.new }
+    ensures serving { servers (H.told host.new) ≡ servers (H.told host.old) }
     ensures ordered { course (H.told host.new) ≡ course (H.told host.old) }
-    ensures seen { OnOk result (Tells (notices (H.told host.new)) noticed.new) }
-    ensures shown { IfErr result (λ fault. Shows ⟦<H::Disk as Disk>⟧ (H.told host.new) fault) }
     ensures others { OnOk result (OnlyDone core.old core.new) }
     ensures done { OnOk result (AreCarriedOut core.old core.new answer.now.actions) }
 {

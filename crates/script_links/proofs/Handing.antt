@@ -3,12 +3,7 @@ use Rattle.std.proofs.Common.{◌≡◌, ◌<◌, ℕ, zero, suc, Bool, List, []
 use Rattle.script_links.specs.Links.{HoldFor}
 use Rattle.script_links.specs.declared.links.Link.{Link}
 
--- whether a link is held is told by its server still
-pub told_still : (f : ℕ → Bool) (now old : Link) → now.inc ≡ old.inc → now.held ≡ old.held → f old.inc ≡ old.held
-    → f now.inc ≡ now.held
-told_still f now old same held is = ap f same ∙ is ∙ sym held
-
--- the same of the link at a place
+-- whether the link at a place is held is told by its server
 hold_at : (f : ℕ → Bool) (ls : List Link) (place : ℕ) (d : Link) → place < length ls → HoldFor f ls
     → f (slice_index_or ls place d).inc ≡ (slice_index_or ls place d).held
 hold_at f [] place d within hold = absurd (omega (arith, within))

@@ -1,3 +1,5 @@
+pub mod Apart
+pub mod Going
 pub mod Handing
 pub mod Linked
 pub mod Paces

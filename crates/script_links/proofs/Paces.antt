@@ -235,14 +235,6 @@ pub made_pace : {D : Type 0} (es after : List (Event D)) (inc : ℕ) (ok : Bool)
 made_pace es after inc ok is = ap (pace inc) is ∙ picked (inc == inc) (linking ok (pace inc es)) (pace inc es)
     (eq-eqb inc inc refl)
 
--- a call for one server after another, of which the others' facts are the same
-pub apart_on : {D X : Type 0} (f : ℕ → ℕ → List (Event D) → X) (i j k : ℕ) (es now mid new : List (Event D)) → j ≡ i
-    → k ≡ j → ((s : ℕ) → f i s now ≡ f i s es) → ((s : ℕ) → f j s mid ≡ f j s now)
-    → ((s : ℕ) → f k s new ≡ f k s mid) → (s : ℕ) → f i s new ≡ f i s es
-apart_on f i j k es now mid new second third first same last s =
-    subst (λ (n : ℕ). f n s new ≡ f n s mid) (third ∙ second) (last s)
-    ∙ subst (λ (n : ℕ). f n s mid ≡ f n s now) second (same s) ∙ first s
-
 module _ {D : Type 0} {disks : Disks D} where
   pub connected_told : (es after : List (Event D)) (r : Record) (inc : ℕ) (ok : Bool)
       → after ≡ Connected inc ok ∷ es → MayLink (pace inc es) → IsTold disks es r → IsTold disks after r

@@ -1,3 +1,5 @@
+pub mod Apart
+pub mod Going
 pub mod Links
 pub mod Ready
 pub mod Shown

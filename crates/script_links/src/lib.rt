@@ -2,5 +2,6 @@
 #![tactic(auto)]
 
 pub mod links;
+pub mod progress;
 pub mod turns;
 pub mod waiting;

@@ -6,18 +6,21 @@ ghost use Rattle.container_model.specs.declared.fault.ContainerFault.TheVariants
 ghost use Rattle.message_model.specs.Spelling.{spell};
 ghost use Rattle.script_model.specs.Bounds.{IsWithin, linking, pace, reading, sending};
 ghost use Rattle.script_model.specs.Courses.{course};
-ghost use Rattle.script_model.specs.Events.{running};
-ghost use Rattle.script_model.specs.Notices.{Notes, Notice, Tells, first_noticed, notices, refusal_noticed};
-ghost use Rattle.script_model.specs.Origins.{AreNext, fresh, giving, passed};
+ghost use Rattle.script_model.specs.Events.{Stepped};
+ghost use Rattle.script_model.specs.Notices.{Notes, Notice, first_noticed, notices, refusal_noticed};
+ghost use Rattle.script_model.specs.Origins.{AreNext, fresh, passed};
 ghost use Rattle.script_model.specs.Turns.{spelled_to, turn_of};
 ghost use Rattle.script_model.specs.declared.host.HostFault.TheVariants as host;
-ghost use Rattle.script_container.specs.Beside.{beside};
+ghost use Rattle.script_model.specs.declared.step.Step.TheVariants as given;
 ghost use Rattle.script_container.specs.Handed.{handed};
+ghost use Rattle.script_container.specs.Known.{IsKnown, Leaves};
+ghost use Rattle.script_container.specs.Servers.{servers};
 ghost use Rattle.script_container.specs.Shown.{Shows};
 ghost use Rattle.script_container.specs.Told.{IsTold};
 ghost use Rattle.script_container.specs.declared.fault.ScriptFault.TheVariants.{NoMemory};
+ghost use Rattle.script_links.specs.Apart.{others};
 ghost use Rattle.script_links.specs.Links.{IsServed};
-ghost use Rattle.script_links.specs.Ready.{GoesOn, HadTurn, HasLeft, IsReady, MayLink, pace_beside};
+ghost use Rattle.script_links.specs.Ready.{GoesOn, HadTurn, HasLeft, IsReady, MayLink};
 ghost use Rattle.std.specs.Prelude.{◌≡◌, ◌≢◌, ◌++◌, ◌∷◌, [], Bool, Err, IfErr, IfOk, MatchResult, OnOk, Option, false};
 ghost use Rattle.std.specs.Prelude.{is_ok, ℕ};
 
@@ -158,10 +161,9 @@ pub fn send_turn<H: Host>(
     requires told { IsTold ⟦<H::Disk as Disk>⟧ (H.told host.old) core.now }
     requires within { IsWithin (sending (pace inc (H.told host.old))) }
     ensures told { IsTold ⟦<H::Disk as Disk>⟧ (H.told host.new) core.now }
-    ensures still { (s : ℕ) → running s (H.told host.new) ≡ running s (H.told host.old) }
     ensures quiet { (s : ℕ) → passed s (H.told host.new) ≡ passed s (H.told host.old) }
     ensures handing { (f : ℕ → Bool) → handed f (H.told host.new) ≡ handed f (H.told host.old) }
-    ensures aside { (s : ℕ) → pace_beside inc s (H.told host.new) ≡ pace_beside inc s (H.told host.old) }
+    ensures apart { (held : Bool) → others inc held (H.told host.new) ≡ others inc held (H.told host.old) }
     ensures sent { OnOk result (pace inc (H.told host.new) ≡ sending (pace inc (H.told host.old))) }
     ensures ordered { course (H.told host.new) ≡ course (H.told host.old) }
     ensures noticed { notices (H.told host.new) ≡ notices (H.told host.old) }
@@ -204,18 +206,11 @@ pub fn hand_over<H: Host>(
     taken: Message,
     noticed: &mut Option<Told>,
 ) -> Result<bool, ScriptFault>
-    requires told { IsTold ⟦<H::Disk as Disk>⟧ (H.told host.old) core.old }
+    requires known { IsKnown ⟦<H::Disk as Disk>⟧ (H.told host.old) core.old noticed.old }
     requires next { AreNext (passed inc (H.told host.old)) (taken ∷ []) }
-    requires seen { Tells (notices (H.told host.old)) noticed.old }
-    ensures told { IsTold ⟦<H::Disk as Disk>⟧ (H.told host.new) core.new }
-    ensures still { (s : ℕ) → running s (H.told host.new) ≡ running s (H.told host.old) }
-    ensures apart { (s : ℕ) → beside inc s (H.told host.new) ≡ beside inc s (H.told host.old) }
-    ensures handing { (f : ℕ → Bool) → f inc ≡ false → handed f (H.told host.new) ≡ handed f (H.told host.old) }
-    ensures given { passed inc (H.told host.new) ≡ giving (taken ∷ []) (passed inc (H.told host.old)) }
-    ensures paced { (s : ℕ) → pace s (H.told host.new) ≡ pace s (H.told host.old) }
+    ensures leaves { Leaves ⟦<H::Disk as Disk>⟧ result (H.told host.new) core.new noticed.new }
+    ensures serving { servers (H.told host.new) ≡ servers (Stepped (given.Message inc taken) ∷ H.told host.old) }
     ensures ordered { course (H.told host.new) ≡ course (H.told host.old) }
-    ensures seen { OnOk result (Tells (notices (H.told host.new)) noticed.new) }
-    ensures shown { IfErr result (λ fault. Shows ⟦<H::Disk as Disk>⟧ (H.told host.new) fault) }
 {
     match message(alloc, host, core, inc, taken) {
         Ok(answer) => {
@@ -236,21 +231,15 @@ fn meet<H: Host>(
     taken: Message,
     noticed: &mut Option<Told>,
 ) -> Result<bool, ScriptFault>
-    requires told { IsTold ⟦<H::Disk as Disk>⟧ (H.told host.old) core.old }
+    requires known { IsKnown ⟦<H::Disk as Disk>⟧ (H.told host.old) core.old noticed.old }
     requires served { IsServed (passed link.old.inc (H.told host.old)) link.old (taken ∷ []) }
-    requires seen { Tells (notices (H.told host.old)) noticed.old }
-    ensures told { IsTold ⟦<H::Disk as Disk>⟧ (H.told host.new) core.new }
-    ensures still { (s : ℕ) → running s (H.told host.new) ≡ running s (H.told host.old) }
+    ensures leaves { Leaves ⟦<H::Disk as Disk>⟧ result (H.told host.new) core.new noticed.new }
     ensures same { link.new.inc ≡ link.old.inc }
-    ensures apart { (s : ℕ) → beside link.old.inc s (H.told host.new) ≡ beside link.old.inc s (H.told host.old) }
-    ensures served { OnOk result (IsServed (passed link.new.inc (H.told host.new)) link.new []) }
-    ensures paced { (s : ℕ) → pace s (H.told host.new) ≡ pace s (H.told host.old) }
-    ensures ordered { course (H.told host.new) ≡ course (H.told host.old) }
-    ensures seen { OnOk result (Tells (notices (H.told host.new)) noticed.new) }
-    ensures shown { IfErr result (λ fault. Shows ⟦<H::Disk as Disk>⟧ (H.told host.new) fault) }
     ensures holding { link.new.held ≡ link.old.held }
-    ensures handing { (f : ℕ → Bool) → f link.old.inc ≡ link.old.held → handed f (H.told host.new)
-        ≡ handed f (H.told host.old) }
+    ensures served { OnOk result (IsServed (passed link.new.inc (H.told host.new)) link.new []) }
+    ensures paced { pace link.old.inc (H.told host.new) ≡ pace link.old.inc (H.told host.old) }
+    ensures apart { others link.old.inc link.old.held (H.told host.new)
+        ≡ others link.old.inc link.old.held (H.told host.old) }
 {
     if link.held {
         link.waiting.push(taken)?;
@@ -268,21 +257,15 @@ fn take_frames<H: Host>(
     link: &mut Link,
     noticed: &mut Option<Told>,
 ) -> Result<Heard, ScriptFault>
-    requires told { IsTold ⟦<H::Disk as Disk>⟧ (H.told host.old) core.old }
+    requires known { IsKnown ⟦<H::Disk as Disk>⟧ (H.told host.old) core.old noticed.old }
     requires served { IsServed (passed link.old.inc (H.told host.old)) link.old [] }
-    requires seen { Tells (notices (H.told host.old)) noticed.old }
-    ensures told { IsTold ⟦<H::Disk as Disk>⟧ (H.told host.new) core.new }
-    ensures still { (s : ℕ) → running s (H.told host.new) ≡ running s (H.told host.old) }
+    ensures leaves { Leaves ⟦<H::Disk as Disk>⟧ result (H.told host.new) core.new noticed.new }
     ensures same { link.new.inc ≡ link.old.inc }
-    ensures apart { (s : ℕ) → beside link.old.inc s (H.told host.new) ≡ beside link.old.inc s (H.told host.old) }
-    ensures served { OnOk result (IsServed (passed link.new.inc (H.told host.new)) link.new []) }
-    ensures paced { (s : ℕ) → pace s (H.told host.new) ≡ pace s (H.told host.old) }
-    ensures ordered { course (H.told host.new) ≡ course (H.told host.old) }
-    ensures seen { OnOk result (Tells (notices (H.told host.new)) noticed.new) }
-    ensures shown { IfErr result (λ fault. Shows ⟦<H::Disk as Disk>⟧ (H.told host.new) fault) }
     ensures holding { link.new.held ≡ link.old.held }
-    ensures handing { (f : ℕ → Bool) → f link.old.inc ≡ link.old.held → handed f (H.told host.new)
-        ≡ handed f (H.told host.old) }
+    ensures served { OnOk result (IsServed (passed link.new.inc (H.told host.new)) link.new []) }
+    ensures paced { pace link.old.inc (H.told host.new) ≡ pace link.old.inc (H.told host.old) }
+    ensures apart { others link.old.inc link.old.held (H.told host.new)
+        ≡ others link.old.inc link.old.held (H.told host.old) }
 {
     for _ in 0..=PIECE {
         match link.decoder.next() {
@@ -308,18 +291,14 @@ fn read_some<H: Host>(host: &mut H, link: &mut Link, buffer: &mut [u8]) -> Resul
     requires within { IsWithin (reading (pace link.old.inc (H.told host.old))) }
     ensures told { (r : Record) → IsTold ⟦<H::Disk as Disk>⟧ (H.told host.old) r
         → IsTold ⟦<H::Disk as Disk>⟧ (H.told host.new) r }
-    ensures still { (s : ℕ) → running s (H.told host.new) ≡ running s (H.told host.old) }
     ensures same { link.new.inc ≡ link.old.inc }
-    ensures apart { (s : ℕ) → beside link.old.inc s (H.told host.new) ≡ beside link.old.inc s (H.told host.old) }
+    ensures holding { link.new.held ≡ link.old.held }
     ensures served { OnOk result (IsServed (passed link.new.inc (H.told host.new)) link.new []) }
-    ensures aside { (s : ℕ) → pace_beside link.old.inc s (H.told host.new)
-        ≡ pace_beside link.old.inc s (H.told host.old) }
     ensures read { pace link.new.inc (H.told host.new) ≡ reading (pace link.old.inc (H.told host.old)) }
-    ensures ordered { course (H.told host.new) ≡ course (H.told host.old) }
+    ensures apart { others link.old.inc link.old.held (H.told host.new)
+        ≡ others link.old.inc link.old.held (H.told host.old) }
     ensures noticed { notices (H.told host.new) ≡ notices (H.told host.old) }
     ensures shown { IfErr result (λ fault. Shows ⟦<H::Disk as Disk>⟧ (H.told host.new) fault) }
-    ensures holding { link.new.held ≡ link.old.held }
-    ensures handing { (f : ℕ → Bool) → handed f (H.told host.new) ≡ handed f (H.told host.old) }
 {
     let n = match host.read(link.inc, buffer) {
         Ok(n) => n,
@@ -348,26 +327,18 @@ fn hear<H: Host>(
     buffer: &mut [u8],
     reads: &mut u32,
 ) -> Result<Heard, ScriptFault>
-    requires told { IsTold ⟦<H::Disk as Disk>⟧ (H.told host.old) core.old }
+    requires known { IsKnown ⟦<H::Disk as Disk>⟧ (H.told host.old) core.old noticed.old }
     requires served { IsServed (passed link.old.inc (H.told host.old)) link.old [] }
     requires within { IsWithin (pace link.old.inc (H.told host.old)) }
     requires on { GoesOn (pace link.old.inc (H.told host.old)) (pace link.old.inc (H.told host.old)) reads.old }
-    requires seen { Tells (notices (H.told host.old)) noticed.old }
-    ensures told { IsTold ⟦<H::Disk as Disk>⟧ (H.told host.new) core.new }
-    ensures still { (s : ℕ) → running s (H.told host.new) ≡ running s (H.told host.old) }
+    ensures leaves { Leaves ⟦<H::Disk as Disk>⟧ result (H.told host.new) core.new noticed.new }
     ensures same { link.new.inc ≡ link.old.inc }
-    ensures apart { (s : ℕ) → beside link.old.inc s (H.told host.new) ≡ beside link.old.inc s (H.told host.old) }
+    ensures holding { link.new.held ≡ link.old.held }
     ensures served { OnOk result (IsServed (passed link.new.inc (H.told host.new)) link.new []) }
-    ensures aside { (s : ℕ) → pace_beside link.old.inc s (H.told host.new)
-        ≡ pace_beside link.old.inc s (H.told host.old) }
     ensures on { OnOk result (GoesOn (pace link.old.inc (H.told host.old)) (pace link.new.inc (H.told host.new))
         reads.new) }
-    ensures ordered { course (H.told host.new) ≡ course (H.told host.old) }
-    ensures seen { OnOk result (Tells (notices (H.told host.new)) noticed.new) }
-    ensures shown { IfErr result (λ fault. Shows ⟦<H::Disk as Disk>⟧ (H.told host.new) fault) }
-    ensures holding { link.new.held ≡ link.old.held }
-    ensures handing { (f : ℕ → Bool) → f link.old.inc ≡ link.old.held → handed f (H.told host.new)
-        ≡ handed f (H.told host.old) }
+    ensures apart { others link.old.inc link.old.held (H.told host.new)
+        ≡ others link.old.inc link.old.held (H.told host.old) }
 {
     while *reads > 0 {
         let heard = take_frames(alloc, host, core, link, noticed)?;
@@ -392,26 +363,18 @@ fn exchange<H: Host>(
     buffer: &mut [u8],
     reads: &mut u32,
 ) -> Result<Heard, ScriptFault>
-    requires told { IsTold ⟦<H::Disk as Disk>⟧ (H.told host.old) core.old }
+    requires known { IsKnown ⟦<H::Disk as Disk>⟧ (H.told host.old) core.old noticed.old }
     requires served { IsServed (passed link.old.inc (H.told host.old)) link.old [] }
     requires within { IsWithin (sending (pace link.old.inc (H.told host.old))) }
     requires left { HasLeft (sending (pace link.old.inc (H.told host.old))) reads.old }
-    requires seen { Tells (notices (H.told host.old)) noticed.old }
-    ensures told { IsTold ⟦<H::Disk as Disk>⟧ (H.told host.new) core.new }
-    ensures still { (s : ℕ) → running s (H.told host.new) ≡ running s (H.told host.old) }
+    ensures leaves { Leaves ⟦<H::Disk as Disk>⟧ result (H.told host.new) core.new noticed.new }
     ensures same { link.new.inc ≡ link.old.inc }
-    ensures apart { (s : ℕ) → beside link.old.inc s (H.told host.new) ≡ beside link.old.inc s (H.told host.old) }
+    ensures holding { link.new.held ≡ link.old.held }
     ensures served { OnOk result (IsServed (passed link.new.inc (H.told host.new)) link.new []) }
-    ensures aside { (s : ℕ) → pace_beside link.old.inc s (H.told host.new)
-        ≡ pace_beside link.old.inc s (H.told host.old) }
     ensures on { OnOk result (GoesOn (sending (pace link.old.inc (H.told host.old)))
         (pace link.new.inc (H.told host.new)) reads.new) }
-    ensures ordered { course (H.told host.new) ≡ course (H.told host.old) }
-    ensures seen { OnOk result (Tells (notices (H.told host.new)) noticed.new) }
-    ensures shown { IfErr result (λ fault. Shows ⟦<H::Disk as Disk>⟧ (H.told host.new) fault) }
-    ensures holding { link.new.held ≡ link.old.held }
-    ensures handing { (f : ℕ → Bool) → f link.old.inc ≡ link.old.held → handed f (H.told host.new)
-        ≡ handed f (H.told host.old) }
+    ensures apart { others link.old.inc link.old.held (H.told host.new)
+        ≡ others link.old.inc link.old.held (H.told host.old) }
 {
     if !send_turn(alloc, host, core, link.inc)? {
         return Ok(Heard::Failed);
@@ -427,19 +390,16 @@ pub fn reconnect<H: Host>(alloc: Global, host: &mut H, link: &mut Link) -> Resul
     requires may { MayLink (pace link.old.inc (H.told host.old)) }
     ensures told { (r : Record) → IsTold ⟦<H::Disk as Disk>⟧ (H.told host.old) r
         → IsTold ⟦<H::Disk as Disk>⟧ (H.told host.new) r }
-    ensures still { (s : ℕ) → running s (H.told host.new) ≡ running s (H.told host.old) }
     ensures same { link.new.inc ≡ link.old.inc }
-    ensures apart { (s : ℕ) → beside link.old.inc s (H.told host.new) ≡ beside link.old.inc s (H.told host.old) }
+    ensures holding { link.new.held ≡ link.old.held }
     ensures served { IsServed (passed link.new.inc (H.told host.new)) link.new [] }
-    ensures aside { (s : ℕ) → pace_beside link.old.inc s (H.told host.new)
-        ≡ pace_beside link.old.inc s (H.told host.old) }
     ensures linked { MatchResult result (λ made. pace link.new.inc (H.told host.new)
         ≡ linking made (pace link.old.inc (H.told host.old)))
         (λ _. pace link.new.inc (H.told host.new) ≡ linking false (pace link.old.inc (H.told host.old))) }
-    ensures ordered { course (H.told host.new) ≡ course (H.told host.old) }
+    ensures apart { others link.old.inc link.old.held (H.told host.new)
+        ≡ others link.old.inc link.old.held (H.told host.old) }
     ensures noticed { notices (H.told host.new) ≡ notices (H.told host.old) }
     ensures lacking { IfErr result (λ fault. fault ≡ NoMemory) }
-    ensures holding { link.new.held ≡ link.old.held }
     ensures handing { (f : ℕ → Bool) → handed f (H.told host.new) ≡ handed f (H.told host.old) }
 {
     link.decoder = Decoder::new(alloc);
@@ -455,24 +415,16 @@ pub fn serve<H: Host>(
     noticed: &mut Option<Told>,
     buffer: &mut [u8],
 ) -> Result<bool, ScriptFault>
-    requires told { IsTold ⟦<H::Disk as Disk>⟧ (H.told host.old) core.old }
+    requires known { IsKnown ⟦<H::Disk as Disk>⟧ (H.told host.old) core.old noticed.old }
     requires served { IsServed (passed link.old.inc (H.told host.old)) link.old [] }
     requires ready { IsReady 1000 (pace link.old.inc (H.told host.old)) }
-    requires seen { Tells (notices (H.told host.old)) noticed.old }
-    ensures told { IsTold ⟦<H::Disk as Disk>⟧ (H.told host.new) core.new }
-    ensures still { (s : ℕ) → running s (H.told host.new) ≡ running s (H.told host.old) }
+    ensures leaves { Leaves ⟦<H::Disk as Disk>⟧ result (H.told host.new) core.new noticed.new }
     ensures same { link.new.inc ≡ link.old.inc }
-    ensures apart { (s : ℕ) → beside link.old.inc s (H.told host.new) ≡ beside link.old.inc s (H.told host.old) }
-    ensures served { OnOk result (IsServed (passed link.new.inc (H.told host.new)) link.new []) }
-    ensures aside { (s : ℕ) → pace_beside link.old.inc s (H.told host.new)
-        ≡ pace_beside link.old.inc s (H.told host.old) }
-    ensures turned { OnOk result (HadTurn (pace link.old.inc (H.told host.old)) (pace link.new.inc (H.told host.new))) }
-    ensures ordered { course (H.told host.new) ≡ course (H.told host.old) }
-    ensures seen { OnOk result (Tells (notices (H.told host.new)) noticed.new) }
-    ensures shown { IfErr result (λ fault. Shows ⟦<H::Disk as Disk>⟧ (H.told host.new) fault) }
     ensures holding { link.new.held ≡ link.old.held }
-    ensures handing { (f : ℕ → Bool) → f link.old.inc ≡ link.old.held → handed f (H.told host.new)
-        ≡ handed f (H.told host.old) }
+    ensures served { OnOk result (IsServed (passed link.new.inc (H.told host.new)) link.new []) }
+    ensures turned { OnOk result (HadTurn (pace link.old.inc (H.told host.old)) (pace link.new.inc (H.told host.new))) }
+    ensures apart { others link.old.inc link.old.held (H.told host.new)
+        ≡ others link.old.inc link.old.held (H.told host.old) }
 {
     let mut reads = MOST_READS;
     match exchange(alloc, host, core, link, noticed, buffer, &mut reads)? {

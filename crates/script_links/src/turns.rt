@@ -1,24 +1,22 @@
 //! Turns: each link is sent what is pending for its server, and what comes back is carried out.
 
-ghost use Rattle.script_model.specs.Bounds.{AreBounded, pace};
-ghost use Rattle.script_model.specs.Containers.{AreStarted};
+ghost use Rattle.script_model.specs.Bounds.{pace};
 ghost use Rattle.script_model.specs.Courses.{course};
 ghost use Rattle.script_model.specs.Errors.{before_ends};
 ghost use Rattle.script_model.specs.Events.{running};
 ghost use Rattle.script_model.specs.Notices.{Tells, notices};
 ghost use Rattle.script_model.specs.Orders.{orders};
-ghost use Rattle.script_model.specs.Origins.{AreHeard};
-ghost use Rattle.script_model.specs.Saved.{AreOpened, AreSaved};
-ghost use Rattle.script_model.specs.Turns.{AreTurns};
-ghost use Rattle.script_container.specs.Handed.{handed};
-ghost use Rattle.script_container.specs.Shown.{Shows};
-ghost use Rattle.script_container.specs.Told.{IsTold};
+ghost use Rattle.script_container.specs.Known.{Leaves};
+ghost use Rattle.script_container.specs.Servers.{servers, turned};
+ghost use Rattle.script_container.specs.Told.{IsEnded, IsTold};
+ghost use Rattle.script_links.specs.Going.{IsGoingOn, IsLawful, KeepsHeld, LeavesGoing};
 ghost use Rattle.script_links.specs.Links.{AreLinked, AreServed, HoldFor};
 ghost use Rattle.script_links.specs.Ready.{AreDue, AreReady, HaveHad, IsUnderway};
 ghost use Rattle.script_links.specs.Shown.{AreQuiet, has_free, is_any_awaited, is_awaited, is_free_of, pending_of};
-ghost use Rattle.std.specs.Prelude.{◌≡◌, ◌+◌, ◌<◌, ◌≤◌, Bool, IfErr, OnOk, length, remove, true, ℕ};
+ghost use Rattle.std.specs.Prelude.{◌≡◌, ◌+◌, ◌<◌, ◌≤◌, Bool, OnOk, length, remove, true, ℕ};
 
 use crate::links::{Link, serve};
+use crate::progress::Progress;
 use container_core::container::ContainerCore;
 use container_model::fault::ContainerFault;
 use container_model::record::Object;
@@ -33,56 +31,63 @@ use store_model::disk::Disk;
 /// The most turns of a command.
 const MOST_TURNS: u32 = 1_000;
 
-/// Ends the server of the link at a place, and tells the container its end.
-pub fn end_at<H: Host>(
+/// Tells the container the end of a server, which the last call ended, and saves what it then asks for.
+fn reaped<H: Host>(
     alloc: Global,
     host: &mut H,
     core: &mut ContainerCore,
-    links: &mut Vec<Link>,
-    place: usize,
+    inc: u32,
     noticed: &mut Option<Told>,
 ) -> Result<(), ScriptFault>
-    requires within { place < length links.old.items }
-    requires told { IsTold ⟦<H::Disk as Disk>⟧ (H.told host.old) core.old }
-    requires linked { AreLinked (H.told host.old) links.old.items }
-    requires served { AreServed (H.told host.old) (remove links.old.items place) }
+    requires ended { IsEnded ⟦<H::Disk as Disk>⟧ inc (H.told host.old) core.old }
     requires seen { Tells (notices (H.told host.old)) noticed.old }
-    ensures less { length links.new.items + 1 ≡ length links.old.items }
-    ensures told { IsTold ⟦<H::Disk as Disk>⟧ (H.told host.new) core.new }
-    ensures linked { AreLinked (H.told host.new) links.new.items }
-    ensures served { AreServed (H.told host.new) links.new.items }
-    ensures rest { links.new.items ≡ remove links.old.items place }
-    ensures paced { (s : ℕ) → pace s (H.told host.new) ≡ pace s (H.told host.old) }
+    ensures leaves { Leaves ⟦<H::Disk as Disk>⟧ result (H.told host.new) core.new noticed.new }
+    ensures serving { servers (H.told host.new) ≡ servers (H.told host.old) }
     ensures ordered { course (H.told host.new) ≡ course (H.told host.old) }
-    ensures seen { OnOk result (Tells (notices (H.told host.new)) noticed.new) }
-    ensures shown { IfErr result (λ fault. Shows ⟦<H::Disk as Disk>⟧ (H.told host.new) fault) }
-    ensures holding { (f : ℕ → Bool) → HoldFor f links.old.items → HoldFor f links.new.items }
-    ensures handing { (f : ℕ → Bool) → handed f (H.told host.new) ≡ handed f (H.told host.old) }
 {
-    let link = links.remove(place);
-    host.end(link.inc);
-    match reap(alloc, host, core, link.inc) {
+    match reap(alloc, host, core, inc) {
         Ok(answer) => save_all(alloc, host, core, &answer, noticed),
         Err(ContainerFault::NoMemory) => Err(ScriptFault::NoMemory),
         Err(_) => Ok(()),
     }
 }
 
+/// Ends the server of the link at a place, and tells the container its end.
+pub fn end_at<H: Host>(
+    alloc: Global,
+    host: &mut H,
+    progress: &mut Progress,
+    place: usize,
+) -> Result<(), ScriptFault>
+    requires within { place < length progress.old.links.items }
+    requires told { IsTold ⟦<H::Disk as Disk>⟧ (H.told host.old) progress.old.core }
+    requires linked { AreLinked (H.told host.old) progress.old.links.items }
+    requires served { AreServed (H.told host.old) (remove progress.old.links.items place) }
+    requires seen { Tells (notices (H.told host.old)) progress.old.noticed }
+    ensures less { length progress.new.links.items + 1 ≡ length progress.old.links.items }
+    ensures rest { progress.new.links.items ≡ remove progress.old.links.items place }
+    ensures leaves { LeavesGoing ⟦<H::Disk as Disk>⟧ result (H.told host.new) progress.new }
+    ensures served { AreServed (H.told host.new) progress.new.links.items }
+    ensures turning { turned (H.told host.new) ≡ turned (H.told host.old) }
+    ensures ordered { course (H.told host.new) ≡ course (H.told host.old) }
+    ensures holding { (f : ℕ → Bool) → HoldFor f progress.old.links.items → HoldFor f progress.new.links.items }
+{
+    let link = progress.links.remove(place);
+    host.end(link.inc);
+    reaped(
+        alloc,
+        host,
+        &mut progress.core,
+        link.inc,
+        &mut progress.noticed,
+    )
+}
+
 /// Ends the servers of all links.
 pub fn end_all<H: Host>(host: &mut H, links: &mut Vec<Link>)
-    requires sent { AreTurns (H.told host.old) }
-    requires bounded { AreBounded (H.told host.old) }
-    requires heard { AreHeard (H.told host.old) }
-    requires saved { AreSaved ⟦<H::Disk as Disk>⟧ (H.told host.old) }
-    requires opened { H.Disk.follows_model → AreOpened ⟦<H::Disk as Disk>⟧ (H.told host.old) }
-    requires started { AreStarted (H.told host.old) }
+    requires lawful { IsLawful ⟦<H::Disk as Disk>⟧ (H.told host.old) }
     requires linked { AreLinked (H.told host.old) links.old.items }
-    ensures sent { AreTurns (H.told host.new) }
-    ensures bounded { AreBounded (H.told host.new) }
-    ensures heard { AreHeard (H.told host.new) }
-    ensures saved { AreSaved ⟦<H::Disk as Disk>⟧ (H.told host.new) }
-    ensures opened { H.Disk.follows_model → AreOpened ⟦<H::Disk as Disk>⟧ (H.told host.new) }
-    ensures started { AreStarted (H.told host.new) }
+    ensures lawful { IsLawful ⟦<H::Disk as Disk>⟧ (H.told host.new) }
     ensures ended { (s : ℕ) → running s (H.told host.new) ≡ 0 }
     ensures ordered { orders (H.told host.new) ≡ orders (H.told host.old) }
     ensures ends { before_ends (H.told host.new) ≡ before_ends (H.told host.old) }
@@ -153,72 +158,49 @@ fn is_pending(core: &ContainerCore, links: &[Link]) -> bool
 fn serve_at<H: Host>(
     alloc: Global,
     host: &mut H,
-    core: &mut ContainerCore,
-    links: &mut Vec<Link>,
+    progress: &mut Progress,
     place: usize,
-    noticed: &mut Option<Told>,
-    buffer: &mut [u8],
 ) -> Result<bool, ScriptFault>
-    requires within { place < length links.old.items }
-    requires told { IsTold ⟦<H::Disk as Disk>⟧ (H.told host.old) core.old }
-    requires linked { AreLinked (H.told host.old) links.old.items }
-    requires served { AreServed (H.told host.old) links.old.items }
-    requires ready { IsUnderway 1000 (H.told host.old) links.old.items place }
-    requires seen { Tells (notices (H.told host.old)) noticed.old }
-    ensures told { IsTold ⟦<H::Disk as Disk>⟧ (H.told host.new) core.new }
-    ensures linked { AreLinked (H.told host.new) links.new.items }
-    ensures served { OnOk result (AreServed (H.told host.new) links.new.items) }
-    ensures many { length links.new.items ≡ length links.old.items }
-    ensures ready { (n : ℕ) → IsUnderway n (H.told host.old) links.old.items place
-        → OnOk result (IsUnderway n (H.told host.new) links.new.items (place + 1)) }
-    ensures ordered { course (H.told host.new) ≡ course (H.told host.old) }
-    ensures seen { OnOk result (Tells (notices (H.told host.new)) noticed.new) }
+    requires within { place < length progress.old.links.items }
+    requires going { IsGoingOn ⟦<H::Disk as Disk>⟧ (H.told host.old) progress.old }
+    requires ready { IsUnderway 1000 (H.told host.old) progress.old.links.items place }
+    ensures leaves { LeavesGoing ⟦<H::Disk as Disk>⟧ result (H.told host.new) progress.new }
+    ensures many { length progress.new.links.items ≡ length progress.old.links.items }
+    ensures ready { (n : ℕ) → IsUnderway n (H.told host.old) progress.old.links.items place
+        → OnOk result (IsUnderway n (H.told host.new) progress.new.links.items (place + 1)) }
     ensures anew { OnOk result ((s : ℕ) → (pace s (H.told host.old)).links ≤ (pace s (H.told host.new)).links) }
-    ensures shown { IfErr result (λ fault. Shows ⟦<H::Disk as Disk>⟧ (H.told host.new) fault) }
-    ensures holding { (f : ℕ → Bool) → HoldFor f links.old.items → HoldFor f links.new.items }
-    ensures handing { (f : ℕ → Bool) → HoldFor f links.old.items → handed f (H.told host.new)
-        ≡ handed f (H.told host.old) }
-    ensures due { (n : ℕ) → HaveHad n (H.told host.old) links.old.items place
-        → OnOk result (HaveHad n (H.told host.new) links.new.items (place + 1)) }
+    ensures kept { KeepsHeld (H.told host.old) (H.told host.new) progress.old.links.items progress.new.links.items }
+    ensures due { (n : ℕ) → HaveHad n (H.told host.old) progress.old.links.items place
+        → OnOk result (HaveHad n (H.told host.new) progress.new.links.items (place + 1)) }
 {
-    serve(alloc, host, core, &mut links[place], noticed, buffer)
+    serve(
+        alloc,
+        host,
+        &mut progress.core,
+        &mut progress.links[place],
+        &mut progress.noticed,
+        &mut progress.buffer,
+    )
 }
 
 /// A turn of each link, by rising number. A link that doesn't stand is ended.
-fn turn<H: Host>(
-    alloc: Global,
-    host: &mut H,
-    core: &mut ContainerCore,
-    links: &mut Vec<Link>,
-    noticed: &mut Option<Told>,
-    buffer: &mut [u8],
-) -> Result<(), ScriptFault>
-    requires told { IsTold ⟦<H::Disk as Disk>⟧ (H.told host.old) core.old }
-    requires linked { AreLinked (H.told host.old) links.old.items }
-    requires served { AreServed (H.told host.old) links.old.items }
-    requires ready { AreReady 1000 (H.told host.old) links.old.items }
-    requires seen { Tells (notices (H.told host.old)) noticed.old }
-    ensures told { IsTold ⟦<H::Disk as Disk>⟧ (H.told host.new) core.new }
-    ensures linked { AreLinked (H.told host.new) links.new.items }
-    ensures served { OnOk result (AreServed (H.told host.new) links.new.items) }
-    ensures ready { (n : ℕ) → AreReady n (H.told host.old) links.old.items
-        → OnOk result (AreReady (n + 1) (H.told host.new) links.new.items) }
-    ensures ordered { course (H.told host.new) ≡ course (H.told host.old) }
-    ensures seen { OnOk result (Tells (notices (H.told host.new)) noticed.new) }
+fn turn<H: Host>(alloc: Global, host: &mut H, progress: &mut Progress) -> Result<(), ScriptFault>
+    requires going { IsGoingOn ⟦<H::Disk as Disk>⟧ (H.told host.old) progress.old }
+    requires ready { AreReady 1000 (H.told host.old) progress.old.links.items }
+    ensures leaves { LeavesGoing ⟦<H::Disk as Disk>⟧ result (H.told host.new) progress.new }
+    ensures ready { (n : ℕ) → AreReady n (H.told host.old) progress.old.links.items
+        → OnOk result (AreReady (n + 1) (H.told host.new) progress.new.links.items) }
     ensures anew { OnOk result ((s : ℕ) → (pace s (H.told host.old)).links ≤ (pace s (H.told host.new)).links) }
-    ensures shown { IfErr result (λ fault. Shows ⟦<H::Disk as Disk>⟧ (H.told host.new) fault) }
-    ensures holding { (f : ℕ → Bool) → HoldFor f links.old.items → HoldFor f links.new.items }
-    ensures handing { (f : ℕ → Bool) → HoldFor f links.old.items → handed f (H.told host.new)
-        ≡ handed f (H.told host.old) }
-    ensures due { (n : ℕ) → AreDue n (H.told host.old) links.old.items
-        → OnOk result (AreDue (n + 1) (H.told host.new) links.new.items) }
+    ensures kept { KeepsHeld (H.told host.old) (H.told host.new) progress.old.links.items progress.new.links.items }
+    ensures due { (n : ℕ) → AreDue n (H.told host.old) progress.old.links.items
+        → OnOk result (AreDue (n + 1) (H.told host.new) progress.new.links.items) }
 {
     let mut place = 0;
-    while place < links.len() {
-        if serve_at(alloc, host, core, links, place, noticed, buffer)? {
+    while place < progress.links.len() {
+        if serve_at(alloc, host, progress, place)? {
             place += 1;
         } else {
-            end_at(alloc, host, core, links, place, noticed)?;
+            end_at(alloc, host, progress, place)?;
         }
     }
     Ok(())
@@ -230,35 +212,22 @@ fn turn<H: Host>(
 pub fn turns<H: Host>(
     alloc: Global,
     host: &mut H,
-    core: &mut ContainerCore,
-    links: &mut Vec<Link>,
-    noticed: &mut Option<Told>,
-    buffer: &mut [u8],
+    progress: &mut Progress,
 ) -> Result<(), ScriptFault>
-    requires told { IsTold ⟦<H::Disk as Disk>⟧ (H.told host.old) core.old }
-    requires linked { AreLinked (H.told host.old) links.old.items }
-    requires served { AreServed (H.told host.old) links.old.items }
-    requires ready { AreReady 1 (H.told host.old) links.old.items }
-    requires seen { Tells (notices (H.told host.old)) noticed.old }
-    ensures quiet { OnOk result (AreQuiet core.new.objects links.new.items) }
-    ensures told { IsTold ⟦<H::Disk as Disk>⟧ (H.told host.new) core.new }
-    ensures linked { AreLinked (H.told host.new) links.new.items }
-    ensures served { OnOk result (AreServed (H.told host.new) links.new.items) }
-    ensures ordered { course (H.told host.new) ≡ course (H.told host.old) }
-    ensures seen { OnOk result (Tells (notices (H.told host.new)) noticed.new) }
+    requires going { IsGoingOn ⟦<H::Disk as Disk>⟧ (H.told host.old) progress.old }
+    requires ready { AreReady 1 (H.told host.old) progress.old.links.items }
+    ensures quiet { OnOk result (AreQuiet progress.new.core.objects progress.new.links.items) }
+    ensures leaves { LeavesGoing ⟦<H::Disk as Disk>⟧ result (H.told host.new) progress.new }
     ensures anew { OnOk result ((s : ℕ) → (pace s (H.told host.old)).links ≤ (pace s (H.told host.new)).links) }
-    ensures shown { IfErr result (λ fault. Shows ⟦<H::Disk as Disk>⟧ (H.told host.new) fault) }
-    ensures holding { (f : ℕ → Bool) → HoldFor f links.old.items → HoldFor f links.new.items }
-    ensures handing { (f : ℕ → Bool) → HoldFor f links.old.items → handed f (H.told host.new)
-        ≡ handed f (H.told host.old) }
+    ensures kept { KeepsHeld (H.told host.old) (H.told host.new) progress.old.links.items progress.new.links.items }
 {
     for done in 0..MOST_TURNS {
-        if !is_pending(core, links) {
+        if !is_pending(&progress.core, &progress.links) {
             return Ok(());
         }
-        turn(alloc, host, core, links, noticed, buffer)?;
+        turn(alloc, host, progress)?;
     }
-    if is_pending(core, links) {
+    if is_pending(&progress.core, &progress.links) {
         return Err(ScriptFault::Stalled);
     }
     Ok(())

@@ -4,18 +4,15 @@ ghost use Rattle.container_core.specs.Opening.{looked_at};
 ghost use Rattle.container_model.specs.Opens.{Given, IsReadAs};
 ghost use Rattle.container_model.specs.declared.fault.ContainerFault.TheVariants.{BadFile};
 ghost use Rattle.store_model.specs.declared.fault.StoreFault.TheVariants as store;
-ghost use Rattle.script_model.specs.Bounds.{pace};
 ghost use Rattle.script_model.specs.Courses.{Made, Unasked, but_opening, course};
-ghost use Rattle.script_model.specs.Events.{running};
 ghost use Rattle.script_model.specs.Notices.{notices};
-ghost use Rattle.script_model.specs.Origins.{passed};
 ghost use Rattle.script_model.specs.Saved.{IsReadFrom, IsReadOf};
 ghost use Rattle.script_model.specs.declared.answer.Told.TheVariants as told;
-ghost use Rattle.script_container.specs.Handed.{handed};
+ghost use Rattle.script_container.specs.Servers.{servers};
 ghost use Rattle.script_container.specs.Told.{IsTold};
 ghost use Rattle.script_container.specs.declared.fault.ScriptFault.TheVariants.{NoMemory};
 ghost use Rattle.script_opens.specs.Opening.{HoldsMore, IsJustFound, IsOpenTold, IsOpenedBy, looked};
-ghost use Rattle.std.specs.Prelude.{◌≡◌, ◌⊎◌, ℕ, Bool, Err, IfErr, IfOk, Some};
+ghost use Rattle.std.specs.Prelude.{◌≡◌, ◌⊎◌, Err, IfErr, IfOk, Some};
 
 use crate::refusals::refusal;
 use container_core::container::ContainerCore;
@@ -66,10 +63,7 @@ fn make_frame<H: Host>(
     requires read { H.Disk.follows_model → IsReadFrom ⟦<H::Disk as Disk>⟧ (H.told host.old) name file.now }
     requires gives { IsReadAs (Some file.now) (Given.Holding document) }
     ensures told { IsTold ⟦<H::Disk as Disk>⟧ (H.told host.new) core.new }
-    ensures still { (s : ℕ) → running s (H.told host.new) ≡ running s (H.told host.old) }
-    ensures quiet { (s : ℕ) → passed s (H.told host.new) ≡ passed s (H.told host.old) }
-    ensures handing { (f : ℕ → Bool) → handed f (H.told host.new) ≡ handed f (H.told host.old) }
-    ensures paced { (s : ℕ) → pace s (H.told host.new) ≡ pace s (H.told host.old) }
+    ensures serving { servers (H.told host.new) ≡ servers (H.told host.old) }
     ensures ordered { but_opening (course (H.told host.new)) ≡ but_opening (course (H.told host.old)) }
     ensures noticed { notices (H.told host.new) ≡ notices (H.told host.old) }
     ensures made { IfOk result (λ t. course (H.told host.new)
@@ -95,10 +89,7 @@ fn open_found<H: Host>(
     requires told { IsTold ⟦<H::Disk as Disk>⟧ (H.told host.old) core.old }
     requires read { H.Disk.follows_model → IsReadFrom ⟦<H::Disk as Disk>⟧ (H.told host.old) name file.now }
     ensures told { IsTold ⟦<H::Disk as Disk>⟧ (H.told host.new) core.new }
-    ensures still { (s : ℕ) → running s (H.told host.new) ≡ running s (H.told host.old) }
-    ensures quiet { (s : ℕ) → passed s (H.told host.new) ≡ passed s (H.told host.old) }
-    ensures handing { (f : ℕ → Bool) → handed f (H.told host.new) ≡ handed f (H.told host.old) }
-    ensures paced { (s : ℕ) → pace s (H.told host.new) ≡ pace s (H.told host.old) }
+    ensures serving { servers (H.told host.new) ≡ servers (H.told host.old) }
     ensures ordered { but_opening (course (H.told host.new)) ≡ but_opening (course (H.told host.old)) }
     ensures noticed { notices (H.told host.new) ≡ notices (H.told host.old) }
     ensures opened { IfOk result (λ t. IsOpenedBy (course (H.told host.old)) (course (H.told host.new)) name width
@@ -151,10 +142,7 @@ fn open_disk<H: Host>(
     requires told { IsTold ⟦<H::Disk as Disk>⟧ (H.told host.old) core.old }
     requires found { IsJustFound name disk (H.told host.old) }
     ensures told { IsTold ⟦<H::Disk as Disk>⟧ (H.told host.new) core.new }
-    ensures still { (s : ℕ) → running s (H.told host.new) ≡ running s (H.told host.old) }
-    ensures quiet { (s : ℕ) → passed s (H.told host.new) ≡ passed s (H.told host.old) }
-    ensures handing { (f : ℕ → Bool) → handed f (H.told host.new) ≡ handed f (H.told host.old) }
-    ensures paced { (s : ℕ) → pace s (H.told host.new) ≡ pace s (H.told host.old) }
+    ensures serving { servers (H.told host.new) ≡ servers (H.told host.old) }
     ensures ordered { but_opening (course (H.told host.new)) ≡ but_opening (course (H.told host.old)) }
     ensures noticed { notices (H.told host.new) ≡ notices (H.told host.old) }
     ensures first { IfOk result (λ t. IsOpenTold ⟦<H::Disk as Disk>⟧ looked name width height
@@ -180,10 +168,7 @@ fn open_named<H: Host>(
 ) -> Result<Told, ScriptFault>
     requires { IsTold ⟦<H::Disk as Disk>⟧ (H.told host.old) core.old }
     ensures told { IsTold ⟦<H::Disk as Disk>⟧ (H.told host.new) core.new }
-    ensures still { (s : ℕ) → running s (H.told host.new) ≡ running s (H.told host.old) }
-    ensures quiet { (s : ℕ) → passed s (H.told host.new) ≡ passed s (H.told host.old) }
-    ensures handing { (f : ℕ → Bool) → handed f (H.told host.new) ≡ handed f (H.told host.old) }
-    ensures paced { (s : ℕ) → pace s (H.told host.new) ≡ pace s (H.told host.old) }
+    ensures serving { servers (H.told host.new) ≡ servers (H.told host.old) }
     ensures ordered { but_opening (course (H.told host.new)) ≡ but_opening (course (H.told host.old)) }
     ensures noticed { notices (H.told host.new) ≡ notices (H.told host.old) }
     ensures first { IfOk result (λ t. IsOpenTold ⟦<H::Disk as Disk>⟧ looked name width height
@@ -214,10 +199,7 @@ pub fn open<H: Host>(
     requires told { IsTold ⟦<H::Disk as Disk>⟧ (H.told host.old) core.old }
     requires unasked { (course (H.told host.old)).opening ≡ Unasked }
     ensures told { IsTold ⟦<H::Disk as Disk>⟧ (H.told host.new) core.new }
-    ensures still { (s : ℕ) → running s (H.told host.new) ≡ running s (H.told host.old) }
-    ensures quiet { (s : ℕ) → passed s (H.told host.new) ≡ passed s (H.told host.old) }
-    ensures handing { (f : ℕ → Bool) → handed f (H.told host.new) ≡ handed f (H.told host.old) }
-    ensures paced { (s : ℕ) → pace s (H.told host.new) ≡ pace s (H.told host.old) }
+    ensures serving { servers (H.told host.new) ≡ servers (H.told host.old) }
     ensures ordered { but_opening (course (H.told host.new)) ≡ but_opening (course (H.told host.old)) }
     ensures noticed { notices (H.told host.new) ≡ notices (H.told host.old) }
     ensures first { IfOk result (λ t. IsOpenTold ⟦<H::Disk as Disk>⟧ (looked_at core.old name width height) name

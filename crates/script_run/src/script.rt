@@ -25,6 +25,7 @@ use container_core::container::{ContainerCore, Limits};
 use script_commands::commands::carry_out;
 use script_container::fault::ScriptFault;
 use script_links::links::{Link, PIECE};
+use script_links::progress::Progress;
 use script_links::turns::end_all;
 use script_model::command::ScriptCommand;
 use script_model::host::Host;
@@ -94,21 +95,19 @@ fn is_any_held(links: &[Link]) -> bool
 fn carry_out_all<H: Host, W: Write>(
     alloc: Global,
     host: &mut H,
-    core: &mut ContainerCore,
-    links: &mut Vec<Link>,
+    progress: &mut Progress,
     commands: Vec<ScriptCommand>,
-    buffer: &mut [u8],
     writer: &mut W,
 ) -> Result<(), ScriptFault>
-    requires told { IsTold ⟦<H::Disk as Disk>⟧ (H.told host.old) core.old }
-    requires linked { AreLinked (H.told host.old) links.old.items }
-    requires served { AreServed (H.told host.old) links.old.items }
+    requires told { IsTold ⟦<H::Disk as Disk>⟧ (H.told host.old) progress.old.core }
+    requires linked { AreLinked (H.told host.old) progress.old.links.items }
+    requires served { AreServed (H.told host.old) progress.old.links.items }
     requires none { H.told host.old ≡ [] }
-    requires free { AreHeld (λ _. false) links.old.items }
-    requires quiet { AreQuiet core.old.objects links.old.items }
-    requires saved { is_any_unsaved core.old.frames ≡ false }
-    ensures told { IsTold ⟦<H::Disk as Disk>⟧ (H.told host.new) core.new }
-    ensures linked { AreLinked (H.told host.new) links.new.items }
+    requires free { AreHeld (λ _. false) progress.old.links.items }
+    requires quiet { AreQuiet progress.old.core.objects progress.old.links.items }
+    requires saved { is_any_unsaved progress.old.core.frames ≡ false }
+    ensures told { IsTold ⟦<H::Disk as Disk>⟧ (H.told host.new) progress.new.core }
+    ensures linked { AreLinked (H.told host.new) progress.new.links.items }
     ensures ordered { OnOk result (orders (H.told host.new) ≡ behind_commands 0 commands.items []) }
     ensures begun { HaveBegun (H.told host.new) commands.items }
     ensures settled { OnOk result (IsSettled (H.told host.new)) }
@@ -122,9 +121,9 @@ fn carry_out_all<H: Host, W: Write>(
 {
     for (place, command) in commands.into_iter().enumerate() {
         begins(host, place);
-        carry_out(alloc, host, core, links, command, buffer, writer)?;
+        carry_out(alloc, host, progress, command, writer)?;
     }
-    if is_any_held(links) {
+    if is_any_held(&progress.links) {
         return Err(ScriptFault::Stalled);
     }
     Ok(())
@@ -189,23 +188,21 @@ pub fn run_script<H: Host, R: Read, W: Write>(
         Ok(commands) => commands,
         Err(fault) => return Err(fault),
     };
-    let Ok(mut buffer) = take_buffer(alloc) else {
+    let Ok(buffer) = take_buffer(alloc) else {
         return Err(ScriptFault::NoMemory);
     };
     let limits = Limits {
         numbers: MOST_NUMBERS,
     };
-    let mut core = ContainerCore::new(alloc, limits);
-    let mut links = Vec::new(alloc);
-    let told = carry_out_all(
-        alloc,
-        host,
-        &mut core,
-        &mut links,
-        commands,
-        &mut buffer,
-        writer,
-    );
-    end_all(host, &mut links);
+    let core = ContainerCore::new(alloc, limits);
+    let links = Vec::new(alloc);
+    let mut progress = Progress {
+        core,
+        links,
+        noticed: None,
+        buffer,
+    };
+    let told = carry_out_all(alloc, host, &mut progress, commands, writer);
+    end_all(host, &mut progress.links);
     told
 }

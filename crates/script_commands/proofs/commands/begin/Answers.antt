@@ -4,13 +4,12 @@ use Rattle.container_model.specs.Record.{Record}
 use Rattle.script_links.specs.Ready.{AreReady}
 use Rattle.script_links.proofs.Paces.{all_rested, single_linked, still_rested}
 use Rattle.script_links.proofs.Served.{on_ok}
-use Rattle.script_container.proofs.Noticed.{seen_still}
-use Rattle.script_container.proofs.Shown.{memory_shown}
+use Rattle.script_container.proofs.Servers.{handing_of, paced_of, turned_of}
+use Rattle.script_links.proofs.Going.{goes_on, lacking_leaves}
 use Rattle.script_model.specs.Bounds.{pace}
 use Rattle.script_model.specs.Courses.{course}
 use Rattle.script_model.specs.Errors.{behind_hold}
 use Rattle.script_model.specs.Events.{running}
-use Rattle.script_model.specs.Notices.{Tells, notices}
 use Rattle.script_model.specs.Orders.{asked, behind_command, orders}
 use Rattle.script_model.specs.Origins.{passed}
 use Rattle.script_model.specs.declared.command.ScriptCommand.{ScriptCommand}
@@ -23,68 +22,59 @@ use Rattle.script_commands.proofs.Ordered.{as_begun, as_ordered, none_begun, non
 use Rattle.script_commands.specs.Lines.{IsCut, told_of_server}
 use Rattle.script_opens.specs.Opening.{IsOpenTold}
 use Rattle.script_commands.proofs.Handing.{none_handed, released}
+use Rattle.script_container.specs.Servers.{servers, turned}
 use Rattle.script_commands.proofs.commands.begin.Goals as goal
 
 pub returns-in-Container-clause-ready : goal.returns-in-Container-clause-ready
+unfolding turned
 returns-in-Container-clause-ready g c =
-    on_ok c.order.result (AreReady 1 (g.H.Host.told c.order.new.host) c.order.new.links.items)
-    (still_rested (g.H.Host.told c.args.host.now) (g.H.Host.told c.order.new.host) c.order.new.links.items
-    c.order.ensures.paced c.requires.rested)
+    on_ok c.order.result (AreReady 1 (g.H.Host.told c.order.new.host) c.order.new.progress.links.items)
+    (still_rested (g.H.Host.told c.args.host.now) (g.H.Host.told c.order.new.host) c.order.new.progress.links.items
+    (paced_of c.order.ensures.turning) c.requires.rested)
 
 pub returns-in-Open-clause-ready : goal.returns-in-Open-clause-ready
+unfolding servers turned
 returns-in-Open-clause-ready g c =
-    on_ok c.open.result (AreReady 1 (g.H.Host.told c.open.new.host) c.args.links.now.items)
-    (still_rested (g.H.Host.told c.args.host.now) (g.H.Host.told c.open.new.host) c.args.links.now.items
-    c.open.ensures.paced c.requires.rested)
+    on_ok c.open.result (AreReady 1 (g.H.Host.told c.open.new.host) c.args.progress.now.links.items)
+    (still_rested (g.H.Host.told c.args.host.now) (g.H.Host.told c.open.new.host) c.args.progress.now.links.items
+    (paced_of (turned_of c.open.ensures.serving)) c.requires.rested)
 
 pub returns-in-Screen-clause-ready : goal.returns-in-Screen-clause-ready
 returns-in-Screen-clause-ready g c = on_ok c.show.result
-    (AreReady 1 (g.H.Host.told c.args.host.now) c.args.links.now.items)
-    (all_rested (g.H.Host.told c.args.host.now) c.args.links.now.items c.requires.rested)
+    (AreReady 1 (g.H.Host.told c.args.host.now) c.args.progress.now.links.items)
+    (all_rested (g.H.Host.told c.args.host.now) c.args.progress.now.links.items c.requires.rested)
 
 pub returns-in-Hold-clause-ready : goal.returns-in-Hold-clause-ready
 returns-in-Hold-clause-ready g c = all_rested (g.H.Host.told c.args.host.now) c.hold_link.new.links.items
     c.requires.rested
 
-pub returns-in-Hold-clause-linked : goal.returns-in-Hold-clause-linked
-returns-in-Hold-clause-linked g c = λ s. c.requires.linked s ∙ sym (c.hold_link.ensures.same s)
-
-pub returns-in-Hold-clause-served : goal.returns-in-Hold-clause-served
-returns-in-Hold-clause-served g c = c.hold_link.ensures.served (λ s. passed s (g.H.Host.told c.args.host.now))
-    c.requires.served
-
-pub returns-in-Open-clause-shown : goal.returns-in-Open-clause-shown
-returns-in-Open-clause-shown g c = memory_shown g.H.Disk.Disk c.open.result (g.H.Host.told c.open.new.host)
-    c.open.ensures.lacking
-
-pub returns-in-Screen-clause-shown : goal.returns-in-Screen-clause-shown
-returns-in-Screen-clause-shown g c = memory_shown g.H.Disk.Disk c.show.result (g.H.Host.told c.args.host.now)
-    c.show.ensures.lacking
-
 pub returns-in-Container-clause-holding : goal.returns-in-Container-clause-holding
-returns-in-Container-clause-holding g c = λ f hold. as_command f _ c.args.command c.order.new.links.items
+returns-in-Container-clause-holding g c = λ f hold. as_command f _ c.args.command c.order.new.progress.links.items
     c.in-Container.is (c.order.ensures.holding f hold)
 
 pub returns-in-Cut-clause-holding : goal.returns-in-Cut-clause-holding
-returns-in-Cut-clause-holding g c = λ f hold. as_command f _ c.args.command c.cut_link.new.links.items c.in-Cut.is
+returns-in-Cut-clause-holding g c = λ f hold. as_command f _ c.args.command c.cut_link.new.progress.links.items
+    c.in-Cut.is
     (c.cut_link.ensures.holding f hold.each)
 
 pub returns-in-Hold-clause-holding : goal.returns-in-Hold-clause-holding
 returns-in-Hold-clause-holding g c = λ f hold.
     as_command f _ c.args.command c.hold_link.new.links.items c.in-Hold.is
-    (c.hold_link.ensures.holding f (single_linked (g.H.Host.told c.args.host.now) c.args.links.now.items
-    c.in-Hold.inc c.requires.told.single c.requires.linked) hold.each)
+    (c.hold_link.ensures.holding f (single_linked (g.H.Host.told c.args.host.now) c.args.progress.now.links.items
+    c.in-Hold.inc c.requires.going.told.single c.requires.going.linked) hold.each)
 
 pub returns-in-Release-clause-holding : goal.returns-in-Release-clause-holding
-returns-in-Release-clause-holding g c = λ f hold. as_command f _ c.args.command c.release_link.new.links.items
+returns-in-Release-clause-holding g c = λ f hold. as_command f _ c.args.command c.release_link.new.progress.links.items
     c.in-Release.is (c.release_link.ensures.holding f hold.each)
 
 pub returns-in-Open-clause-holding : goal.returns-in-Open-clause-holding
-returns-in-Open-clause-holding g c = λ f hold. as_command f _ c.args.command c.args.links.now.items c.in-Open.is
+returns-in-Open-clause-holding g c = λ f hold. as_command f _ c.args.command c.args.progress.now.links.items
+    c.in-Open.is
     hold.each
 
 pub returns-in-Screen-clause-holding : goal.returns-in-Screen-clause-holding
-returns-in-Screen-clause-holding g c = λ f hold. as_command f _ c.args.command c.args.links.now.items c.in-Screen.is
+returns-in-Screen-clause-holding g c = λ f hold. as_command f _ c.args.command c.args.progress.now.links.items
+    c.in-Screen.is
     hold.each
 
 pub returns-in-Container-clause-ordered : goal.returns-in-Container-clause-ordered
@@ -183,16 +173,6 @@ pub returns-in-Release-clause-standing : goal.returns-in-Release-clause-standing
 returns-in-Release-clause-standing g c = begun_same (g.H.Host.told c.args.host.now)
     (g.H.Host.told c.release_link.new.host) c.release_link.ensures.ordered
 
-pub returns-in-Open-clause-seen : goal.returns-in-Open-clause-seen
-returns-in-Open-clause-seen g c =
-    on_ok c.open.result (Tells (notices (g.H.Host.told c.open.new.host)) c.args.noticed.now)
-    (seen_still (notices (g.H.Host.told c.args.host.now)) (notices (g.H.Host.told c.open.new.host))
-    c.args.noticed.now c.open.ensures.noticed c.requires.seen)
-
-pub returns-in-Screen-clause-seen : goal.returns-in-Screen-clause-seen
-returns-in-Screen-clause-seen g c = on_ok c.show.result
-    (Tells (notices (g.H.Host.told c.args.host.now)) c.args.noticed.now) c.requires.seen
-
 pub returns-in-Container-clause-first : goal.returns-in-Container-clause-first
 returns-in-Container-clause-first g c =
     begun_by g.H.Disk.Disk (g.H.Host.told c.args.host.now) (g.H.Host.told c.order.new.host) c.requires.begins
@@ -209,23 +189,24 @@ returns-in-Open-clause-first g c =
     (begun_but_opening (g.H.Host.told c.args.host.now) (g.H.Host.told c.open.new.host) c.open.ensures.ordered)
     c.open.result c.args.command
     (script.Open c.in-Open.name c.in-Open.width c.in-Open.height) c.args.text.now.items c.args.text.now.items
-    (λ t. IsOpenTold g.H.Disk.Disk (looked_at c.args.core.now c.in-Open.name c.in-Open.width c.in-Open.height)
+    (λ t. IsOpenTold g.H.Disk.Disk (looked_at c.args.progress.now.core c.in-Open.name c.in-Open.width c.in-Open.height)
     c.in-Open.name c.in-Open.width c.in-Open.height o t) c.in-Open.is refl
     (λ t p. (
       refl,
       subst (λ (r : Record). IsOpenTold g.H.Disk.Disk
           (looked_at r c.in-Open.name c.in-Open.width c.in-Open.height) c.in-Open.name c.in-Open.width
-          c.in-Open.height o t) (record_begun (g.H.Host.told c.args.host.now) c.requires.begins c.args.core.now
-          c.requires.told.recorded) p,
+          c.in-Open.height o t) (record_begun (g.H.Host.told c.args.host.now) c.requires.begins c.args.progress.now.core
+          c.requires.going.told.recorded) p,
     ))
     c.open.ensures.first
 
 pub returns-in-Screen-clause-first : goal.returns-in-Screen-clause-first
 returns-in-Screen-clause-first g c =
     begun_screen g.H.Disk.Disk (g.H.Host.told c.args.host.now) (g.H.Host.told c.args.host.now) c.requires.begins
-    refl c.show.result c.args.command c.in-Screen.frame c.args.core.now c.args.text.now.items
+    refl c.show.result c.args.command c.in-Screen.frame c.args.progress.now.core c.args.text.now.items
     c.show.new.text.items c.in-Screen.is
-    (record_begun (g.H.Host.told c.args.host.now) c.requires.begins c.args.core.now c.requires.told.recorded)
+    (record_begun (g.H.Host.told c.args.host.now) c.requires.begins c.args.progress.now.core
+    c.requires.going.told.recorded)
     c.show.ensures.first
 
 pub returns-in-Cut-clause-first : goal.returns-in-Cut-clause-first
@@ -248,7 +229,7 @@ returns-in-Hold-clause-first g c =
     c.in-Hold.is refl (
       refl,
       c.hold_link.ensures.first (running c.in-Hold.inc (g.H.Host.told c.args.host.now))
-          (c.requires.linked c.in-Hold.inc) ∙ ap told_of_server ran,
+          (c.requires.going.linked c.in-Hold.inc) ∙ ap told_of_server ran,
     )
 
 pub returns-in-Release-clause-first : goal.returns-in-Release-clause-first
@@ -262,11 +243,15 @@ returns-in-Release-clause-first g c =
     (λ t p. (refl, p ∙ ap told_of_server ran)) c.release_link.ensures.first
 
 pub returns-in-Container-clause-handing : goal.returns-in-Container-clause-handing
-returns-in-Container-clause-handing g c = λ f. c.order.ensures.handing (λ s. behind_hold c.args.command s (f s))
+unfolding turned
+returns-in-Container-clause-handing g c = λ f. handing_of c.order.ensures.turning
+    (λ s. behind_hold c.args.command s (f s))
     ∙ none_handed (g.H.Host.told c.args.host.now) c.requires.begins (λ s. behind_hold c.args.command s (f s))
 
 pub returns-in-Open-clause-handing : goal.returns-in-Open-clause-handing
-returns-in-Open-clause-handing g c = λ f. c.open.ensures.handing (λ s. behind_hold c.args.command s (f s))
+unfolding servers turned
+returns-in-Open-clause-handing g c = λ f. handing_of (turned_of c.open.ensures.serving)
+    (λ s. behind_hold c.args.command s (f s))
     ∙ none_handed (g.H.Host.told c.args.host.now) c.requires.begins (λ s. behind_hold c.args.command s (f s))
 
 pub returns-in-Screen-clause-handing : goal.returns-in-Screen-clause-handing
@@ -286,3 +271,28 @@ returns-in-Release-clause-handing g c = λ f.
     c.release_link.ensures.handing (λ s. behind_hold c.args.command s (f s))
     (released c.args.command c.in-Release.inc (f c.in-Release.inc) c.in-Release.is)
     ∙ none_handed (g.H.Host.told c.args.host.now) c.requires.begins (λ s. behind_hold c.args.command s (f s))
+
+pub returns-in-Hold-clause-leaves : goal.returns-in-Hold-clause-leaves
+returns-in-Hold-clause-leaves g c = record {
+  told = c.requires.going.told;
+  linked = λ s. c.requires.going.linked s ∙ sym (c.hold_link.ensures.same s);
+  served = c.hold_link.ensures.served (λ s. passed s (g.H.Host.told c.args.host.now)) c.requires.going.served;
+  seen = c.requires.going.seen;
+}
+
+pub returns-in-Open-clause-leaves : goal.returns-in-Open-clause-leaves
+returns-in-Open-clause-leaves g c =
+    goes_on g.H.Disk.Disk c.open.result (g.H.Host.told c.args.host.now) (g.H.Host.told c.open.new.host)
+    c.args.progress.now c.open.new.core c.args.progress.now.noticed c.open.ensures.serving c.requires.going.linked
+    c.requires.going.served
+    (lacking_leaves g.H.Disk.Disk c.open.result (g.H.Host.told c.args.host.now) (g.H.Host.told c.open.new.host)
+    c.open.new.core c.args.progress.now.noticed c.open.ensures.told c.open.ensures.noticed c.requires.going.seen
+    c.open.ensures.lacking)
+
+pub returns-in-Screen-clause-leaves : goal.returns-in-Screen-clause-leaves
+returns-in-Screen-clause-leaves g c =
+    let here = g.H.Host.told c.args.host.now in
+    goes_on g.H.Disk.Disk c.show.result here here c.args.progress.now c.args.progress.now.core
+    c.args.progress.now.noticed refl c.requires.going.linked c.requires.going.served
+    (lacking_leaves g.H.Disk.Disk c.show.result here here c.args.progress.now.core c.args.progress.now.noticed
+    c.requires.going.told refl c.requires.going.seen c.show.ensures.lacking)

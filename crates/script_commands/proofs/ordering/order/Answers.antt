@@ -9,12 +9,12 @@ use Rattle.script_commands.proofs.ordering.order.Goals as goal
 
 pub give-requires-clause-readied : goal.give-requires-clause-readied
 give-requires-clause-readied g c =
-    readied_at c.args.ordered c.args.core.now (record_of (g.H.Host.told c.args.host.now))
-    (asked (g.H.Host.told c.args.host.now)) c.requires.told.recorded
+    readied_at c.args.ordered c.args.progress.now.core (record_of (g.H.Host.told c.args.host.now))
+    (asked (g.H.Host.told c.args.host.now)) c.requires.going.told.recorded
     (c.is_first_start.ensures.other (asked (g.H.Host.told c.args.host.now)) c.if-is_first_start.false)
 
 pub start_first-requires-clause-none : goal.start_first-requires-clause-none
-start_first-requires-clause-none g c = none_raised c.args.core.now c.args.ordered
+start_first-requires-clause-none g c = none_raised c.args.progress.now.core c.args.ordered
     (sym c.is_first_start.ensures.exact ∙ c.if-is_first_start.true)
 
 pub returns-then-is_first_start-clause-ordered : goal.returns-then-is_first_start-clause-ordered
@@ -44,11 +44,11 @@ returns-clause-begun g c = alone_begun c.args.ordered (asked (g.H.Host.told c.gi
 
 pub returns-clause-standing : goal.returns-clause-standing
 returns-clause-standing g c = begun_so (g.H.Host.told c.args.host.now) (g.H.Host.told c.give.new.host)
-    c.args.core.now c.args.ordered c.requires.told.recorded c.give.ensures.ordered
+    c.args.progress.now.core c.args.ordered c.requires.going.told.recorded c.give.ensures.ordered
 
 pub returns-clause-first : goal.returns-clause-first
 returns-clause-first g c =
-    first_given (g.H.Host.told c.args.host.now) (g.H.Host.told c.give.new.host) c.args.core.now c.args.ordered
-    c.requires.told.recorded c.give.ensures.ordered c.give.result
+    first_given (g.H.Host.told c.args.host.now) (g.H.Host.told c.give.new.host) c.args.progress.now.core c.args.ordered
+    c.requires.going.told.recorded c.give.ensures.ordered c.give.result
     (sym c.is_first_start.ensures.exact ∙ c.if-is_first_start.false) c.give.ensures.answered
     c.give.ensures.tried

@@ -1,5 +1,6 @@
-use Rattle.std.proofs.Common.{◌≡◌, refl}
+use Rattle.std.proofs.Common.{◌≡◌, refl, ◌∙◌, ap}
 use Rattle.script_container.proofs.Answered.{command_refused, command_taken, one_command, starts_none}
+use Rattle.script_container.specs.Servers.{servers, turned}
 use Rattle.script_container.proofs.container.command.Goals as goal
 
 pub returns-clause-answered : goal.returns-clause-answered
@@ -20,3 +21,7 @@ pub returns-clause-starts : goal.returns-clause-starts
 returns-clause-starts g c =
     starts_none c.sessions_stay.ensures c.args.core.now c.command-told.new.self c.in-Some.command c.noted.result
     c.command-told.result c.steady.ensures.in_session c.noted.ensures.same c.command-told.ensures.taken
+
+pub returns-clause-serving : goal.returns-clause-serving
+unfolding servers turned
+returns-clause-serving g c = c.noted.ensures.serving ∙ ap servers c.note.ensures

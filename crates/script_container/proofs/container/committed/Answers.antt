@@ -1,8 +1,9 @@
-use Rattle.std.proofs.Common.{refl}
+use Rattle.std.proofs.Common.{refl, ◌∙◌, ap}
 use Rattle.container_model.specs.Saves.{commit_done, counted_of}
 use Rattle.script_model.specs.declared.step.Step.TheVariants as step
 use Rattle.script_container.proofs.Done.{commit_done_by, commit_leaves}
 use Rattle.script_container.proofs.Given.{step_told}
+use Rattle.script_container.specs.Servers.{servers, turned}
 use Rattle.script_container.proofs.container.committed.Goals as goal
 
 pub returns-clause-told : goal.returns-clause-told
@@ -28,3 +29,7 @@ returns-clause-done g c =
     (counted_of c.args.core.now c.args.frame) c.commit_done-told.result c.noted.result c.noted.ensures.same
     c.heard.ensures.known
     c.commit_done-told.ensures.taken c.commit_done-told.ensures.refused c.commit_done-told.ensures.kept
+
+pub returns-clause-serving : goal.returns-clause-serving
+unfolding servers turned
+returns-clause-serving g c = c.noted.ensures.serving ∙ ap servers c.note.ensures

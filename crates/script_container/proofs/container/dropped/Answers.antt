@@ -1,8 +1,9 @@
-use Rattle.std.proofs.Common.{false, refl, []}
+use Rattle.std.proofs.Common.{false, refl, [], ◌∙◌, ap}
 use Rattle.container_model.specs.Saves.{resolve}
 use Rattle.script_model.specs.declared.step.Step.TheVariants as step
 use Rattle.script_container.proofs.Done.{drop_done_by, drop_leaves}
 use Rattle.script_container.proofs.Given.{step_told}
+use Rattle.script_container.specs.Servers.{servers, turned}
 use Rattle.script_container.proofs.container.dropped.Goals as goal
 
 pub returns-clause-told : goal.returns-clause-told
@@ -21,3 +22,7 @@ returns-clause-done g c =
     drop_done_by c.args.core.now c.args.frame c.resolve-told.new.self c.heard.result [] c.resolve-told.result
     c.noted.result c.noted.ensures.same c.heard.ensures.known
     c.resolve-told.ensures.taken c.resolve-told.ensures.refused c.resolve-told.ensures.kept
+
+pub returns-clause-serving : goal.returns-clause-serving
+unfolding servers turned
+returns-clause-serving g c = c.noted.ensures.serving ∙ ap servers c.note.ensures

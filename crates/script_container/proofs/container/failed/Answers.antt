@@ -1,10 +1,11 @@
-use Rattle.std.proofs.Common.{refl}
+use Rattle.std.proofs.Common.{refl, ap}
 use Rattle.container_model.specs.Saves.{commit_failed}
 use Rattle.container_model.specs.Record.{counts_none}
 use Rattle.script_model.specs.declared.step.Step.TheVariants as step
 use Rattle.script_container.proofs.Done.{failure_answered, failure_leaves}
 use Rattle.script_container.proofs.Given.{step_alone}
 use Rattle.script_container.proofs.Noticed.{failure_noticed}
+use Rattle.script_container.specs.Servers.{servers, turned}
 use Rattle.script_container.proofs.container.failed.Goals as goal
 
 pub returns-clause-told : goal.returns-clause-told
@@ -28,3 +29,7 @@ returns-clause-answered g c =
     failure_answered c.args.core.now c.args.frame c.commit_failed.new.self c.commit_failed.result
     c.commit_failed.ensures.memory c.commit_failed.ensures.taken c.commit_failed.ensures.refused
     c.commit_failed.ensures.kept
+
+pub returns-clause-serving : goal.returns-clause-serving
+unfolding servers turned
+returns-clause-serving g c = ap servers c.note.ensures

@@ -1,6 +1,6 @@
-use Rattle.std.proofs.Common.{◌≡◌, ◌∙◌, refl}
-use Rattle.script_container.proofs.Handed.{handed_other}
+use Rattle.std.proofs.Common.{◌≡◌, ◌∙◌, ap, refl}
 use Rattle.script_container.proofs.Noticed.{message_noticed, message_unnoticed, one_message}
+use Rattle.script_container.specs.Servers.{servers}
 use Rattle.script_container.proofs.container.message.Goals as goal
 
 pub returns-clause-noticed : goal.returns-clause-noticed
@@ -22,6 +22,5 @@ returns-clause-unnoticed g c =
     c.session.result c.in-Some.message c.noted.result c.on_message-told.result c.session.ensures same
     c.noted.ensures.same c.on_message-told.ensures.refused
 
-pub returns-clause-handing : goal.returns-clause-handing
-returns-clause-handing g c = λ f other. c.noted.ensures.handing f ∙ handed_other f (g.H.Host.told c.args.host.now)
-    (g.H.Host.told c.note.new.self) c.args.inc c.args.message c.note.ensures other
+pub returns-clause-serving : goal.returns-clause-serving
+returns-clause-serving g c = c.noted.ensures.serving ∙ ap servers c.note.ensures

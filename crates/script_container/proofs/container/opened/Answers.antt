@@ -12,6 +12,7 @@ use Rattle.script_model.specs.declared.answer.Told.TheVariants as told
 use Rattle.script_model.specs.declared.step.Step.TheVariants as step
 use Rattle.script_container.proofs.Answered.{file_made, file_refused}
 use Rattle.script_container.proofs.Opened.{few_given, file_told, one_name, opened_by}
+use Rattle.script_container.specs.Servers.{servers, turned}
 use Rattle.script_container.proofs.container.opened.Goals as goal
 
 pub returns-clause-told : goal.returns-clause-told
@@ -77,3 +78,7 @@ returns-clause-refused g c =
     (file_refused c.files_give_one.ensures c.args.core.now c.in-Some.name c.args.width c.args.height c.args.document
     (Some c.args.file.now) c.requires.gives c.noted.result c.open_file-told.result c.noted.ensures.same
     c.open_file-told.ensures.refused)
+
+pub returns-clause-serving : goal.returns-clause-serving
+unfolding servers turned
+returns-clause-serving g c = c.noted.ensures.serving ∙ ap servers c.note.ensures

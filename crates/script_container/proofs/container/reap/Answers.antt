@@ -1,8 +1,9 @@
-use Rattle.std.proofs.Common.{refl}
+use Rattle.std.proofs.Common.{refl, ◌∙◌, ap}
 use Rattle.container_model.specs.Messages.{on_reap}
 use Rattle.container_model.specs.Record.{counts_none}
 use Rattle.script_model.specs.declared.step.Step.TheVariants as step
 use Rattle.script_container.proofs.Given.{ended_so, just_ended, step_noted}
+use Rattle.script_container.specs.Servers.{servers, turned}
 use Rattle.script_container.proofs.container.reap.Goals as goal
 
 pub returns-clause-told : goal.returns-clause-told
@@ -12,3 +13,7 @@ returns-clause-told g c =
     (just_ended c.args.inc (g.H.Host.told c.args.host.now) c.args.core.now c.requires) (λ a. refl)
     c.note.ensures c.noted.ensures.noted c.on_reap-told.ensures.taken c.on_reap-told.ensures.refused
     c.on_reap-told.ensures.kept (ended_so c.args.inc (g.H.Host.told c.args.host.now) c.args.core.now c.requires)
+
+pub returns-clause-serving : goal.returns-clause-serving
+unfolding servers turned
+returns-clause-serving g c = c.noted.ensures.serving ∙ ap servers c.note.ensures

@@ -1,5 +1,7 @@
+use Rattle.std.proofs.Common.{◌∙◌, ap}
 use Rattle.script_container.proofs.Saved.{shut_with, shut_without}
 use Rattle.script_container.proofs.Shown.{given_back}
+use Rattle.script_container.specs.Servers.{servers, turned}
 use Rattle.script_container.proofs.saves.commit.Goals as goal
 
 pub returns-in-Ok-clause-unopened : goal.returns-in-Ok-clause-unopened
@@ -27,3 +29,11 @@ returns-in-Ok-clause-left g c =
 
 pub returns-in-Err-clause-left : goal.returns-in-Err-clause-left
 returns-in-Err-clause-left g c = c.commit_again.ensures.left (g.H.Host.told c.args.host.now, c.in-Err.ensures)
+
+pub returns-in-Ok-clause-serving : goal.returns-in-Ok-clause-serving
+unfolding servers turned
+returns-in-Ok-clause-serving g c = ap servers c.shut.ensures ∙ ap servers c.disk-given.ensures
+
+pub returns-in-Err-clause-serving : goal.returns-in-Err-clause-serving
+unfolding servers turned
+returns-in-Err-clause-serving g c = c.commit_again.ensures.serving ∙ ap servers c.disk-given.ensures

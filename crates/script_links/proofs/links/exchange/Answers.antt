@@ -2,7 +2,8 @@ use Rattle.std.proofs.Common.{◌≡◌, rules, ◌∙◌}
 use Rattle.script_model.specs.Bounds.{pace}
 use Rattle.script_links.proofs.Paces.{heard_on, may_hear, none_heard, sent_within}
 use Rattle.std.specs.Result.{IsErrAnd}
-use Rattle.script_container.proofs.Shown.{passed_on}
+use Rattle.script_container.proofs.Known.{stopped_on}
+use Rattle.script_links.proofs.Going.{known_still}
 use Rattle.script_links.proofs.links.exchange.Goals as goal
 
 pub returns-then-not-branch-clause-on : goal.returns-then-not-branch-clause-on
@@ -30,11 +31,28 @@ returns-clause-on g c =
     (pace c.hear.new.link.inc (g.H.Host.told c.hear.new.host)) c.hear.new.reads c.in_ok-send_turn.ensures.sent
     c.hear.ensures.on
 
-pub returns-in_err-send_turn-clause-shown : goal.returns-in_err-send_turn-clause-shown
-returns-in_err-send_turn-clause-shown g c =
+pub returns-in_err-send_turn-clause-leaves : goal.returns-in_err-send_turn-clause-leaves
+returns-in_err-send_turn-clause-leaves g c =
     let again : IsErrAnd c.from_residual.result (λ x. x ≡ c.in_err-send_turn.field-0.0) = search rules in
-    passed_on g.H.Disk.Disk c.from_residual.result c.in_err-send_turn.field-0.0 (g.H.Host.told c.send_turn.new.host)
-    again c.in_err-send_turn.ensures.shown
+    stopped_on g.H.Disk.Disk c.from_residual.result c.in_err-send_turn.field-0.0 (g.H.Host.told c.send_turn.new.host)
+    c.args.core.now c.args.noticed.now again
+    (record { told = c.send_turn.ensures.told; shown = c.in_err-send_turn.ensures.shown })
 
-pub returns-clause-handing : goal.returns-clause-handing
-returns-clause-handing g c = λ f is. c.hear.ensures.handing f is ∙ c.send_turn.ensures.handing f
+pub hear-requires-clause-known : goal.hear-requires-clause-known
+hear-requires-clause-known g c = known_still g.H.Disk.Disk c.args.noticed.now c.send_turn.ensures.told
+    c.send_turn.ensures.noticed
+    c.requires.known.seen
+
+pub returns-then-not-branch-clause-leaves : goal.returns-then-not-branch-clause-leaves
+returns-then-not-branch-clause-leaves g c = known_still g.H.Disk.Disk c.args.noticed.now c.send_turn.ensures.told
+    c.send_turn.ensures.noticed
+    c.requires.known.seen
+
+pub returns-in_err-send_turn-clause-apart : goal.returns-in_err-send_turn-clause-apart
+returns-in_err-send_turn-clause-apart g c = c.send_turn.ensures.apart c.args.link.now.held
+
+pub returns-then-not-branch-clause-apart : goal.returns-then-not-branch-clause-apart
+returns-then-not-branch-clause-apart g c = c.send_turn.ensures.apart c.args.link.now.held
+
+pub returns-clause-apart : goal.returns-clause-apart
+returns-clause-apart g c = c.hear.ensures.apart ∙ c.send_turn.ensures.apart c.args.link.now.held

@@ -3,8 +3,8 @@ use Rattle.script_model.specs.Bounds.{pace}
 use Rattle.script_links.proofs.Paces.{all_left, left_again, may_link, may_send, may_send_again, turn_again, turn_over}
 use Rattle.script_links.proofs.Paces.{turn_unlinked}
 use Rattle.std.specs.Result.{IsErrAnd}
-use Rattle.script_container.proofs.Shown.{lacking_on, passed_on}
-use Rattle.script_links.proofs.Handing.{told_still}
+use Rattle.script_container.proofs.Known.{lacks_so, memory_stops, stopped_on}
+use Rattle.script_links.proofs.Going.{known_still}
 use Rattle.script_links.proofs.links.serve.Goals as goal
 
 pub exchange-requires-clause-within : goal.exchange-requires-clause-within
@@ -62,47 +62,33 @@ returns-clause-turned g c =
     c.exchange.new.reads c.exchange-2.new.reads c.in_ok-made.made (cc) c.in_ok-made.ensures.linked
     c.in_ok-exchange.ensures.on c.in_ok-heard.ensures.on
 
-pub returns-in_err-exchange-clause-shown : goal.returns-in_err-exchange-clause-shown
-returns-in_err-exchange-clause-shown g c =
+pub returns-in_err-exchange-clause-leaves : goal.returns-in_err-exchange-clause-leaves
+returns-in_err-exchange-clause-leaves g c =
     let again : IsErrAnd c.from_residual.result (λ x. x ≡ c.in_err-exchange.field-0.0) = search rules in
-    passed_on g.H.Disk.Disk c.from_residual.result c.in_err-exchange.field-0.0 (g.H.Host.told c.exchange.new.host)
-    again c.in_err-exchange.ensures.shown
+    stopped_on g.H.Disk.Disk c.from_residual.result c.in_err-exchange.field-0.0 (g.H.Host.told c.exchange.new.host)
+    c.exchange.new.core c.exchange.new.noticed again c.in_err-exchange.ensures.leaves
 
-pub returns-in_err-heard-clause-shown : goal.returns-in_err-heard-clause-shown
-returns-in_err-heard-clause-shown g c =
+pub returns-in_err-heard-clause-leaves : goal.returns-in_err-heard-clause-leaves
+returns-in_err-heard-clause-leaves g c =
     let again : IsErrAnd c.from_residual-in_err-heard.result (λ x. x ≡ c.in_err-heard.field-0.0) = search rules in
-    passed_on g.H.Disk.Disk c.from_residual-in_err-heard.result c.in_err-heard.field-0.0
-    (g.H.Host.told c.exchange-2.new.host) again c.in_err-heard.ensures.shown
+    stopped_on g.H.Disk.Disk c.from_residual-in_err-heard.result c.in_err-heard.field-0.0
+    (g.H.Host.told c.exchange-2.new.host) c.exchange-2.new.core c.exchange-2.new.noticed again
+    c.in_err-heard.ensures.leaves
 
-pub returns-in_err-made-clause-shown : goal.returns-in_err-made-clause-shown
-returns-in_err-made-clause-shown g c =
+pub returns-in_err-made-clause-leaves : goal.returns-in_err-made-clause-leaves
+returns-in_err-made-clause-leaves g c =
     let again : IsErrAnd c.from_residual-in_err-made.result (λ x. x ≡ c.in_err-made.field-0.0) = search rules in
-    lacking_on g.H.Disk.Disk c.from_residual-in_err-made.result c.in_err-made.field-0.0
-    (g.H.Host.told c.reconnect.new.host) again c.in_err-made.ensures.lacking
+    memory_stops g.H.Disk.Disk c.from_residual-in_err-made.result (g.H.Host.told c.reconnect.new.host)
+    c.exchange.new.core c.exchange.new.noticed
+    (lacks_so c.from_residual-in_err-made.result c.in_err-made.field-0.0 again c.in_err-made.ensures.lacking)
+    (c.reconnect.ensures.told c.exchange.new.core c.in_ok-exchange.ensures.leaves.told)
 
-pub returns-in_err-made-clause-told : goal.returns-in_err-made-clause-told
-returns-in_err-made-clause-told g c = c.reconnect.ensures.told c.exchange.new.core c.exchange.ensures.told
+pub exchange-requires-2-clause-known : goal.exchange-requires-2-clause-known
+exchange-requires-2-clause-known g c = known_still g.H.Disk.Disk c.exchange.new.noticed
+    (c.reconnect.ensures.told c.exchange.new.core c.in_ok-exchange.ensures.leaves.told) c.reconnect.ensures.noticed
+    c.in_ok-exchange.ensures.leaves.seen
 
-pub exchange-requires-2-clause-told : goal.exchange-requires-2-clause-told
-exchange-requires-2-clause-told g c = c.reconnect.ensures.told c.exchange.new.core c.exchange.ensures.told
-
-pub returns-then-not-made-clause-told : goal.returns-then-not-made-clause-told
-returns-then-not-made-clause-told g c = c.reconnect.ensures.told c.exchange.new.core c.exchange.ensures.told
-
-pub returns-in_err-made-clause-handing : goal.returns-in_err-made-clause-handing
-returns-in_err-made-clause-handing g c = λ f is. c.reconnect.ensures.handing f ∙ c.exchange.ensures.handing f is
-
-pub returns-then-not-made-clause-handing : goal.returns-then-not-made-clause-handing
-returns-then-not-made-clause-handing g c = λ f is. c.reconnect.ensures.handing f ∙ c.exchange.ensures.handing f is
-
-pub returns-in_err-heard-clause-handing : goal.returns-in_err-heard-clause-handing
-returns-in_err-heard-clause-handing g c = λ f is. c.exchange-2.ensures.handing f
-    (told_still f c.reconnect.new.link c.args.link.now (c.reconnect.ensures.same ∙ c.exchange.ensures.same)
-    (c.reconnect.ensures.holding ∙ c.exchange.ensures.holding) is) ∙ c.reconnect.ensures.handing f
-    ∙ c.exchange.ensures.handing f is
-
-pub returns-clause-handing : goal.returns-clause-handing
-returns-clause-handing g c = λ f is. c.exchange-2.ensures.handing f
-    (told_still f c.reconnect.new.link c.args.link.now (c.reconnect.ensures.same ∙ c.exchange.ensures.same)
-    (c.reconnect.ensures.holding ∙ c.exchange.ensures.holding) is) ∙ c.reconnect.ensures.handing f
-    ∙ c.exchange.ensures.handing f is
+pub returns-then-not-made-clause-leaves : goal.returns-then-not-made-clause-leaves
+returns-then-not-made-clause-leaves g c = known_still g.H.Disk.Disk c.exchange.new.noticed
+    (c.reconnect.ensures.told c.exchange.new.core c.in_ok-exchange.ensures.leaves.told) c.reconnect.ensures.noticed
+    c.in_ok-exchange.ensures.leaves.seen

@@ -1,29 +1,19 @@
-use Rattle.std.proofs.Common.{length, ◌≡◌, ◌≤◌, ◌-◌, Bool, ℕ}
+use Rattle.std.proofs.Common.{length, ◌≤◌, ◌-◌, ℕ}
 use Rattle.script_model.specs.Bounds.{pace}
-use Rattle.script_model.specs.Courses.{course}
-use Rattle.script_model.specs.Notices.{Tells, notices}
-use Rattle.script_links.specs.Links.{AreLinked, AreServed, HoldFor}
+use Rattle.script_links.specs.Going.{IsGoingOn, KeepsHeld}
 use Rattle.script_links.specs.Ready.{AreDue, AreReady, HaveHad, IsUnderway}
-use Rattle.script_container.specs.Told.{IsTold}
-use Rattle.script_container.specs.Handed.{handed}
 use Rattle.script_links.proofs.turns.turn.Given as goal
 
 abbrev pub invariant-loop-place : goal.invariant-loop-place
 invariant-loop-place g l = record {
-  told : IsTold g.H.Disk.Disk (g.H.Host.told l.host) l.core;
-  linked : AreLinked (g.H.Host.told l.host) l.links.items;
-  served : AreServed (g.H.Host.told l.host) l.links.items;
-  each : (n : ℕ) → AreReady n (g.H.Host.told l.fn.host) l.fn.links.items
-      → IsUnderway n (g.H.Host.told l.host) l.links.items l.place;
-  holding : (f : ℕ → Bool) → HoldFor f l.fn.links.items → HoldFor f l.links.items;
-  handing : (f : ℕ → Bool) → HoldFor f l.fn.links.items → handed f (g.H.Host.told l.host)
-      ≡ handed f (g.H.Host.told l.fn.host);
-  due : (n : ℕ) → AreDue n (g.H.Host.told l.fn.host) l.fn.links.items
-      → HaveHad n (g.H.Host.told l.host) l.links.items l.place;
-  ordered : course (g.H.Host.told l.host) ≡ course (g.H.Host.told l.fn.host);
-  seen : Tells (notices (g.H.Host.told l.host)) l.noticed;
+  going : IsGoingOn g.H.Disk.Disk (g.H.Host.told l.host) l.progress;
+  each : (n : ℕ) → AreReady n (g.H.Host.told l.fn.host) l.fn.progress.links.items
+      → IsUnderway n (g.H.Host.told l.host) l.progress.links.items l.place;
+  kept : KeepsHeld (g.H.Host.told l.fn.host) (g.H.Host.told l.host) l.fn.progress.links.items l.progress.links.items;
+  due : (n : ℕ) → AreDue n (g.H.Host.told l.fn.host) l.fn.progress.links.items
+      → HaveHad n (g.H.Host.told l.host) l.progress.links.items l.place;
   anew : (s : ℕ) → (pace s (g.H.Host.told l.fn.host)).links ≤ (pace s (g.H.Host.told l.host)).links;
 }
 
 abbrev pub decreases-loop-place : goal.decreases-loop-place
-decreases-loop-place g l = length l.links.items - l.place
+decreases-loop-place g l = length l.progress.links.items - l.place

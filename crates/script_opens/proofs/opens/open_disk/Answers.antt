@@ -3,6 +3,7 @@ use Rattle.std.proofs.lemmas.Result.{IfOk-at_ok}
 use Rattle.script_model.specs.Events.{Shut}
 use Rattle.script_model.specs.Saved.{IsReadOf}
 use Rattle.script_opens.proofs.Reading.{err_same, fault_told, read_told}
+use Rattle.script_container.specs.Servers.{servers, turned}
 use Rattle.script_opens.proofs.opens.open_disk.Goals as goal
 
 pub returns-in-Ok-clause-first : goal.returns-in-Ok-clause-first
@@ -26,3 +27,11 @@ returns-in-Err-clause-first g c =
     (c.shut.ensures ∙ ap (λ (n : List ℕ). Shut n disk ∷ g.H.Host.told c.args.host.now) c.as_slice.ensures)
     c.unread.result c.in-Err.fault (λ m is. c.document_on-file.ensures.large m
     (err_same c.in-Err.fault c.in-Err.is is)) refl c.unread.ensures.told
+
+pub returns-in-Ok-clause-serving : goal.returns-in-Ok-clause-serving
+unfolding servers turned
+returns-in-Ok-clause-serving g c = c.open_found.ensures.serving ∙ ap servers c.shut.ensures
+
+pub returns-in-Err-clause-serving : goal.returns-in-Err-clause-serving
+unfolding servers turned
+returns-in-Err-clause-serving g c = ap servers c.shut.ensures

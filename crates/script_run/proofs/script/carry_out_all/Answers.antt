@@ -31,7 +31,7 @@ loop-place-init g c =
       lines = lines_first g.H.Disk.Disk c.args.commands.items c.into_iter-place-iterator.result.count
           (g.H.Host.told c.args.host.now) (g.W.Write.contents c.args.writer.now) count;
       back = subst (λ (h : List (Event _)). AreHeldBack c.args.commands.items h) (sym c.requires.none) tt;
-      so_far = so_far_first (g.H.Host.told c.args.host.now) c.args.links.now.items c.args.commands.items
+      so_far = so_far_first (g.H.Host.told c.args.host.now) c.args.progress.now.links.items c.args.commands.items
           (into_iter_items c.into_iter-place-iterator.result.iter) c.into_iter-place-iterator.result.count count
           rest c.requires.none c.requires.free;
     }
@@ -43,13 +43,13 @@ loop-place-preserved g c =
     let at : c.in-Some.place ≡ c.loop-place.place-iterator.count = search rules in
     let counts : c.next.new.self.count ≡ c.loop-place.place-iterator.count + 1 = search rules in
     record {
-      told = c.carry_out.ensures.told;
-      linked = c.carry_out.ensures.linked;
-      served = c.in_ok-carry_out.ensures.served;
+      told = c.in_ok-carry_out.ensures.leaves.told;
+      linked = c.in_ok-carry_out.ensures.leaves.linked;
+      served = c.in_ok-carry_out.ensures.leaves.served;
       quiet = c.in_ok-carry_out.ensures.quiet;
       saved = c.in_ok-carry_out.ensures.saved;
       lines = lines_more g.H.Disk.Disk (g.H.Host.told c.loop-place.host) (g.H.Host.told c.begins.new.host)
-          (g.H.Host.told c.carry_out.new.host) c.loop-place.links.items c.args.commands.items
+          (g.H.Host.told c.carry_out.new.host) c.loop-place.progress.links.items c.args.commands.items
           (into_iter_items c.loop-place.place-iterator.iter)
           (into_iter_items c.next.new.self.iter) c.in-Some.command c.loop-place.place-iterator.count c.in-Some.place
           c.next.new.self.count (g.W.Write.contents c.args.writer.now) (g.W.Write.contents c.loop-place.writer)
@@ -57,19 +57,19 @@ loop-place-preserved g c =
           c.loop-place.invariant.so_far items at c.begins.ensures.noted c.carry_out.ensures.standing
           c.loop-place.invariant.lines counts c.in_ok-carry_out.ensures.printed;
       back = back_more (g.H.Host.told c.loop-place.host) (g.H.Host.told c.begins.new.host)
-          (g.H.Host.told c.carry_out.new.host) c.loop-place.links.items c.args.commands.items
+          (g.H.Host.told c.carry_out.new.host) c.loop-place.progress.links.items c.args.commands.items
           (into_iter_items c.loop-place.place-iterator.iter)
           (into_iter_items c.next.new.self.iter) c.in-Some.command c.loop-place.place-iterator.count c.in-Some.place
           c.loop-place.invariant.so_far items at c.begins.ensures.noted c.carry_out.ensures.standing
           (c.carry_out.ensures.handing (held_now c.args.commands.items (g.H.Host.told c.loop-place.host))
           c.loop-place.invariant.so_far.holds) c.loop-place.invariant.back;
       so_far = so_far_more (g.H.Host.told c.loop-place.host) (g.H.Host.told c.begins.new.host)
-          (g.H.Host.told c.carry_out.new.host) c.loop-place.links.items c.carry_out.new.links.items
+          (g.H.Host.told c.carry_out.new.host) c.loop-place.progress.links.items c.carry_out.new.progress.links.items
           c.args.commands.items (into_iter_items c.loop-place.place-iterator.iter)
           (into_iter_items c.next.new.self.iter) c.in-Some.command c.loop-place.place-iterator.count c.in-Some.place
           c.next.new.self.count c.loop-place.invariant.so_far at counts items c.begins.ensures.noted
           c.begins.ensures.ordered c.in_ok-carry_out.ensures.ordered c.carry_out.ensures.standing
-          c.carry_out.ensures.linked c.carry_out.ensures.holding;
+          c.in_ok-carry_out.ensures.leaves.linked c.carry_out.ensures.holding;
     }
 
 pub returns-in_err-carry_out-clause-begun : goal.returns-in_err-carry_out-clause-begun
@@ -78,7 +78,7 @@ returns-in_err-carry_out-clause-begun g c =
     ∷ into_iter_items c.next.new.self.iter = search rules in
     let at : c.in-Some.place ≡ c.loop-place.place-iterator.count = search rules in
     last_begun (g.H.Host.told c.loop-place.host) (g.H.Host.told c.begins.new.host)
-    (g.H.Host.told c.carry_out.new.host) c.loop-place.links.items c.args.commands.items
+    (g.H.Host.told c.carry_out.new.host) c.loop-place.progress.links.items c.args.commands.items
     (into_iter_items c.loop-place.place-iterator.iter)
     (into_iter_items c.next.new.self.iter) c.in-Some.command c.loop-place.place-iterator.count c.in-Some.place
     c.loop-place.invariant.so_far at items c.begins.ensures.ordered c.carry_out.ensures.begun
@@ -87,17 +87,17 @@ pub returns-in_err-carry_out-clause-shown : goal.returns-in_err-carry_out-clause
 returns-in_err-carry_out-clause-shown g c =
     let again : IsErrAnd c.from_residual.result (λ x. x ≡ c.in_err-carry_out.field-0.0) = search rules in
     handed_on g.H.Disk.Disk c.from_residual.result c.in_err-carry_out.field-0.0 c.args.commands.items
-    (g.H.Host.told c.carry_out.new.host) again c.in_err-carry_out.ensures.shown
+    (g.H.Host.told c.carry_out.new.host) again c.in_err-carry_out.ensures.leaves.shown
 
 pub returns-then-is_any_held-clause-shown : goal.returns-then-is_any_held-clause-shown
 returns-then-is_any_held-clause-shown g c =
     let none : into_iter_items c.loop-place.place-iterator.iter ≡ [] =
     nil_from_length (into_iter_items c.loop-place.place-iterator.iter)
     (sym c.loop-place.place-iterator.iter.rest.ok.0 ∙ c.in-None.ensures.steps.0.0) in
-    inr (left_held (g.H.Host.told c.loop-place.host) c.loop-place.links.items c.args.commands.items
+    inr (left_held (g.H.Host.told c.loop-place.host) c.loop-place.progress.links.items c.args.commands.items
     (into_iter_items c.loop-place.place-iterator.iter) c.loop-place.place-iterator.count none
     c.loop-place.invariant.so_far c.loop-place.invariant.linked
-    (λ f hold. some_held f c.loop-place.links.items (ap is_any_held (sym c.deref.ensures.value)
+    (λ f hold. some_held f c.loop-place.progress.links.items (ap is_any_held (sym c.deref.ensures.value)
     ∙ sym c.is_any_held.ensures ∙ c.if-is_any_held.true) hold))
 
 pub begins-requires : goal.begins-requires
@@ -106,21 +106,21 @@ begins-requires g c = ap (λ (r : Record). is_any_unsaved r.frames) c.loop-place
 
 pub returns-clause-settled : goal.returns-clause-settled
 returns-clause-settled g c =
-    settled_by (g.H.Host.told c.loop-place.host) c.loop-place.core c.loop-place.links.items
+    settled_by (g.H.Host.told c.loop-place.host) c.loop-place.progress.core c.loop-place.progress.links.items
     c.loop-place.invariant.told c.loop-place.invariant.linked c.loop-place.invariant.quiet
     c.loop-place.invariant.saved
     (ap is_any_held (sym c.deref.ensures.value) ∙ sym c.is_any_held.ensures ∙ c.if-is_any_held.false)
 
 pub returns-clause-released : goal.returns-clause-released
 returns-clause-released g c =
-    released_by c.args.commands.items (g.H.Host.told c.loop-place.host) c.loop-place.links.items
+    released_by c.args.commands.items (g.H.Host.told c.loop-place.host) c.loop-place.progress.links.items
     c.loop-place.invariant.linked c.loop-place.invariant.so_far.holds
     (ap is_any_held (sym c.deref.ensures.value) ∙ sym c.is_any_held.ensures ∙ c.if-is_any_held.false)
 
 pub carry_out-requires-clause-served : goal.carry_out-requires-clause-served
 carry_out-requires-clause-served g c =
     same_served (λ s. passed s (g.H.Host.told c.loop-place.host)) (λ s. passed s (g.H.Host.told c.begins.new.host))
-    c.loop-place.links.items c.begins.ensures.quiet c.loop-place.invariant.served
+    c.loop-place.progress.links.items c.begins.ensures.quiet c.loop-place.invariant.served
 
 pub carry_out-requires-clause-begins : goal.carry_out-requires-clause-begins
 carry_out-requires-clause-begins g c = record {
@@ -136,7 +136,7 @@ returns-in_err-carry_out-clause-begun_printed g c =
     let at : c.in-Some.place ≡ c.loop-place.place-iterator.count = search rules in
     let again : IsErrAnd c.from_residual.result (λ x. x ≡ c.in_err-carry_out.field-0.0) = search rules in
     lines_left g.H.Disk.Disk (g.H.Host.told c.loop-place.host) (g.H.Host.told c.begins.new.host)
-    (g.H.Host.told c.carry_out.new.host) c.loop-place.links.items c.args.commands.items
+    (g.H.Host.told c.carry_out.new.host) c.loop-place.progress.links.items c.args.commands.items
     (into_iter_items c.loop-place.place-iterator.iter)
     (into_iter_items c.next.new.self.iter) c.in-Some.command c.loop-place.place-iterator.count c.in-Some.place
     c.next.new.self.count (g.W.Write.contents c.args.writer.now) (g.W.Write.contents c.loop-place.writer)
@@ -152,7 +152,7 @@ returns-then-is_any_held-clause-begun_printed g c =
     (sym c.loop-place.place-iterator.iter.rest.ok.0 ∙ c.in-None.ensures.steps.0.0) in
     lines_held g.H.Disk.Disk c.args.commands.items (g.H.Host.told c.loop-place.host)
     (g.W.Write.contents c.args.writer.now) (g.W.Write.contents c.loop-place.writer)
-    (lines_all g.H.Disk.Disk c.loop-place.links.items (g.H.Host.told c.loop-place.host) c.args.commands.items
+    (lines_all g.H.Disk.Disk c.loop-place.progress.links.items (g.H.Host.told c.loop-place.host) c.args.commands.items
     (into_iter_items c.loop-place.place-iterator.iter) c.loop-place.place-iterator.count
     (g.W.Write.contents c.args.writer.now) (g.W.Write.contents c.loop-place.writer) none
     c.loop-place.invariant.so_far c.loop-place.invariant.lines)
@@ -162,7 +162,7 @@ returns-clause-printed g c =
     let none : into_iter_items c.loop-place.place-iterator.iter ≡ [] =
     nil_from_length (into_iter_items c.loop-place.place-iterator.iter)
     (sym c.loop-place.place-iterator.iter.rest.ok.0 ∙ c.in-None.ensures.steps.0.0) in
-    lines_all g.H.Disk.Disk c.loop-place.links.items (g.H.Host.told c.loop-place.host) c.args.commands.items
+    lines_all g.H.Disk.Disk c.loop-place.progress.links.items (g.H.Host.told c.loop-place.host) c.args.commands.items
     (into_iter_items c.loop-place.place-iterator.iter) c.loop-place.place-iterator.count
     (g.W.Write.contents c.args.writer.now) (g.W.Write.contents c.loop-place.writer) none
     c.loop-place.invariant.so_far c.loop-place.invariant.lines
@@ -173,7 +173,7 @@ returns-in_err-carry_out-clause-held_back g c =
     ∷ into_iter_items c.next.new.self.iter = search rules in
     let at : c.in-Some.place ≡ c.loop-place.place-iterator.count = search rules in
     back_more (g.H.Host.told c.loop-place.host) (g.H.Host.told c.begins.new.host)
-    (g.H.Host.told c.carry_out.new.host) c.loop-place.links.items c.args.commands.items
+    (g.H.Host.told c.carry_out.new.host) c.loop-place.progress.links.items c.args.commands.items
     (into_iter_items c.loop-place.place-iterator.iter)
     (into_iter_items c.next.new.self.iter) c.in-Some.command c.loop-place.place-iterator.count c.in-Some.place
     c.loop-place.invariant.so_far items at c.begins.ensures.noted c.carry_out.ensures.standing

@@ -11,14 +11,15 @@ use Rattle.script_run.proofs.script.carry_out_all.Given as goal
 
 abbrev pub invariant-loop-place : goal.invariant-loop-place
 invariant-loop-place g l = record {
-  told : IsTold g.H.Disk.Disk (g.H.Host.told l.host) l.core;
-  linked : AreLinked (g.H.Host.told l.host) l.links.items;
-  served : AreServed (g.H.Host.told l.host) l.links.items;
-  quiet : AreQuiet l.core.objects l.links.items;
-  saved : is_any_unsaved l.core.frames ≡ false;
+  told : IsTold g.H.Disk.Disk (g.H.Host.told l.host) l.progress.core;
+  linked : AreLinked (g.H.Host.told l.host) l.progress.links.items;
+  served : AreServed (g.H.Host.told l.host) l.progress.links.items;
+  quiet : AreQuiet l.progress.core.objects l.progress.links.items;
+  saved : is_any_unsaved l.progress.core.frames ≡ false;
   lines : HasLines g.H.Disk.Disk l.fn.commands.items l.place-iterator.count (g.H.Host.told l.host)
       (g.W.Write.contents l.fn.writer) (g.W.Write.contents l.writer);
   back : AreHeldBack l.fn.commands.items (g.H.Host.told l.host);
-  so_far : SoFar (g.H.Host.told l.host) l.links.items l.fn.commands.items (into_iter_items l.place-iterator.iter)
+  so_far : SoFar (g.H.Host.told l.host) l.progress.links.items l.fn.commands.items
+      (into_iter_items l.place-iterator.iter)
       l.place-iterator.count;
 }

@@ -2,6 +2,7 @@ use Rattle.std.proofs.Common.{◌≡◌, ap, false}
 use Rattle.container_model.specs.Record.{Record}
 use Rattle.script_model.specs.Errors.{before_ends, is_asked}
 use Rattle.script_model.specs.Saved.{is_any_unsaved}
+use Rattle.script_links.proofs.Going.{lawful_of}
 use Rattle.script_run.proofs.Faulted.{ended_so, unread_so}
 use Rattle.script_run.proofs.HeldBack.{back_ended, back_none}
 use Rattle.script_run.proofs.Holding.{released_still}
@@ -22,7 +23,7 @@ returns-clause-faulted g c =
 pub returns-clause-settled : goal.returns-clause-settled
 returns-clause-settled g c =
     settled_still c.carry_out_all-told.result (g.H.Host.told c.carry_out_all-told.new.host)
-    (g.H.Host.told c.end_all.new.host) c.carry_out_all-told.new.core c.carry_out_all-told.ensures.told
+    (g.H.Host.told c.end_all.new.host) c.carry_out_all-told.new.progress.core c.carry_out_all-told.ensures.told
     c.end_all.ensures.ends c.carry_out_all-told.ensures.settled
 
 pub carry_out_all-told-requires-clause-quiet : goal.carry_out_all-told-requires-clause-quiet
@@ -46,7 +47,7 @@ pub returns-clause-printed : goal.returns-clause-printed
 returns-clause-printed g c =
     all_ended g.H.Disk.Disk c.carry_out_all-told.result (g.R.Read.remaining c.args.reader.now)
     c.in-Ok.commands.items (g.H.Host.told c.carry_out_all-told.new.host) (g.H.Host.told c.end_all.new.host)
-    c.carry_out_all-told.new.core
+    c.carry_out_all-told.new.progress.core
     (g.W.Write.contents c.args.writer.now) (g.W.Write.contents c.carry_out_all-told.new.writer) c.in-Ok.ensures.read
     c.carry_out_all-told.ensures.told c.end_all.ensures.ends c.carry_out_all-told.ensures.printed
 
@@ -54,7 +55,7 @@ pub returns-clause-begun_printed : goal.returns-clause-begun_printed
 returns-clause-begun_printed g c =
     some_ended g.H.Disk.Disk c.carry_out_all-told.result (g.R.Read.remaining c.args.reader.now)
     c.in-Ok.commands.items (g.H.Host.told c.carry_out_all-told.new.host) (g.H.Host.told c.end_all.new.host)
-    c.carry_out_all-told.new.core
+    c.carry_out_all-told.new.progress.core
     (g.W.Write.contents c.args.writer.now) (g.W.Write.contents c.carry_out_all-told.new.writer) c.in-Ok.ensures.read
     c.carry_out_all-told.ensures.told c.end_all.ensures.ends
     (of_commands g.H.Disk.Disk c.carry_out_all-told.result c.in-Ok.commands.items
@@ -65,7 +66,7 @@ pub returns-clause-released : goal.returns-clause-released
 returns-clause-released g c =
     released_still c.carry_out_all-told.result (g.R.Read.remaining c.args.reader.now) c.in-Ok.commands.items
     (g.H.Host.told c.carry_out_all-told.new.host) (g.H.Host.told c.end_all.new.host)
-    c.carry_out_all-told.new.core c.in-Ok.ensures.read c.carry_out_all-told.ensures.told c.end_all.ensures.ends
+    c.carry_out_all-told.new.progress.core c.in-Ok.ensures.read c.carry_out_all-told.ensures.told c.end_all.ensures.ends
     c.carry_out_all-told.ensures.released
 
 pub returns-in-Err-clause-held_back : goal.returns-in-Err-clause-held_back
@@ -81,3 +82,7 @@ returns-clause-held_back g c =
     back_ended (g.R.Read.remaining c.args.reader.now) c.in-Ok.commands.items
     (g.H.Host.told c.carry_out_all-told.new.host) (g.H.Host.told c.end_all.new.host) c.in-Ok.ensures.read
     c.end_all.ensures.ends c.carry_out_all-told.ensures.held_back
+
+pub end_all-requires-clause-lawful : goal.end_all-requires-clause-lawful
+end_all-requires-clause-lawful g c = lawful_of g.H.Disk.Disk (g.H.Host.told c.carry_out_all-told.new.host)
+    c.carry_out_all-told.new.progress.core c.carry_out_all-told.ensures.told
