@@ -106,7 +106,6 @@ returns-in_err-made-clause-leaves g c =
     ends_on g.H.Disk.Disk c.from_residual-in_err-made.result c.in_err-made.field-0.0
     (g.H.Host.told c.reconnect_at.new.host) c.reconnect_at.new.progress again c.in_err-made.ensures.leaves
 
-
 pub returns-clause-handing : goal.returns-clause-handing
 unfolding turned
 returns-clause-handing g c = λ f. handing_of c.end_at.ensures.turning f ∙ c.reconnect_at.ensures.handing f

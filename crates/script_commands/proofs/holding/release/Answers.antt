@@ -85,20 +85,17 @@ pub returns-clause-paced : goal.returns-clause-paced
 unfolding turned
 returns-clause-paced g c = λ s. paced_of c.end_at.ensures.turning s ∙ c.hand_all.ensures.paced s
 
-
 pub returns-in_err-hand_all-clause-handing : goal.returns-in_err-hand_all-clause-handing
 returns-in_err-hand_all-clause-handing g c = λ f inc at free. handed_of (g.H.Host.told c.args.host.now)
     (g.H.Host.told c.hand_all.new.host) c.index.result.now.inc false c.hand_all.ensures.apart f
     (ap f (server_at c.args.progress.now.links.items c.args.place inc c.index.result.now c.requires.within
     c.index.ensures at) ∙ free)
 
-
 pub returns-then-branch-clause-handing : goal.returns-then-branch-clause-handing
 returns-then-branch-clause-handing g c = λ f inc at free. handed_of (g.H.Host.told c.args.host.now)
     (g.H.Host.told c.hand_all.new.host) c.index.result.now.inc false c.hand_all.ensures.apart f
     (ap f (server_at c.args.progress.now.links.items c.args.place inc c.index.result.now c.requires.within
     c.index.ensures at) ∙ free)
-
 
 pub returns-clause-handing : goal.returns-clause-handing
 unfolding turned
