@@ -24,6 +24,9 @@ maps a b o old new h few p w =
       t = q.0;
       few = few;
       written =
-          ∣ (d, subst (λ (x : model.Outline). Appends old new (mapped a d.layout d.used.sectors x)) q.1.outlined
-          (w a h q.0 d q.1.told)) ∣₁;
+          ∣ (
+            d,
+            subst (λ (x : model.Outline). Appends old new (mapped a d.layout d.used.sectors x)) q.1.outlined
+                (w a h q.0 d q.1.told),
+          ) ∣₁;
     }

@@ -1,10 +1,10 @@
 -- Counts and sums.
 use Rattle.std.proofs.Common.{◌≡◌, ◌<◌, ◌≤◌, ◌+◌, ◌-◌, ◌*◌, ◌^◌, ◌++◌, ◌∙◌, ℕ, Bool, true, false, cond}
-use Rattle.std.proofs.Common.{List, [], ◌∷◌, length, get_or, set, drop, min, map, nat_eq, refl, sym, ap, subst, arith}
+use Rattle.std.proofs.Common.{List, [], ◌∷◌, length, get_or, set, drop, min, nat_eq, refl, sym, ap, subst, arith}
 use Rattle.std.proofs.lemmas.Bool.{eqb-false, eqb-true}
 use Rattle.std.proofs.lemmas.List.{drop_all, drop_more, get_or-set_other, get_or-set_same}
 use Rattle.cfb_file.specs.Outline as model
-use Rattle.cfb_file.specs.Outline.{Outline, Parts, nested, outline, part, sized}
+use Rattle.cfb_file.specs.Outline.{Parts, nested, part, sized}
 use Rattle.read_outlines.specs.View.{outline_step, outline_view, part_step, part_view, parts_view}
 use Rattle.read_outlines.specs.declared.outline.Outline as raw
 use Rattle.read_outlines.specs.declared.outline.Outline.{fold_out-Outline}

@@ -8,7 +8,8 @@ use Rattle.cfb_chains.proofs.Chains.{leads_same}
 use Rattle.cfb_chains.proofs.Followed.{followed_chain}
 use Rattle.cfb_entries.specs.Entries.{first_of, kind, size_of}
 use Rattle.cfb_entries.specs.Tree.{Tree, Children, tree, none, stream, storage}
-use Rattle.cfb_file.specs.Denotes.{Holds, HoldsEach, Layout, Used, directory_of, entry, minis, sectors, store_for, taken}
+use Rattle.cfb_file.specs.Denotes.{Holds, HoldsEach, Layout, Used, directory_of, entry, minis, sectors, store_for}
+use Rattle.cfb_file.specs.Denotes.{taken}
 use Rattle.cfb_file.specs.Limits.{CUTOFF}
 use Rattle.read_outlines.specs.declared.outline.Outline.{Outline, fold_out-Outline}
 use Rattle.read_outlines.specs.declared.outline.Part.{Part, fold-roll-Part}

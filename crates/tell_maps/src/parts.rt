@@ -9,7 +9,7 @@ ghost use Rattle.read_streams.specs.Chains.{IsFatOf};
 ghost use Rattle.tell_maps.specs.Parts.{AreParts};
 ghost use Rattle.std.specs.Prelude.{◌≡◌, IfOk, List, Ok, ℕ};
 
-use crate::streams::{chain_of, all_sectors};
+use crate::streams::{all_sectors, chain_of};
 use cfb_header::header::Header;
 use read_chains::links::Links;
 use read_outlines::outline::Outline;
