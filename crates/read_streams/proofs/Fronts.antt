@@ -8,8 +8,7 @@ use Rattle.cfb_chains.specs.Chain.{END_OF_CHAIN, IsChainOf, Leads, Store}
 use Rattle.cfb_chains.specs.Fat.{followed}
 use Rattle.cfb_chains.proofs.Followed.{followed_step}
 use Rattle.cfb_file.specs.Denotes.{Layout, sectors}
-use Rattle.tell_maps.specs.Painting.{IsOver}
-use Rattle.read_streams.specs.Chains.{table_of}
+use Rattle.read_streams.specs.Chains.{IsFatOf, table_of}
 use Rattle.read_streams.proofs.Minis.{sector_width}
 
 module _ (s : Store) where
@@ -36,8 +35,8 @@ module _ (s : Store) where
 
 module _ (file : List ℕ) (l : Layout) where
   -- the FAT's entries, as they were read
-  pub table_over : (directory table : List ℕ) → IsOver file l directory table → table ≡ table_of (sectors file l)
-  table_over directory table o =
+  pub table_over : (table : List ℕ) → IsFatOf file l table → table ≡ table_of (sectors file l)
+  table_over table o =
       fill_by_all (sectors file l).next table (sectors file l).count 0 o.count
       (λ k lt. o.next k (subst (λ (n : ℕ). k < n) (sym o.count) lt))
 
@@ -52,9 +51,9 @@ module _ (file : List ℕ) (l : Layout) where
       (λ j d lt. (chain.present j d lt).1) (omega (arith, room))
 
   -- the same by the FAT's entries, as they were read
-  pub front_read : (directory table : List ℕ) → IsOver file l directory table → (first size : ℕ) (ns : List ℕ)
+  pub front_read : (table : List ℕ) → IsFatOf file l table → (first size : ℕ) (ns : List ℕ)
       → IsChainOf (sectors file l) first size ns
       → (count : ℕ) → count ≡ (size + 511) / 512 → followed table count first ≡ take ((size + 511) / 512) ns
-  front_read directory table o first size ns chain count e =
-      ap (λ n. followed table n first) e ∙ ap (λ xs. followed xs ((size + 511) / 512) first)
-      (table_over directory table o) ∙ chain_followed first size ns chain
+  front_read table o first size ns chain count e =
+      ap (λ n. followed table n first) e ∙ ap (λ xs. followed xs ((size + 511) / 512) first) (table_over table o)
+      ∙ chain_followed first size ns chain

@@ -29,9 +29,8 @@ use Rattle.read_outlines.proofs.Outlines.{shown-nested, shown-out, shown-stream}
 use Rattle.read_outlines.specs.Places as told
 use Rattle.read_outlines.specs.Places.{AreInOrder, AreTold, IsPartTold, IsPlaced, IsTold}
 use Rattle.read_outlines.proofs.Told.{view_nested}
-use Rattle.tell_maps.specs.Painting.{IsOver}
 use Rattle.read_streams.specs.Blocks.{held_at, stream_sectors}
-use Rattle.read_streams.specs.Chains.{begins_at, table_of, walked}
+use Rattle.read_streams.specs.Chains.{IsFatOf, begins_at, table_of, walked}
 use Rattle.read_streams.specs.Tables.{AreTablesOf, read_by}
 use Rattle.read_streams.specs.declared.tables.Tables.{Tables}
 use Rattle.read_streams.proofs.Fronts.{chain_followed, table_over}
@@ -61,20 +60,21 @@ pub view_out : (o : Outline) → outline_view o ≡ outline o.class o.state (par
 view_out o = fold_out-Outline model.Part model.Outline part_step outline_step o
 
 -- ---- an outline that tells of a directory's entries, and the tree that these hold
+-- the entries that it tells of are the children
+pub ids_same : (file : List ℕ) (l : Layout) (id : ℕ) (ids ids' : List ℕ) → AreInOrder (directory_of file l) id ids
+    → AreChildren file l id ids' → ids ≡ ids'
+ids_same file l id ids ids' h i =
+    let top : ℕ = child (entry file l id) in
+    let e : h.reached ≡ i.reached = linked_unique (directory_of file l) top top h.reached i.reached refl h.linked
+    i.linked in
+    let P : ℕ → List ℕ → Type 0 = λ z xs. Contains xs z in
+    sorted_unique (λ n. key (name_of (entry file l n))) key_cmp nat_list_cmp_total ids ids' h.ordered i.ordered
+    (λ z c. (i.same z).0 (subst (P z) e ((h.same z).1 c)))
+    (λ z c. (h.same z).0 (subst (P z) (sym e) ((i.same z).1 c)))
+
 module _ (file : List ℕ) (l : Layout) (content : Place → List ℕ)
     (at : (place : Place) (ns : List ℕ) → IsChainOf (store_for file l place.size) place.first place.size ns
     → content place ≡ take place.size (joined (store_for file l place.size).piece ns)) where
-  ids_same : (id : ℕ) (ids ids' : List ℕ) → AreInOrder (directory_of file l) id ids → AreChildren file l id ids'
-      → ids ≡ ids'
-  ids_same id ids ids' h i =
-      let top : ℕ = child (entry file l id) in
-      let e : h.reached ≡ i.reached = linked_unique (directory_of file l) top top h.reached i.reached refl h.linked
-      i.linked in
-      let P : ℕ → List ℕ → Type 0 = λ z xs. Contains xs z in
-      sorted_unique (λ n. key (name_of (entry file l n))) key_cmp nat_list_cmp_total ids ids' h.ordered i.ordered
-      (λ z c. (i.same z).0 (subst (P z) e ((h.same z).1 c)))
-      (λ z c. (h.same z).0 (subst (P z) (sym e) ((i.same z).1 c)))
-
   stream_shown : (id : ℕ) (p : Part) (b ns : List ℕ) → IsPartTold (directory_of file l) id p
       → kind (entry file l id) ≡ 2 → HoldsBytes file l id ns b → shown_part content p ≡ bytes b
   stream_shown id p b ns (told.lies x place k f s) two h =
@@ -92,7 +92,7 @@ module _ (file : List ℕ) (l : Layout) (content : Place → List ℕ)
     storage_shown : (id : ℕ) (o : Outline) (t : Tree) (u : Used) → IsTold (directory_of file l) id o
         → outline_view o ≡ outline_of t → Holds file l id t u → shown content o ≡ t
     storage_shown id o (tree class state cs) u (told.storage x y ids order each) view h =
-        let same : ids ≡ h.2.0 = ids_same id ids h.2.0 order h.2.1 in
+        let same : ids ≡ h.2.0 = ids_same file l id ids h.2.0 order h.2.1 in
         let v : outline o.class o.state (parts_view o.parts.items) ≡ outline class state (outlines_of cs) =
         sym (view_out o) ∙ view in
         let c : o.class ≡ class = cc in
@@ -184,13 +184,13 @@ module _ (file : List ℕ) (l : Layout) (place : Place) where
       → take place.size (joined (block 64 file) places) ≡ held_at file l place
   short_lies places short is = ap (λ xs. take place.size (joined (block 64 file) xs)) is ∙ ap by_test (sym short)
 
-  pub long_lies : (table ns : List ℕ) → IsOver file l (directory_of file l) table → nat_lt place.size CUTOFF ≡ false
+  pub long_lies : (table ns : List ℕ) → IsFatOf file l table → nat_lt place.size CUTOFF ≡ false
       → ns ≡ followed table ((place.size + 511) / 512) place.first
       → take place.size (joined (sector file) ns) ≡ held_at file l place
   long_lies table ns o long is =
       ap (λ xs. take place.size (joined (sector file) xs))
       (is ∙ ap (λ xs. followed xs ((place.size + 511) / 512) place.first)
-      (table_over file l (directory_of file l) table o))
+      (table_over file l table o))
       ∙ ap by_test (sym long)
 
 -- the tree that a file denotes is shown by its outline
@@ -217,7 +217,7 @@ module _ (file : List ℕ) (l : Layout) (tables : Tables) (are : AreTablesOf fil
       ∙ sym (short_read file l laid first size ns chain)
   read_held laid false first size ns chain =
       ap (λ xs. take size (joined (sector file) (followed xs ((size + 511) / 512) first)))
-      (table_over file l (directory_of file l) tables.fat.items are.over)
+      (table_over file l tables.fat.items are.fat)
       ∙ long_held file l first size ns chain
 
 -- the same tree is shown by its outline, each stream what is read by the file's tables

@@ -1,8 +1,15 @@
 -- Sectors and mini sectors that follow one another.
-use Rattle.std.specs.Prelude.{◌+◌, ◌*◌, ◌/◌, ◌%◌, ℕ, zero, suc, List, [], ◌∷◌, length, map, nat_lt, if◌then◌else◌}
-use Rattle.std.specs.Prelude.{slice_index}
+use Rattle.std.specs.Prelude.{◌≡◌, ◌<◌, ◌≤◌, ◌+◌, ◌*◌, ◌/◌, ◌%◌, ℕ, zero, suc, List, [], ◌∷◌, length, map, nat_lt}
+use Rattle.std.specs.Prelude.{if◌then◌else◌, slice_index}
 use Rattle.std.specs.List.{range_with_len}
-use Rattle.cfb_chains.specs.Chain.{Store}
+use Rattle.cfb_chains.specs.Chain.{END_OF_CHAIN, Store}
+use Rattle.cfb_file.specs.Denotes.{Layout, sectors}
+
+-- the FAT's entries of a file whose parts lie so
+pub record IsFatOf (file : List ℕ) (l : Layout) (table : List ℕ) : Type 0 where
+  pub few : length table ≤ END_OF_CHAIN
+  pub count : length table ≡ (sectors file l).count
+  pub next : (n : ℕ) → n < length table → slice_index table n ≡ (sectors file l).next n
 
 -- what follows each sector of a store, as a table
 abbrev pub table_of : Store → List ℕ

@@ -3,12 +3,11 @@ use Rattle.std.specs.Prelude.{◌≡◌, ◌+◌, ◌*◌, ◌/◌, ℕ, List, i
 use Rattle.cfb_bytes.specs.Bytes.{block}
 use Rattle.cfb_chains.specs.Fat.{followed}
 use Rattle.cfb_header.specs.Bytes.{joined, sector, u32_at}
-use Rattle.cfb_file.specs.Denotes.{Layout, directory_of, minis}
+use Rattle.cfb_file.specs.Denotes.{Layout, minis}
 use Rattle.cfb_file.specs.Limits.{CUTOFF}
 use Rattle.read_outlines.specs.declared.outline.Place.{Place}
-use Rattle.tell_maps.specs.Painting.{IsOver}
 use Rattle.read_streams.specs.Blocks.{stream_sectors}
-use Rattle.read_streams.specs.Chains.{walked}
+use Rattle.read_streams.specs.Chains.{IsFatOf, walked}
 use Rattle.read_streams.specs.declared.tables.Tables.{Tables}
 
 -- the mini sectors of a stream, given the bytes of the mini stream and of the mini FAT
@@ -26,6 +25,6 @@ read_by file tables place = take place.size (
 
 -- the tables of a file whose own parts lie so
 pub record AreTablesOf (file : List ℕ) (l : Layout) (tables : Tables) : Type 0 where
-  pub over : IsOver file l (directory_of file l) tables.fat.items
+  pub fat : IsFatOf file l tables.fat.items
   pub next : (λ (n : ℕ). u32_at tables.mini_fat.items (4 * n)) ≡ (minis file l).next
   pub stream : tables.mini_stream.items ≡ stream_sectors file l

@@ -4,12 +4,11 @@ ghost use Rattle.cfb_entries.specs.Entries.{first_of, size_of};
 ghost use Rattle.cfb_header.specs.Bytes.{joined, sector, u32_at};
 ghost use Rattle.cfb_header.specs.Header.{header_read};
 ghost use Rattle.cfb_file.specs.Alike.{Alike};
-ghost use Rattle.cfb_file.specs.Denotes.{Denotes, directory_of, minis, root_of};
-ghost use Rattle.tell_maps.specs.Painting.{IsOver};
+ghost use Rattle.cfb_file.specs.Denotes.{Denotes, minis, root_of};
 ghost use Rattle.std.specs.Prelude.{◌*◌, ◌+◌, ◌/◌, ◌≡◌, IfOk, List, Ok, length, map, ℕ};
 ghost use Rattle.cfb_entries.specs.Tree.{Tree};
 ghost use Rattle.read_streams.specs.Blocks.{held_at, held_in, stream_sectors};
-ghost use Rattle.read_streams.specs.Chains.{begins_at, walked};
+ghost use Rattle.read_streams.specs.Chains.{IsFatOf, begins_at, walked};
 
 use crate::chains::{follow, follow_minis, join, mini_places, number};
 use cfb_header::header::Header;
@@ -49,8 +48,9 @@ pub fn count_sectors(place: Place) -> usize
     (place.size as usize + 511) / 512
 }
 
-/// Where the mini stream lies, by the root's entry, which the directory's first sector has.
-fn root_place(alloc: Global, header: &Header, file: &Places) -> Result<Place, AllocError>
+/// Where the mini stream lies, by the root's entry, which the directory's first sector has: in each file that has the
+/// same bytes in the blocks that its listing needs, and denotes a tree.
+pub fn root_place(alloc: Global, header: &Header, file: &Places) -> Result<Place, AllocError>
     requires read { header_read file.now ≡ Ok header.now }
     ensures first { IfOk result (λ p. (a : List ℕ) → Alike a file.now → (t : Tree) → (d : Denotes a t)
         → p.first ≡ first_of (root_of a d.layout)) }
@@ -72,7 +72,7 @@ pub(crate) fn mini_stream_sectors(
 ) -> Result<Vec<u32>, AllocError>
     requires read { header_read file.now ≡ Ok header.now }
     ensures found { IfOk result (λ v. (a : List ℕ) → Alike a file.now → (t : Tree) → (d : Denotes a t)
-        → IsOver a d.layout (directory_of a d.layout) table.now
+        → IsFatOf a d.layout table.now
         → v.items ≡ stream_sectors a d.layout) }
 {
     let root = root_place(alloc, header, file)?;
@@ -89,7 +89,7 @@ fn mini_fat_sectors(
 ) -> Result<Vec<u32>, AllocError>
     requires read { header_read file.now ≡ Ok header.now }
     ensures next { IfOk result (λ v. (a : List ℕ) → Alike a file.now → (t : Tree) → (d : Denotes a t)
-        → IsOver a d.layout (directory_of a d.layout) table.now
+        → IsFatOf a d.layout table.now
         → (λ (n : ℕ). u32_at (joined (sector file.now) v.items) (4 * n)) ≡ (minis a d.layout).next) }
 {
     let count = header.mini_fat_count() as usize;
@@ -106,7 +106,7 @@ pub(crate) fn mini_fat_bytes(
 ) -> Result<Vec<u8>, AllocError>
     requires read { header_read file.now ≡ Ok header.now }
     ensures next { IfOk result (λ v. (a : List ℕ) → Alike a file.now → (t : Tree) → (d : Denotes a t)
-        → IsOver a d.layout (directory_of a d.layout) table.now
+        → IsFatOf a d.layout table.now
         → (λ (n : ℕ). u32_at v.items (4 * n)) ≡ (minis a d.layout).next) }
     ensures whole { IfOk result (λ v. (m : ℕ) × (length v.items ≡ 4 * m)) }
 {
@@ -151,7 +151,7 @@ fn short_blocks(
 ) -> Result<Vec<usize>, AllocError>
     requires read { header_read file.now ≡ Ok header.now }
     ensures found { IfOk result (λ v. (a : List ℕ) → Alike a file.now → (t : Tree) → (d : Denotes a t)
-        → IsOver a d.layout (directory_of a d.layout) table.now
+        → IsFatOf a d.layout table.now
         → v.items ≡ map (begins_at (stream_sectors a d.layout))
         (walked (minis a d.layout).next place.first ((place.size + 63) / 64))) }
 {
@@ -166,8 +166,8 @@ fn short_blocks(
 /// file that has the same bytes in those blocks.
 fn fat_links<'a>(alloc: Global, header: &Header, file: &'a Places) -> Result<Links<'a>, AllocError>
     requires read { header_read file.now ≡ Ok header.now }
-    ensures over { IfOk result (λ l. (a : List ℕ) → Alike a file.now → (t : Tree) → (d : Denotes a t)
-        → IsOver a d.layout (directory_of a d.layout) l) }
+    ensures fat { IfOk result (λ l. (a : List ℕ) → Alike a file.now → (t : Tree) → (d : Denotes a t)
+        → IsFatOf a d.layout l) }
 {
     let image = Image::Placed(file);
     let own = fat_sectors(alloc, header, &image)?;
@@ -182,8 +182,8 @@ pub(crate) fn fat_entries(
     file: &Places,
 ) -> Result<Vec<u32>, AllocError>
     requires read { header_read file.now ≡ Ok header.now }
-    ensures over { IfOk result (λ v. (a : List ℕ) → Alike a file.now → (t : Tree) → (d : Denotes a t)
-        → IsOver a d.layout (directory_of a d.layout) v.items) }
+    ensures fat { IfOk result (λ v. (a : List ℕ) → Alike a file.now → (t : Tree) → (d : Denotes a t)
+        → IsFatOf a d.layout v.items) }
 {
     let image = Image::Placed(file);
     let own = fat_sectors(alloc, header, &image)?;

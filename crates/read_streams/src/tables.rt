@@ -3,11 +3,11 @@
 ghost use Rattle.cfb_header.specs.Bytes.{u32_at};
 ghost use Rattle.cfb_header.specs.Header.{header_read};
 ghost use Rattle.cfb_file.specs.Alike.{Alike};
-ghost use Rattle.cfb_file.specs.Denotes.{Denotes, directory_of, minis};
-ghost use Rattle.tell_maps.specs.Painting.{IsOver};
+ghost use Rattle.cfb_file.specs.Denotes.{Denotes, minis};
 ghost use Rattle.std.specs.Prelude.{◌*◌, ◌≡◌, IfOk, List, Ok, length, ℕ};
 ghost use Rattle.cfb_entries.specs.Tree.{Tree};
 ghost use Rattle.read_streams.specs.Blocks.{stream_sectors};
+ghost use Rattle.read_streams.specs.Chains.{IsFatOf};
 ghost use Rattle.read_streams.specs.Tables.{AreTablesOf};
 
 use crate::blocks::{fat_entries, mini_fat_bytes, mini_stream_sectors};
@@ -38,11 +38,11 @@ fn minis_of(
 ) -> Result<(Vec<u8>, Vec<u32>), AllocError>
     requires read { header_read file.now ≡ Ok header.now }
     ensures next { IfOk result (λ r. (a : List ℕ) → Alike a file.now → (t : Tree) → (d : Denotes a t)
-        → IsOver a d.layout (directory_of a d.layout) fat.now
+        → IsFatOf a d.layout fat.now
         → (λ (n : ℕ). u32_at r.0.items (4 * n)) ≡ (minis a d.layout).next) }
     ensures whole { IfOk result (λ r. (m : ℕ) × (length r.0.items ≡ 4 * m)) }
     ensures stream { IfOk result (λ r. (a : List ℕ) → Alike a file.now → (t : Tree) → (d : Denotes a t)
-        → IsOver a d.layout (directory_of a d.layout) fat.now
+        → IsFatOf a d.layout fat.now
         → r.1.items ≡ stream_sectors a d.layout) }
 {
     let links = Links::lent(fat);

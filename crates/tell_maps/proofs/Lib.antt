@@ -1,8 +1,7 @@
 pub mod Cells
-pub mod Chains
+pub mod Told
 pub mod Sums
 pub mod Rows
-pub mod Walk
 pub mod Results
-pub mod Layouts
-pub mod There
+pub mod Found
+pub mod Painted

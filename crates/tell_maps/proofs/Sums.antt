@@ -1,10 +1,10 @@
 -- Counts and sums.
-use Rattle.std.proofs.Common.{◌≡◌, ◌≢◌, ◌<◌, ◌≤◌, ◌+◌, ◌-◌, ◌*◌, ◌^◌, ◌++◌, ◌∙◌, ℕ, zero, suc, Bool, true, false, cond}
-use Rattle.std.proofs.Common.{List, [], ◌∷◌, length, get_or, set, drop, min, map, nat_eq, refl, sym, ap, subst, arith}
+use Rattle.std.proofs.Common.{◌≡◌, ◌<◌, ◌≤◌, ◌+◌, ◌-◌, ◌*◌, ◌^◌, ◌++◌, ◌∙◌, ℕ, Bool, true, false, cond}
+use Rattle.std.proofs.Common.{List, [], ◌∷◌, length, get_or, set, drop, min, nat_eq, refl, sym, ap, subst, arith}
 use Rattle.std.proofs.lemmas.Bool.{eqb-false, eqb-true}
 use Rattle.std.proofs.lemmas.List.{drop_all, drop_more, get_or-set_other, get_or-set_same}
 use Rattle.cfb_file.specs.Outline as model
-use Rattle.cfb_file.specs.Outline.{Outline, Parts, nested, outline, part, sized}
+use Rattle.cfb_file.specs.Outline.{Parts, nested, part, sized}
 use Rattle.read_outlines.specs.View.{outline_step, outline_view, part_step, part_view, parts_view}
 use Rattle.read_outlines.specs.declared.outline.Outline as raw
 use Rattle.read_outlines.specs.declared.outline.Outline.{fold_out-Outline}
@@ -13,10 +13,6 @@ use Rattle.std.specs.Prelude.{codes}
 use Rattle.tell_maps.specs.Maps.{BEYOND, FREE, LAST, MINI_STREAM, STREAM, behind, count_of, legend, map_text, said}
 use Rattle.tell_maps.specs.Maps.{sizes, sizes_of, table}
 use Rattle.tell_maps.specs.Sizes.{MOST, part_size}
-
-pub positive : (n : ℕ) → n ≢ 0 → 0 < n
-positive zero h = absurd (h refl)
-positive (suc n) h = omega arith
 
 -- ---- counts
 pub count_step : (mark : ℕ) (cs : List ℕ) (i count x one : ℕ) → i < length cs → x ≡ get_or cs i 0
@@ -141,7 +137,7 @@ sized_end o k total items same all le h =
 least_behind : (most k n : ℕ) → 512 * k ≤ most → 512 * k - min most n ≡ 512 * k - n
 least_behind most k n le = omega (arith, le)
 
-pub behind_same : (cs : List ℕ) (n : ℕ) → length cs ≤ 2 ^ 54 → behind cs (min MOST n) ≡ behind cs n
+pub behind_same : (cs : List ℕ) (n : ℕ) → length cs < 2 ^ 55 → behind cs (min MOST n) ≡ behind cs n
 behind_same cs n few =
     let a : count_of STREAM cs + count_of LAST cs + count_of MINI_STREAM cs ≤ length cs = three_few cs in
     least_behind MOST (count_of STREAM cs + count_of LAST cs + count_of MINI_STREAM cs) n (omega (arith, a, few))
@@ -154,6 +150,6 @@ text_with cs n = table cs
     ++ (said (codes ", past the FAT ") (512 * count_of BEYOND cs) ++ 10 ∷ []))))
 
 pub told : (cs seen text : List ℕ) (n bytes : ℕ) → text ≡ map_text seen bytes → seen ≡ cs → bytes ≡ min MOST n
-    → length seen ≤ 2 ^ 54 → text ≡ map_text cs n
+    → length seen < 2 ^ 55 → text ≡ map_text cs n
 told cs seen text n bytes is same sum few =
     is ∙ ap (map_text seen) sum ∙ ap (text_with seen) (behind_same seen n few) ∙ ap (λ xs. map_text xs n) same

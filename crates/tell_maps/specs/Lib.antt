@@ -1,5 +1,5 @@
 pub mod Maps
 pub mod Painting
 pub mod Sizes
-pub mod There
-pub mod Faults
+pub mod Streams
+pub mod Parts

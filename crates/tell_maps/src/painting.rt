@@ -6,6 +6,7 @@ ghost use Rattle.cfb_chains.specs.Chain.{END_OF_CHAIN};
 ghost use Rattle.std.specs.Prelude.{◌<◌, ◌≡◌, cond, length, nat_eq, slice_index, ℕ};
 
 use cfb_header::header::END_OF_CHAIN;
+use read_chains::links::Links;
 
 /// The characters.
 pub(crate) const FAT: u8 = b'F';
@@ -57,7 +58,7 @@ fn mark_of(next: u32) -> u8
 }
 
 /// Paints a sector of a stream.
-fn put_stream(cells: &mut Vec<u8>, table: &[u32], n: u32)
+fn put_stream(cells: &mut Vec<u8>, table: &Links<'_>, n: u32)
     requires same { length table.now ≡ length cells.old.items }
     ensures len { length cells.new.items ≡ length cells.old.items }
     ensures each { (k : ℕ) → k < length cells.old.items → slice_index cells.new.items k
@@ -66,12 +67,12 @@ fn put_stream(cells: &mut Vec<u8>, table: &[u32], n: u32)
 {
     let at = n as usize;
     if at < table.len() {
-        cells[at] = mark_of(table[at]);
+        cells[at] = mark_of(table.entry(at));
     }
 }
 
 /// Paints sectors of streams, each by its entry in the FAT.
-pub(crate) fn paint_stream(cells: &mut Vec<u8>, table: &[u32], sectors: &[u32])
+pub(crate) fn paint_stream(cells: &mut Vec<u8>, table: &Links<'_>, sectors: &[u32])
     requires same { length table.now ≡ length cells.old.items }
     ensures len { length cells.new.items ≡ length cells.old.items }
     ensures each { Paints (λ n. cond (nat_eq (slice_index table.now n) END_OF_CHAIN) maps.LAST maps.STREAM)

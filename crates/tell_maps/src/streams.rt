@@ -1,162 +1,94 @@
-//! The sectors of streams, found from the directory's root on.
+//! The sectors of the streams of an outline.
 
-ghost use Rattle.cfb_chains.specs.Chain.{IsChainOf, AreDistinct};
-ghost use Rattle.cfb_file.specs.Denotes.{Holds, Layout, Used, entry, root_of, store_for, sectors, taken};
-ghost use Rattle.cfb_entries.specs.Entries.{first_of, size_of, kind};
-ghost use Rattle.tell_maps.specs.Maps.{stream_mark};
-ghost use Rattle.tell_maps.specs.Painting.{IsOver, Paints, PaintsBoth, PaintsEntry, PaintsStorage};
-ghost use Rattle.tell_maps.specs.There.{IsEntryThere, IsStorageThere, Owns, OwnsBelow};
-ghost use Rattle.tell_maps.specs.declared.fault.MapFault.TheVariants.{NoMemory};
-ghost use Rattle.cfb_entries.specs.Tree.{Children, Tree};
-ghost use Rattle.cfb_entries.specs.Whole.{IsTree};
-ghost use Rattle.std.specs.List.{Contains};
-ghost use Rattle.std.specs.Prelude.{◌≡◌, ◌∷◌, IfErr, IfOk, List, OnOk, length, slice_index_or, true, ℕ};
+ghost use Rattle.tell_maps.specs.Streams.{chained, outline_sectors, part_sectors, place_sectors};
+ghost use Rattle.std.specs.Prelude.{◌++◌, ◌≡◌, IfOk, OnOk};
 
-use crate::fault::MapFault;
-use crate::painting::{MINI_STREAM, paint, paint_stream};
-use read_chains::table::chain_from;
-use read_directories::entries::{Entries, EntryKind};
-use read_outlines::outline::{Place, is_short};
+use read_chains::links::Links;
+use read_outlines::outline::{Outline, Part, Place, is_short};
+use read_streams::chains::follow;
 use std::alloc::{AllocError, Global};
-
-/// How many storages may stand inside one another below the root.
-const DEEPEST: u32 = 32;
 
 /// The sectors of the chain that begins with one, or none where it is to hold nothing.
 pub(crate) fn chain_of(
     alloc: Global,
-    table: &[u32],
+    table: &Links<'_>,
     start: u32,
     bytes: usize,
 ) -> Result<Vec<u32>, AllocError>
-    ensures { IfOk result (λ v. (file : List ℕ) → (l : Layout) → (directory : List ℕ)
-        → IsOver file l directory table.now → (ns : List ℕ) → IsChainOf (sectors file l) start bytes ns
-        → v.items ≡ ns) }
+    ensures { IfOk result (λ v. v.items ≡ chained table.now start bytes) }
 {
     if bytes == 0 {
         return Ok(Vec::new(alloc));
     }
-    chain_from(alloc, table, start)
+    follow(alloc, table, start, table.len())
 }
 
-/// Paints the sectors of the stream that lies at a place.
-fn paint_at(
-    alloc: Global,
-    table: &[u32],
-    cells: &mut Vec<u8>,
-    place: Place,
-) -> Result<(), AllocError>
-    requires same { length table.now ≡ length cells.old.items }
-    ensures len { length cells.new.items ≡ length cells.old.items }
-    ensures painted { OnOk result ((file : List ℕ) → (l : Layout) → (directory : List ℕ)
-        → IsOver file l directory table.now → (id : ℕ) → (ns : List ℕ)
-        → IsChainOf (store_for file l place.size) place.first place.size ns
-        → Paints (stream_mark file l) (taken id place.size ns).sectors cells.old.items cells.new.items) }
+/// The sectors of the stream at a place: none of its own where it lies in mini sectors.
+fn sectors_at(alloc: Global, table: &Links<'_>, place: Place) -> Result<Vec<u32>, AllocError>
+    ensures { IfOk result (λ v. v.items ≡ place_sectors table.now place.first place.size) }
 {
     if is_short(place) {
-        return Ok(());
+        return Ok(Vec::new(alloc));
     }
-    let sectors = chain_from(alloc, table, place.first)?;
-    paint_stream(cells, table, &sectors);
+    chain_of(alloc, table, place.first, place.size as usize)
+}
+
+/// Puts the sectors of the stream at a place behind others.
+fn push_stream(
+    alloc: Global,
+    table: &Links<'_>,
+    place: Place,
+    sectors: &mut Vec<u32>,
+) -> Result<(), AllocError>
+    ensures { OnOk result (sectors.new.items ≡ sectors.old.items
+        ++ place_sectors table.now place.first place.size) }
+{
+    let found = sectors_at(alloc, table, place)?;
+    sectors.extend_from_slice(&found)?;
     Ok(())
 }
 
-/// Paints the sectors of the streams below a storage, which may have so many levels below it. All entries below it are
-/// marked.
-///
-/// Refused: for want of memory alone, where the storage is there and none of its entries was met.
-#[cycle(walking)]
-fn paint_below(
+/// Puts the sectors of the streams below a storage behind others.
+#[cycle(gathering)]
+fn push_below(
     alloc: Global,
-    entries: &mut Entries<'_>,
-    table: &[u32],
-    cells: &mut Vec<u8>,
-    id: u32,
-    depth: u32,
-) -> Result<(), MapFault>
-    requires same { length table.now ≡ length cells.old.items }
-    ensures len { length cells.new.items ≡ length cells.old.items }
-    ensures directory { entries.new.directory ≡ entries.old.directory }
-    ensures painted { OnOk result ((file : List ℕ) → (l : Layout) → IsOver file l entries.old.directory table.now
-        → PaintsStorage file l id cells.old.items cells.new.items) }
-    ensures met { OnOk result ((file : List ℕ) → (l : Layout) → IsOver file l entries.old.directory table.now
-        → (cs : Children) → (used : Used) → Owns file l id cs used
-        → (n : ℕ) → (Contains used.ids n → ⊥) → slice_index_or entries.new.used n true
-        ≡ slice_index_or entries.old.used n true) }
-    ensures there { (file : List ℕ) → (l : Layout) → IsOver file l entries.old.directory table.now
-        → IsStorageThere file l entries.old depth id → IfErr result (λ e. e ≡ NoMemory) }
+    table: &Links<'_>,
+    outline: &Outline,
+    sectors: &mut Vec<u32>,
+) -> Result<(), AllocError>
+    ensures { OnOk result (sectors.new.items ≡ sectors.old.items ++ outline_sectors table.now outline.now) }
 {
-    let ids = entries.children(alloc, id)?;
-    for child in &ids {
-        paint_entry(alloc, entries, table, cells, *child, depth)?;
+    for part in &outline.parts {
+        push_part(alloc, table, &part.1, sectors)?;
     }
     Ok(())
 }
 
-/// Paints the sectors of an entry: a stream's, or those of the streams below a storage.
-///
-/// Refused: likewise.
-#[cycle(walking)]
-fn paint_entry(
+/// Puts the sectors of a part's streams behind others.
+#[cycle(gathering)]
+fn push_part(
     alloc: Global,
-    entries: &mut Entries<'_>,
-    table: &[u32],
-    cells: &mut Vec<u8>,
-    id: u32,
-    depth: u32,
-) -> Result<(), MapFault>
-    requires same { length table.now ≡ length cells.old.items }
-    ensures len { length cells.new.items ≡ length cells.old.items }
-    ensures directory { entries.new.directory ≡ entries.old.directory }
-    ensures painted { OnOk result ((file : List ℕ) → (l : Layout) → IsOver file l entries.old.directory table.now
-        → PaintsEntry file l id cells.old.items cells.new.items) }
-    ensures met { OnOk result ((file : List ℕ) → (l : Layout) → IsOver file l entries.old.directory table.now
-        → (ns : List ℕ) → OwnsBelow file l id ns
-        → (n : ℕ) → (Contains ns n → ⊥) → slice_index_or entries.new.used n true
-        ≡ slice_index_or entries.old.used n true) }
-    ensures there { (file : List ℕ) → (l : Layout) → IsOver file l entries.old.directory table.now
-        → IsEntryThere file l entries.old depth id → IfErr result (λ e. e ≡ NoMemory) }
+    table: &Links<'_>,
+    part: &Part,
+    sectors: &mut Vec<u32>,
+) -> Result<(), AllocError>
+    ensures { OnOk result (sectors.new.items ≡ sectors.old.items ++ part_sectors table.now part.now) }
 {
-    let entry = entries.entry(id)?;
-    match entry.kind {
-        EntryKind::Stream => {
-            let place = Place {
-                first: entry.first,
-                size: entry.size,
-            };
-            paint_at(alloc, table, cells, place)?;
-            Ok(())
-        }
-        _ => {
-            if depth == 0 {
-                return Err(MapFault::NoTree);
-            }
-            paint_below(alloc, entries, table, cells, id, depth - 1)
-        }
+    match part {
+        Part::Stream(place) => push_stream(alloc, table, *place, sectors),
+        Part::Storage(inner) => push_below(alloc, table, inner, sectors),
     }
 }
 
-/// Paints the sectors of the mini stream and of all streams of a directory.
-///
-/// Refused: for want of memory alone, where the directory holds a tree.
-pub(crate) fn paint_streams(
+/// The sectors of all streams of an outline, one stream behind the other.
+pub(crate) fn all_sectors(
     alloc: Global,
-    directory: &[u8],
-    table: &[u32],
-    cells: &mut Vec<u8>,
-) -> Result<(), MapFault>
-    requires same { length table.now ≡ length cells.old.items }
-    ensures len { length cells.new.items ≡ length cells.old.items }
-    ensures painted { OnOk result ((file : List ℕ) → (l : Layout) → IsOver file l directory.now table.now
-        → IsChainOf (sectors file l) (first_of (root_of file l)) (size_of (root_of file l)) l.mini_stream
-        → (t : Tree) → (u : Used) → Holds file l 0 t u → PaintsBoth file l u.sectors cells.old.items cells.new.items) }
-    ensures there { (file : List ℕ) → (l : Layout) → IsOver file l directory.now table.now → kind (root_of file l) ≡ 5
-        → (t : Tree) → (u : Used) → Holds file l 0 t u → IsTree 32 t → AreDistinct (0 ∷ u.ids)
-        → IfErr result (λ e. e ≡ NoMemory) }
+    table: &Links<'_>,
+    outline: &Outline,
+) -> Result<Vec<u32>, AllocError>
+    ensures { IfOk result (λ v. v.items ≡ outline_sectors table.now outline.now) }
 {
-    let mut entries = Entries::load(alloc, directory)?;
-    let root = entries.entry(0)?;
-    let mini_stream = chain_of(alloc, table, root.first, root.size as usize)?;
-    paint(cells, &mini_stream, MINI_STREAM);
-    paint_below(alloc, &mut entries, table, cells, 0, DEEPEST)
+    let mut sectors = Vec::new(alloc);
+    push_below(alloc, table, outline, &mut sectors)?;
+    Ok(sectors)
 }

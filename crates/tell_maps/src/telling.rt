@@ -55,7 +55,7 @@ fn push_row(alloc: Global, text: &mut Vec<u8>, cells: &[u8], k: usize) -> Result
 
 /// Writes all rows.
 fn push_rows(alloc: Global, text: &mut Vec<u8>, cells: &[u8]) -> Result<(), AllocError>
-    requires { length cells.now ≤ 2 ^ 54 }
+    requires { length cells.now < 2 ^ 55 }
     ensures { OnOk result (text.new.items ≡ text.old.items ++ rows cells.now) }
 {
     for k in 0..(cells.len() + 63) / 64 {
@@ -218,7 +218,7 @@ fn push_unused(alloc: Global, text: &mut Vec<u8>, tally: &Tally<'_>) -> Result<(
 
 /// How many bytes in the sectors of streams and of the mini stream are no stream's, where those have so many together.
 fn count_behind(tally: &Tally<'_>, bytes: u64) -> usize
-    requires { length tally.now ≤ 2 ^ 54 }
+    requires { length tally.now < 2 ^ 55 }
     ensures { result ≡ behind tally.now bytes }
 {
     let sectors = tally.count(STREAM) + tally.count(LAST) + tally.count(MINI_STREAM);
@@ -232,7 +232,7 @@ fn push_totals(
     tally: &Tally<'_>,
     bytes: u64,
 ) -> Result<(), AllocError>
-    requires { length tally.now ≤ 2 ^ 54 }
+    requires { length tally.now < 2 ^ 55 }
     ensures { OnOk result (text.new.items ≡ text.old.items ++ totals tally.now bytes) }
 {
     push_said(
@@ -259,7 +259,7 @@ fn push_totals(
 
 /// Writes all rows and an empty line.
 fn push_table(alloc: Global, text: &mut Vec<u8>, cells: &[u8]) -> Result<(), AllocError>
-    requires { length cells.now ≤ 2 ^ 54 }
+    requires { length cells.now < 2 ^ 55 }
     ensures { OnOk result (text.new.items ≡ text.old.items ++ table cells.now) }
 {
     push_rows(alloc, text, cells)?;
@@ -280,7 +280,7 @@ fn push_legend(alloc: Global, text: &mut Vec<u8>, tally: &Tally<'_>) -> Result<(
 
 /// The text of a map of these sectors, whose streams have so many bytes together.
 pub(crate) fn tell(alloc: Global, cells: &[u8], bytes: u64) -> Result<Vec<u8>, AllocError>
-    requires { length cells.now ≤ 2 ^ 54 }
+    requires { length cells.now < 2 ^ 55 }
     ensures { IfOk result (λ v. v.items ≡ map_text cells.now bytes) }
 {
     let tally = Tally::new(cells);

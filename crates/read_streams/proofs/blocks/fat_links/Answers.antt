@@ -4,7 +4,7 @@ use Rattle.read_streams.proofs.blocks.fat_links.Goals as goal
 
 pub returns : goal.returns
 returns c = record {
-  over = λ a h t d.
+  fat = λ a h t d.
       entries_over a c.args.file.now h t d c.args.header.now c.requires.read c.deref.result.now c.in_ok-links.links
       (c.deref.ensures.value ∙ c.in_ok-own.ensures.fat)
       (subst (λ (xs : List ℕ). length xs ≤ 1125) (sym c.deref.ensures.value) c.in_ok-own.ensures.few)

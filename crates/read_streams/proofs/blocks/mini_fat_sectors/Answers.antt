@@ -1,7 +1,7 @@
 use Rattle.std.proofs.Common.{◌≡◌, ◌∙◌, ◌+◌, ◌*◌, ◌/◌, ℕ, List, ap, arith, subst, sym, take}
 use Rattle.cfb_chains.specs.Chain.{IsChainOf}
 use Rattle.cfb_header.specs.Bytes.{joined, sector, u32_at}
-use Rattle.cfb_file.specs.Denotes.{Layout, directory_of, sectors}
+use Rattle.cfb_file.specs.Denotes.{Layout, sectors}
 use Rattle.read_streams.proofs.Fronts.{front_read}
 use Rattle.read_streams.proofs.Placing.{mini_fat_of, next_same}
 use Rattle.read_streams.proofs.blocks.mini_fat_sectors.Goals as goal
@@ -18,7 +18,7 @@ returns c = record {
       let whole : (512 * fats + 511) / 512 ≡ fats = omega arith in
       let fronts : c.in_ok-sectors.sectors.items ≡ take fats l.mini_fat =
       c.in_ok-sectors.ensures
-      ∙ front_read a l (directory_of a l) c.args.table.now o c.first_mini_fat.result (512 * fats) l.mini_fat fat
+      ∙ front_read a l c.args.table.now o c.first_mini_fat.result (512 * fats) l.mini_fat fat
       c.mini_fat_count-count.result (c.mini_fat_count-count.ensures ∙ sym whole)
       ∙ ap (λ n. take n l.mini_fat) whole in
       ap (λ (ns : List ℕ). (λ (n : ℕ). u32_at (joined (sector file) ns) (4 * n))) fronts

@@ -1,41 +1,45 @@
-use Rattle.std.proofs.Common.{◌≤◌, ◌∙◌, ℕ, List, Option, length, subst, sym}
-use Rattle.tell_lists.proofs.Listed.{ok_map}
-use Rattle.cfb_file.specs.Outline.{Outline}
-use Rattle.read_outlines.specs.View.{outline_view}
-use Rattle.tell_files.specs.Maps.{Maps}
-use Rattle.read_files.proofs.ReadingTold.{read_refused}
-use Rattle.read_files.specs.Reads.{MayRefuseRead}
+use Rattle.std.proofs.Common.{◌≤◌, ℕ, List, Option, IfSome, length, subst, sym}
+use Rattle.cfb_file.specs.Alike.{Alike}
+use Rattle.read_outlines.specs.declared.outline.Outline.{Outline}
+use Rattle.read_source.specs.Filled.{MayRefusePlaces}
 use Rattle.text_io.specs.Input.{most}
-use Rattle.tell_files.proofs.Input.{of_input}
-use Rattle.tell_files.proofs.Mapped.{IsOutlined, maps}
+use Rattle.tell_lists.specs.Lists.{IsOfWriting, MayRefuseList}
+use Rattle.tell_lists.proofs.Listed.{err_map, not_written, ok_map, places_refused, read_alike, some_both, some_map}
+use Rattle.tell_files.specs.Maps.{Maps}
+use Rattle.tell_files.proofs.Mapped.{maps}
 use Rattle.tell_files.proofs.mapping.map_file.Goals as goal
 
-pub returns-in-Err-read_outline-clause-refused : goal.returns-in-Err-read_outline-clause-refused
-returns-in-Err-read_outline-clause-refused g c =
-    of_input (λ file. MayRefuseRead file _) (g.S.Source.bytes c.args.source.now) c.in-Ok.file.items c.deref.result.now
-    c.in-Ok.ensures.whole c.deref.ensures.value
-    (read_refused c.deref.result.now c.read_outline.result _ c.in-Err-read_outline.is c.read_outline.ensures.header
-    c.read_outline.ensures.reads c.read_outline.ensures.refused)
+pub returns-in-Err-clause-refused : goal.returns-in-Err-clause-refused
+returns-in-Err-clause-refused g c =
+    some_map (g.S.Source.bytes c.args.source.now) (λ a. MayRefusePlaces a c.in-Err.fault)
+    (λ a. MayRefuseList a c.from.result)
+    (λ a r. subst (MayRefuseList a) (sym c.from.ensures) (places_refused a c.in-Err.fault r)) c.in-Err.ensures.refused
 
-pub write_map-requires : goal.write_map-requires
-write_map-requires g c =
-    let o : IsOutlined c.deref-2.result.now (outline_view c.in-Ok-read_outline.outline) =
-    subst (λ (xs : List ℕ). IsOutlined xs (outline_view c.in-Ok-read_outline.outline))
-    (c.deref.ensures.value ∙ sym c.deref-2.ensures.value) c.in-Ok-read_outline.ensures.outlined in
-    record { held = (o.0, o.1) }
+pub returns-in-Err-read_placed-clause-refused : goal.returns-in-Err-read_placed-clause-refused
+returns-in-Err-read_placed-clause-refused g c =
+    read_alike (g.S.Source.bytes c.args.source.now) c.in-Ok.catalog.file c.in-Ok.catalog.header c.read_placed.result _
+    c.in-Ok.ensures.alike c.in-Ok.ensures.header c.in-Err-read_placed.is c.read_placed.ensures.reads
+    c.read_placed.ensures.refused
 
 pub returns-clause-mapped : goal.returns-clause-mapped
 returns-clause-mapped g c =
-    let seen : List ℕ = c.deref-2.result.now in
-    let o : Outline = outline_view c.in-Ok-read_outline.outline in
+    let b : List ℕ = c.in-Ok.catalog.file in
+    let o : Outline = c.in-Ok-read_placed.outline in
+    let known : Option (List ℕ) = g.S.Source.bytes c.args.source.now in
     let old : Option (List ℕ) = g.W.Write.contents c.args.writer.now in
     let new : Option (List ℕ) = g.W.Write.contents c.write_map.new.writer in
-    let outlined : IsOutlined seen o =
-    subst (λ (xs : List ℕ). IsOutlined xs o) (c.deref.ensures.value ∙ sym c.deref-2.ensures.value)
-    c.in-Ok-read_outline.ensures.outlined in
-    let few : length seen ≤ most =
-    subst (λ (xs : List ℕ). length xs ≤ most) (sym c.deref-2.ensures.value) c.in-Ok.ensures.few in
-    ok_map c.write_map.result _ _
-    (λ w. of_input (λ file. Maps file old new) (g.S.Source.bytes c.args.source.now) c.in-Ok.file.items seen
-    c.in-Ok.ensures.whole c.deref-2.ensures.value (maps seen o old new few outlined w))
+    ok_map c.write_map.result _ (IfSome known (λ a. Maps a old new))
+    (λ w. some_both known (λ a. Alike a b) (λ a. length a ≤ most) (λ a. Maps a old new)
+    (λ a h few. maps a b o old new h few c.in-Ok-read_placed.ensures.placed w)
+    c.in-Ok.ensures.alike c.in-Ok.ensures.few)
     c.write_map.ensures.written
+
+pub returns-clause-refused : goal.returns-clause-refused
+returns-clause-refused g c =
+    let b : List ℕ = c.in-Ok.catalog.file in
+    let o : Outline = c.in-Ok-read_placed.outline in
+    let known : Option (List ℕ) = g.S.Source.bytes c.args.source.now in
+    err_map c.write_map.result IsOfWriting (λ fault. IfSome known (λ a. MayRefuseList a fault))
+    (λ fault r. some_map known (λ a. Alike a b) (λ a. MayRefuseList a fault)
+    (λ a h. not_written a b o fault h c.in-Ok-read_placed.ensures.placed r) c.in-Ok.ensures.alike)
+    c.write_map.ensures.refused
