@@ -16,7 +16,7 @@ use tell_files::fault::GetFault;
 use tell_files::getting::get_stream;
 use tell_files::many::{Checker, check_all};
 use tell_files::mapping::map_file;
-use tell_lists::asked_listings::Listing;
+use tell_forms::asked_listings::Listing;
 use tell_lists::fault::ListFault;
 use tell_lists::listing::list_as;
 use text_spelling::path::Path;

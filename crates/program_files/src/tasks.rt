@@ -14,7 +14,7 @@ use program_folders::packing::pack;
 use std::fs::File;
 use std::process::ExitCode;
 use std::rt::Runtime;
-use tell_lists::asked_listings::Listing;
+use tell_forms::asked_listings::Listing;
 use write_described::making::make_with_tree;
 
 /// What a command line over files asks for.
