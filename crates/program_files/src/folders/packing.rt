@@ -1,7 +1,7 @@
 //! Making files of folders.
 
-use crate::disk_folder::path_in;
-use crate::finding::{Refusal, Whole, find_all};
+use crate::folders::disk_folder::path_in;
+use crate::folders::finding::{Refusal, Whole, find_all};
 use cfb_names::name::Name;
 use folder_commands::packing::{PackFault, pack_found};
 use folder_commands::path::FolderPath;
@@ -15,7 +15,11 @@ use std::rt::Runtime;
 use text_words::report::Report;
 
 /// Makes a file of a folder, unless a save of the file in whose place it is to be was cut off.
-pub fn pack<R: Runtime<File = File> + AllocGlobal>(rt: &R, folder: &str, path: &str) -> ExitCode {
+pub(crate) fn pack<R: Runtime<File = File> + AllocGlobal>(
+    rt: &R,
+    folder: &str,
+    path: &str,
+) -> ExitCode {
     if let Err(code) = refuse_unfinished(rt, path) {
         return code;
     }

@@ -3,6 +3,7 @@
 //! A file is opened as a save of a container opens it, so the two keep each other out. A journal that was made for an
 //! edit is removed while it is held: whoever waits for it finds that it isn't the one of its name any more.
 
+use crate::words::refuse_memory;
 use program_ends::ends::refuse;
 use std::fs::{self, File};
 use std::io::ErrorKind;
@@ -34,7 +35,7 @@ pub(crate) fn change_file<R: Runtime<File = File> + AllocGlobal>(
     asked: Asked,
 ) -> ExitCode {
     let Ok(journal) = format!(in rt.alloc(); "{path}.journal") else {
-        return refuse(rt, &Report::File(path, "NoMemory"));
+        return refuse_memory(rt, path);
     };
     let is_new = is_missing(rt, journal.as_str());
     match find(&mut SystemNames::new(rt), path) {

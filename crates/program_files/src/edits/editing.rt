@@ -1,9 +1,10 @@
-//! The commands over the files of a system.
+//! What a command that changes a file in place reads and asks for.
 
 ghost use Rattle.std.specs.Prelude.{◌<◌, ◌^◌, length};
 
-use crate::documents::{Asked, change_file};
-use crate::shelves::SystemShelf;
+use crate::edits::documents::{Asked, change_file};
+use crate::edits::shelves::SystemShelf;
+use crate::words::{path_of, refuse_memory};
 use program_ends::ends::{refuse, refuse_path};
 use std::fs::File;
 use std::process::ExitCode;
@@ -21,11 +22,6 @@ use tree_values::bytes::Bytes;
 /// The status where the command line is refused.
 const USAGE: u8 = 2;
 
-/// Tells that memory is out.
-fn refuse_memory<R: Runtime>(rt: &R, path: &str) -> ExitCode {
-    refuse(rt, &Report::File(path, "NoMemory"))
-}
-
 /// Tells why standard input isn't read.
 fn refuse_input<R: Runtime>(rt: &R, path: &str, fault: InputFault) -> ExitCode {
     match fault {
@@ -36,7 +32,7 @@ fn refuse_input<R: Runtime>(rt: &R, path: &str, fault: InputFault) -> ExitCode {
 
 /// Makes the changes of a file that the lines of standard input ask for. All of these are read before the file is
 /// opened.
-pub fn edit<R: Runtime<File = File> + AllocGlobal>(
+pub(crate) fn edit<R: Runtime<File = File> + AllocGlobal>(
     rt: &R,
     path: &str,
     is_zeroed: bool,
@@ -99,14 +95,11 @@ fn change_alone<R: Runtime<File = File> + AllocGlobal>(
 }
 
 /// The path that a word spells, or the status to end with where a directory doesn't take it.
-fn path_of<R: Runtime + AllocGlobal>(rt: &R, file: &str, word: &str) -> Result<Path, ExitCode> {
-    match Path::parse(rt.alloc(), word.as_bytes()) {
-        Ok(Some(path)) => match fault_of(&path) {
-            Some(fault) => Err(refuse_path(rt, word, fault)),
-            None => Ok(path),
-        },
-        Ok(None) => Err(refuse_path(rt, word, "no path is spelled so; a space is \\20")),
-        Err(_) => Err(refuse_memory(rt, file)),
+fn taken_path<R: Runtime + AllocGlobal>(rt: &R, file: &str, word: &str) -> Result<Path, ExitCode> {
+    let path = path_of(rt, file, word)?;
+    match fault_of(&path) {
+        Some(fault) => Err(refuse_path(rt, word, fault)),
+        None => Ok(path),
     }
 }
 
@@ -119,13 +112,13 @@ fn fault_of(path: &Path) -> Option<&'static str> {
 }
 
 /// Puts the bytes of standard input into the stream at a path that a word spells.
-pub fn put<R: Runtime<File = File> + AllocGlobal>(
+pub(crate) fn put<R: Runtime<File = File> + AllocGlobal>(
     rt: &R,
     path: &str,
     word: &str,
     is_zeroed: bool,
 ) -> ExitCode {
-    match path_of(rt, path, word) {
+    match taken_path(rt, path, word) {
         Ok(at) => put_at(rt, path, at, is_zeroed),
         Err(code) => code,
     }
@@ -148,27 +141,27 @@ fn put_at<R: Runtime<File = File> + AllocGlobal>(
 }
 
 /// Removes what stands at a path that a word spells.
-pub fn remove<R: Runtime<File = File> + AllocGlobal>(
+pub(crate) fn remove<R: Runtime<File = File> + AllocGlobal>(
     rt: &R,
     path: &str,
     word: &str,
     is_zeroed: bool,
 ) -> ExitCode {
-    match path_of(rt, path, word) {
+    match taken_path(rt, path, word) {
         Ok(at) => change_alone(rt, path, Change::Remove(at), is_zeroed),
         Err(code) => code,
     }
 }
 
 /// Gives what stands at a path another name, each as a word spells it.
-pub fn rename<R: Runtime<File = File> + AllocGlobal>(
+pub(crate) fn rename<R: Runtime<File = File> + AllocGlobal>(
     rt: &R,
     path: &str,
     word: &str,
     name: &str,
     is_zeroed: bool,
 ) -> ExitCode {
-    match path_of(rt, path, word) {
+    match taken_path(rt, path, word) {
         Ok(at) => rename_at(rt, path, at, name, is_zeroed),
         Err(code) => code,
     }

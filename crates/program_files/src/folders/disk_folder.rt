@@ -20,7 +20,7 @@ use tree_values::class_id::ClassId;
 /// as it is, and a file or a link stays until all of the new file is written beside it, which has the owner and the
 /// rights of a file that it replaces.
 #[derive(Drop)]
-pub struct DiskFolder<'a, R: Files<File = File> + Clock + AllocGlobal> {
+pub(crate) struct DiskFolder<'a, R: Files<File = File> + Clock + AllocGlobal> {
     rt: &'a R,
     path: &'a str,
     is_forced: bool,
@@ -28,7 +28,7 @@ pub struct DiskFolder<'a, R: Files<File = File> + Clock + AllocGlobal> {
 
 impl<'a, R: Files<File = File> + Clock + AllocGlobal> DiskFolder<'a, R> {
     /// The folder of this path, and whether what stands there is to be replaced.
-    pub fn new(rt: &'a R, path: &'a str, is_forced: bool) -> DiskFolder<'a, R> {
+    pub(crate) fn new(rt: &'a R, path: &'a str, is_forced: bool) -> DiskFolder<'a, R> {
         DiskFolder {
             rt,
             path,

@@ -3,17 +3,17 @@
 use program_ends::command_lines::{Argument, FILE, Kind, PATH, Row};
 
 /// The names of the commands and of their other arguments.
-pub const EDIT: &str = "edit";
+pub(crate) const EDIT: &str = "edit";
 
-pub const PUT: &str = "put";
+pub(crate) const PUT: &str = "put";
 
-pub const RM: &str = "rm";
+pub(crate) const RM: &str = "rm";
 
-pub const MV: &str = "mv";
+pub(crate) const MV: &str = "mv";
 
-pub const NAME: &str = "name";
+pub(crate) const NAME: &str = "name";
 
-pub const ZERO: &str = "zero";
+pub(crate) const ZERO: &str = "zero";
 
 const ABOUT_EDIT: &str = "Changes a compound file in place, by lines on standard input";
 
@@ -79,7 +79,7 @@ const ZEROED: Argument<'static> = Argument {
 };
 
 /// The command that makes the changes of standard input's lines.
-pub const EDIT_ROW: Row<'static> = Row {
+pub(crate) const EDIT_ROW: Row<'static> = Row {
     name: EDIT,
     about: ABOUT_EDIT,
     after: CHANGES,
@@ -87,7 +87,7 @@ pub const EDIT_ROW: Row<'static> = Row {
 };
 
 /// The command that puts standard input into a stream.
-pub const PUT_ROW: Row<'static> = Row {
+pub(crate) const PUT_ROW: Row<'static> = Row {
     name: PUT,
     about: ABOUT_PUT,
     after: PUTS,
@@ -103,7 +103,7 @@ pub const PUT_ROW: Row<'static> = Row {
 };
 
 /// The command that removes what stands at a path.
-pub const RM_ROW: Row<'static> = Row {
+pub(crate) const RM_ROW: Row<'static> = Row {
     name: RM,
     about: ABOUT_RM,
     after: REMOVES,
@@ -119,7 +119,7 @@ pub const RM_ROW: Row<'static> = Row {
 };
 
 /// The command that renames what stands at a path.
-pub const MV_ROW: Row<'static> = Row {
+pub(crate) const MV_ROW: Row<'static> = Row {
     name: MV,
     about: ABOUT_MV,
     after: RENAMES,

@@ -1,24 +1,23 @@
 //! Making folders of files.
 
-use crate::disk_folder::{DiskFolder, path_in};
-use crate::progress::Watched;
+use crate::folders::disk_folder::{DiskFolder, path_in};
+use crate::folders::progress::Watched;
+use crate::words::{path_of, refuse_memory};
 use folder_commands::chosen::TreePath;
 use folder_commands::extracting::extract_file;
 use folder_commands::fault::{ExtractFault, Stop};
 use program_ends::ends::{refuse, refuse_path};
 use program_sources::opening::open_source;
-use std::alloc::AllocError;
 use std::fs::File;
 use std::process::ExitCode;
 use std::rt::Runtime;
 use text_io::input::InputFault;
-use text_spelling::path::Path;
 use text_words::report::{Report, STANDARD};
 
 /// Makes a folder of what stands in a file at the paths that words spell, and below these; without a word, of all.
 /// Where standard error is watched, as a terminal is, how many entries there are so far is told there, if there are
 /// many.
-pub fn extract<R: Runtime<File = File> + AllocGlobal>(
+pub(crate) fn extract<R: Runtime<File = File> + AllocGlobal>(
     rt: &R,
     path: &str,
     folder: &str,
@@ -51,7 +50,7 @@ fn paths_of<R: Runtime + AllocGlobal>(
 ) -> Result<Vec<TreePath>, ExitCode> {
     let mut paths = Vec::new(rt.alloc());
     for word in words {
-        let path = path_of(rt, file, word)?;
+        let path = tree_path(rt, file, word)?;
         if paths.push(path).is_err() {
             return Err(refuse_memory(rt, file));
         }
@@ -59,22 +58,13 @@ fn paths_of<R: Runtime + AllocGlobal>(
     Ok(paths)
 }
 
-/// The path that a word spells, or the status to end with.
-fn path_of<R: Runtime + AllocGlobal>(rt: &R, file: &str, word: &str) -> Result<TreePath, ExitCode> {
-    match Path::parse(rt.alloc(), word.as_bytes()) {
-        Ok(Some(path)) => taken(rt, file, word, &path),
-        Ok(None) => Err(refuse_path(rt, word, "no path is spelled so; a space is \\20")),
-        Err(AllocError) => Err(refuse_memory(rt, file)),
-    }
-}
-
-/// The names of a path that a word spells, or the status to end with where a directory doesn't take them.
-fn taken<R: Runtime + AllocGlobal>(
+/// The path that a word spells, or the status to end with where a directory doesn't take it.
+fn tree_path<R: Runtime + AllocGlobal>(
     rt: &R,
     file: &str,
     word: &str,
-    path: &Path,
 ) -> Result<TreePath, ExitCode> {
+    let path = path_of(rt, file, word)?;
     match path.names() {
         Ok(names) => match TreePath::new(rt.alloc(), names) {
             Ok(path) => Ok(path),
@@ -82,11 +72,6 @@ fn taken<R: Runtime + AllocGlobal>(
         },
         Err(fault) => Err(refuse_path(rt, word, fault.name())),
     }
-}
-
-/// Tells that memory is out.
-fn refuse_memory<R: Runtime>(rt: &R, file: &str) -> ExitCode {
-    refuse(rt, &Report::File(file, "NoMemory"))
 }
 
 /// Prints how many folders and files were made, and gives the status to end with.
