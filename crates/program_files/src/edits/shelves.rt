@@ -23,12 +23,10 @@ impl<'a, R: Runtime + AllocGlobal> Shelf for SystemShelf<'a, R> {
         let Ok(mut source) = fs::open(self.rt, path) else {
             return Err(InputFault::Unreadable);
         };
-        match read_all(alloc, &mut source) {
-            Ok(bytes) => match Bytes::from_vec(alloc, bytes) {
-                Ok(bytes) => Ok(bytes),
-                Err(_) => Err(InputFault::NoMemory),
-            },
-            Err(fault) => Err(fault),
+        let bytes = read_all(alloc, &mut source)?;
+        match Bytes::from_vec(alloc, bytes) {
+            Ok(bytes) => Ok(bytes),
+            Err(_) => Err(InputFault::NoMemory),
         }
     }
 }
