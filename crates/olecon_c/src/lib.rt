@@ -8,14 +8,14 @@ ghost use Rattle.tell_checks.specs.declared.telling.Form.TheVariants as form;
 ghost use Rattle.program_calls.specs.Checks.{IsChecked, IsRefusedCheck};
 ghost use Rattle.program_calls.specs.Edits.{IsEdited, IsRefusedEdit};
 ghost use Rattle.program_calls.specs.Numbers.{number_name};
-ghost use Rattle.tell_lists.specs.Json.{json_listed};
-ghost use Rattle.tell_lists.specs.Placed.{placed_view};
+ghost use Rattle.tell_forms.specs.Json.{json_listed};
+ghost use Rattle.tell_forms.specs.Placed.{placed_view};
 ghost use Rattle.std.specs.Prelude.{◌≡◌, length, ℕ};
 
 use program_calls::{calls, checking, editing};
 use std::alloc::Global;
 use tell_checks::telling::Form;
-use tell_lists::asked_listings::Listing;
+use tell_forms::asked_listings::Listing;
 
 /// The listing of a file in lines.
 #[unsafe(no_mangle)]

@@ -9,7 +9,7 @@ use program_sources::opening::open_source;
 use std::io;
 use std::process::ExitCode;
 use std::rt::Runtime;
-use tell_lists::asked_listings::Listing;
+use tell_forms::asked_listings::Listing;
 use tell_lists::listing::list_as;
 use write_described::making::make_with_tree;
 

@@ -9,9 +9,9 @@ use Rattle.tree_storage.specs.Kept.{Kept}
 use Rattle.cfb_entries.specs.Tree.{Tree}
 use Rattle.tree_storage.specs.declared.tree.Tree.{Tree as BuiltTree}
 use Rattle.cfb_file.specs.Denotes.{Denotes}
-use Rattle.tell_lists.specs.Lines.{listed, listing}
-use Rattle.tell_lists.specs.Listings.{told}
-use Rattle.tell_lists.specs.declared.asked_listings.Listing.TheVariants.{Lines}
+use Rattle.tell_forms.specs.Lines.{listed, listing}
+use Rattle.tell_forms.specs.Listings.{told}
+use Rattle.tell_forms.specs.declared.asked_listings.Listing.TheVariants.{Lines}
 use Rattle.tree_descriptions.specs.Description.{described}
 use Rattle.program_calls.specs.Answers.{Answers, AnswersAt}
 use Rattle.cfb_file.specs.declared.fault.WriteFault.TheVariants.{TooBig}

@@ -20,7 +20,7 @@ use Rattle.tree_descriptions.specs.Description.{RefusesDescription, described}
 use Rattle.tree_descriptions.specs.declared.fault.LineFault.{LineFault}
 use Rattle.tree_descriptions.specs.declared.fault.TextFault.{TextFault}
 use Rattle.tree_descriptions.specs.declared.fault.TextFault.TheVariants.{Input, Line}
-use Rattle.tell_lists.specs.Lines.{listing}
+use Rattle.tell_forms.specs.Lines.{listing}
 use Rattle.write_described.specs.Run.{IsMade}
 use Rattle.program_calls.specs.Numbers.{directory_number, line_number, read_number, tree_number, write_number}
 

@@ -10,7 +10,7 @@ ghost use Rattle.program_calls.specs.Calls.{IsRefusedBy, IsRefusedClean, IsRefus
 ghost use Rattle.program_calls.specs.Calls.{IsRefusedText, IsUnread, IsUnwritten, text_line};
 ghost use Rattle.cfb_file.specs.Denotes.{Denotes};
 ghost use Rattle.cfb_file.specs.Outline.{outline_of};
-ghost use Rattle.tell_lists.specs.Listings.{told};
+ghost use Rattle.tell_forms.specs.Listings.{told};
 ghost use Rattle.read_outlines.specs.View.{outline_view};
 ghost use Rattle.read_outlines.specs.Places.{IsPlaced};
 ghost use Rattle.std.specs.Prelude.{◌≡◌, ◌<◌, IfErr, IfOk, List, length, ℕ};
@@ -30,7 +30,7 @@ use read_files::read::{read_file, read_outline};
 use read_outlines::outline::Outline;
 use read_queries::queries::read_stream;
 use std::alloc::Global;
-use tell_lists::asked_listings::Listing;
+use tell_forms::asked_listings::Listing;
 use text_io::input::InputFault;
 use text_spelling::path::Path;
 use tree_descriptions::description::{Described, describe};

@@ -1,7 +1,7 @@
 //! The command lines of the commands between files and folders and of maps, and the help that they print.
 
+use crate::edits::command_lines::{EDIT_ROW, MV_ROW, PUT_ROW, RM_ROW};
 use clap::Command;
-use program_edits::command_lines::{EDIT_ROW, MV_ROW, PUT_ROW, RM_ROW};
 pub use program_ends::command_lines::FILE;
 use program_ends::command_lines::{self, AS_JSON, Argument, FILE_MADE, FILE_READ, Kind, PATH, Row};
 use std::alloc::{AllocError, Global};

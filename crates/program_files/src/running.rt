@@ -1,5 +1,6 @@
 //! The commands over the files of a system.
 
+use crate::words::path_of;
 use program_ends::ends::{REFUSED, give_up, keep, refuse, refuse_path};
 use program_ends::journals::refuse_unfinished;
 use program_ends::making::count_made;
@@ -16,11 +17,10 @@ use tell_files::fault::GetFault;
 use tell_files::getting::get_stream;
 use tell_files::many::{Checker, check_all};
 use tell_files::mapping::map_file;
-use tell_lists::asked_listings::Listing;
+use tell_forms::asked_listings::Listing;
 use tell_lists::fault::ListFault;
 use tell_lists::listing::list_as;
 use text_spelling::path::Path;
-use text_words::report::Report;
 use write_cleaned::cleaning::clean_file;
 
 /// Tells why nothing more is told of a file, if so, and gives the status to end with.
@@ -123,10 +123,9 @@ pub fn map<R: Runtime + AllocGlobal>(rt: &R, path: &str) -> ExitCode {
 
 /// Writes the stream at a path of a file to standard output.
 pub fn get<R: Runtime + AllocGlobal>(rt: &R, path: &str, word: &str) -> ExitCode {
-    match Path::parse(rt.alloc(), word.as_bytes()) {
-        Ok(Some(spelled)) => get_spelled(rt, path, word, &spelled),
-        Ok(None) => refuse_path(rt, word, "no path is spelled so; a space is \\20"),
-        Err(_) => refuse(rt, &Report::File(path, "NoMemory")),
+    match path_of(rt, path, word) {
+        Ok(spelled) => get_spelled(rt, path, word, &spelled),
+        Err(code) => code,
     }
 }
 

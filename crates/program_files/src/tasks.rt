@@ -1,20 +1,20 @@
 //! What a command line over files asks for.
 
 use crate::command_lines::{CHECK, EXTRACT, FOLDER, FORCE, MAP, PACK};
+use crate::edits::command_lines::{EDIT, MV, NAME, PUT, RM, ZERO};
+use crate::edits::editing::{edit, put, remove, rename};
+use crate::folders::extracting::extract;
+use crate::folders::packing::pack;
 use crate::running::{check, clean, get, list, map};
 use clap::ArgMatches;
-use program_edits::command_lines::{EDIT, MV, NAME, PUT, RM, ZERO};
-use program_edits::editing::{edit, put, remove, rename};
 use program_ends::command_lines::{CLEAN, FILE, GET, JSON, LIST, LONG, MAKE, OUT, PATH};
 use program_ends::ends::refuse;
 use program_ends::making::{count_made, make};
 use program_ends::memory::keep_blocks;
-use program_folders::extracting::extract;
-use program_folders::packing::pack;
 use std::fs::File;
 use std::process::ExitCode;
 use std::rt::Runtime;
-use tell_lists::asked_listings::Listing;
+use tell_forms::asked_listings::Listing;
 use write_described::making::make_with_tree;
 
 /// What a command line over files asks for.

@@ -30,11 +30,9 @@ pub fn open_source<R: Runtime + AllocGlobal>(
     rt: &R,
     path: &str,
 ) -> Result<FileSource<R::File>, ExitCode> {
-    match open(rt, path) {
-        Ok(file) => match source_of(rt.alloc(), file) {
-            Ok(source) => Ok(source),
-            Err(fault) => Err(refuse(rt, &Report::File(path, fault.name()))),
-        },
-        Err(code) => Err(code),
+    let file = open(rt, path)?;
+    match source_of(rt.alloc(), file) {
+        Ok(source) => Ok(source),
+        Err(fault) => Err(refuse(rt, &Report::File(path, fault.name()))),
     }
 }

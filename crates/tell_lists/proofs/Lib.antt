@@ -1,7 +1,2 @@
-pub mod Ascii
-pub mod Told
-pub mod Rows
-pub mod Picked
-pub mod Pushed
 pub mod Listed
 pub mod Placed

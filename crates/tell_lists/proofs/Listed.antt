@@ -13,10 +13,10 @@ use Rattle.read_outlines.specs.declared.outline.Outline.{Outline}
 use Rattle.read_source.specs.Filled.{MayRefusePlaces}
 use Rattle.read_source.specs.declared.fault.PlacesFault.{PlacesFault}
 use Rattle.read_source.specs.declared.fault.PlacesFault.TheVariants.{Unreadable, TooBig, NoMemory, Header}
-use Rattle.tell_lists.specs.Lines.{listed}
-use Rattle.tell_lists.specs.Listings.{told}
-use Rattle.tell_lists.specs.declared.asked_listings.Listing.{Listing}
-use Rattle.tell_lists.specs.declared.asked_listings.Listing.TheVariants.{Lines}
+use Rattle.tell_forms.specs.Lines.{listed}
+use Rattle.tell_forms.specs.Listings.{told}
+use Rattle.tell_forms.specs.declared.asked_listings.Listing.{Listing}
+use Rattle.tell_forms.specs.declared.asked_listings.Listing.TheVariants.{Lines}
 use Rattle.read_outlines.specs.Places.{IsPlaced}
 use Rattle.read_files.specs.Reads.{MayRefuseFile, MayRefuseRead, chain_fault}
 use Rattle.read_files.specs.declared.fault.ReadFault.{ReadFault}

@@ -1,10 +1,3 @@
-pub mod Placed
-pub mod Json
-pub mod Classes
-pub mod Streams
-pub mod Long
-pub mod Lines
-pub mod Listings
 pub mod Faults
 pub mod Lists
 pub mod Reports

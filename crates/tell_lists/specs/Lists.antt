@@ -7,9 +7,9 @@ use Rattle.cfb_file.specs.Outline.{outline_of}
 use Rattle.read_outlines.specs.View.{outline_view}
 use Rattle.read_outlines.specs.declared.outline.Outline.{Outline}
 use Rattle.read_outlines.specs.Places.{IsPlaced}
-use Rattle.tell_lists.specs.Lines.{listing}
-use Rattle.tell_lists.specs.Listings.{told}
-use Rattle.tell_lists.specs.declared.asked_listings.Listing.{Listing}
+use Rattle.tell_forms.specs.Lines.{listing}
+use Rattle.tell_forms.specs.Listings.{told}
+use Rattle.tell_forms.specs.declared.asked_listings.Listing.{Listing}
 use Rattle.read_files.specs.Reads.{MayRefuseRead}
 use Rattle.text_io.specs.Input.{MayRefuseInput, most}
 use Rattle.tell_lists.specs.declared.fault.ListFault.{ListFault}

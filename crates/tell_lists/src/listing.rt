@@ -1,11 +1,10 @@
 //! Listing files.
 
+ghost use Rattle.tell_forms.specs.Listings.{told};
 ghost use Rattle.tell_lists.specs.Lists.{IsOfWriting, Lists, ListsAs, MayRefuseList};
-ghost use Rattle.tell_lists.specs.Listings.{told};
 ghost use Rattle.std.specs.Io.KnownBytes.{Appends};
 ghost use Rattle.std.specs.Prelude.{◌≡◌, ◌≢◌, IfErr, IfSome, OnOk};
 
-use crate::asked_listings::Listing;
 use crate::fault::ListFault;
 use read_files::read::read_placed;
 use read_outlines::outline::Outline;
@@ -13,6 +12,7 @@ use read_source::reading::read_catalog;
 use read_source::source::Source;
 use std::alloc::Global;
 use std::io::Write;
+use tell_forms::asked_listings::Listing;
 use text_io::output::write_all;
 
 /// Writes the listing of the tree that a compound file holds, in lines.

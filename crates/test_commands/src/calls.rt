@@ -6,7 +6,7 @@ use program_calls::editing::{edit, edit_line};
 use program_calls::numbers::{BAD_PATH, DONE, NO_ROOM};
 use std::alloc::Global;
 use tell_checks::telling::Form;
-use tell_lists::asked_listings::Listing;
+use tell_forms::asked_listings::Listing;
 
 /// Which call is made.
 #[derive(Clone, Copy)]

@@ -3,7 +3,7 @@
 use crate::calls::{JSON, LINES, LONG};
 use std::alloc::Global;
 use std::process::Abort;
-use tell_lists::asked_listings::Listing;
+use tell_forms::asked_listings::Listing;
 use tell_lists::listing::list_as;
 use write_described::making::make_file;
 

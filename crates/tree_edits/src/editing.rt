@@ -79,10 +79,8 @@ fn carry_out(alloc: Global, tree: &mut Tree, change: Change) -> Result<(), LineF
 fn put(tree: &mut Tree, path: &[Name], bytes: Bytes) -> Result<(), LineFault>
     ensures { Does result (of_tree (put path.now bytes (kept tree.old))) (kept tree.new) }
 {
-    match tree.put_stream(path, bytes) {
-        Ok(()) => Ok(()),
-        Err(fault) => Err(LineFault::from(fault)),
-    }
+    tree.put_stream(path, bytes)?;
+    Ok(())
 }
 
 /// So many bytes that are all the same.
@@ -116,20 +114,16 @@ fn fill(
 fn make_storage(tree: &mut Tree, path: &[Name], class: ClassId) -> Result<(), LineFault>
     ensures { Does result (of_tree (made path.now class 0 (kept tree.old))) (kept tree.new) }
 {
-    match tree.make_storage(path, class, 0) {
-        Ok(()) => Ok(()),
-        Err(fault) => Err(LineFault::from(fault)),
-    }
+    tree.make_storage(path, class, 0)?;
+    Ok(())
 }
 
 /// Removes what stands at a path.
 fn remove(tree: &mut Tree, path: &[Name]) -> Result<(), LineFault>
     ensures { Does result (of_tree (removed path.now (kept tree.old))) (kept tree.new) }
 {
-    match tree.remove(path) {
-        Ok(()) => Ok(()),
-        Err(fault) => Err(LineFault::from(fault)),
-    }
+    tree.remove(path)?;
+    Ok(())
 }
 
 /// Gives what stands at a path the name of a path of one name.
@@ -159,10 +153,8 @@ fn rename_to(tree: &mut Tree, path: &[Name], new: &[Name]) -> Result<(), LineFau
 fn rename_child(tree: &mut Tree, path: &[Name], name: &Name) -> Result<(), LineFault>
     ensures { Does result (of_tree (renamed path.now name.now (kept tree.old))) (kept tree.new) }
 {
-    match tree.rename(path, name.copy()) {
-        Ok(()) => Ok(()),
-        Err(fault) => Err(LineFault::from(fault)),
-    }
+    tree.rename(path, name.copy())?;
+    Ok(())
 }
 
 /// Sets the class id or the state bits of the storage at a path, the root at the empty one.
@@ -173,8 +165,6 @@ fn set_mark(alloc: Global, tree: &mut Tree, path: &[Name], mark: Mark) -> Result
     let mut root = mem::replace(tree, nothing).into_root();
     let done = mark_at(&mut root, path, mark);
     *tree = Tree::from_root(alloc, root);
-    match done {
-        Ok(()) => Ok(()),
-        Err(fault) => Err(LineFault::from(fault)),
-    }
+    done?;
+    Ok(())
 }

@@ -1,6 +1,6 @@
 use Rattle.std.proofs.Common.{ℕ, List}
-use Rattle.tell_lists.specs.Listings.{told}
-use Rattle.tell_lists.specs.declared.asked_listings.Listing.TheVariants.{Lines}
+use Rattle.tell_forms.specs.Listings.{told}
+use Rattle.tell_forms.specs.declared.asked_listings.Listing.TheVariants.{Lines}
 use Rattle.program_calls.specs.Calls.{IsListed, IsListedAs, IsRefusedList}
 use Rattle.program_calls.proofs.Answered.{answers_of, in_lines}
 use Rattle.program_calls.proofs.calls.lines.Goals as goal

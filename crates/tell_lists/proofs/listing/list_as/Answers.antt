@@ -2,7 +2,7 @@ use Rattle.std.proofs.Common.{◌≤◌, ℕ, List, Option, IfSome, length}
 use Rattle.std.specs.Io.KnownBytes.{Appends}
 use Rattle.cfb_file.specs.Alike.{Alike}
 use Rattle.read_outlines.specs.declared.outline.Outline.{Outline}
-use Rattle.tell_lists.specs.Listings.{told}
+use Rattle.tell_forms.specs.Listings.{told}
 use Rattle.text_io.specs.Input.{most}
 use Rattle.tell_lists.specs.Lists.{IsOfWriting, ListsAs, MayRefuseList}
 use Rattle.tell_lists.proofs.Listed.{err_map, lists_as, not_written, ok_map, read_alike, some_both, some_map}

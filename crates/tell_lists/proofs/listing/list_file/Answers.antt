@@ -1,5 +1,5 @@
 use Rattle.std.proofs.Common.{List, Option, ℕ}
-use Rattle.tell_lists.specs.declared.asked_listings.Listing.TheVariants.{Lines}
+use Rattle.tell_forms.specs.declared.asked_listings.Listing.TheVariants.{Lines}
 use Rattle.tell_lists.specs.Lists.{Lists, ListsAs}
 use Rattle.tell_lists.proofs.Listed.{in_lines, some_map}
 use Rattle.tell_lists.proofs.listing.list_file.Goals as goal
