@@ -3,7 +3,7 @@ use Rattle.std.proofs.Common.{List, ℕ, Option, Some, None, IfNone, Result, Ok,
 use Rattle.cfb_header.specs.declared.fault.ChainFault.{ChainFault}
 use Rattle.cfb_names.specs.declared.fault.DirFault.{DirFault}
 use Rattle.tell_faults.specs.Places.{IsNowhere as IsNoPart}
-use Rattle.tell_faults.specs.Ways.{IsNoEntry, IsOfLinks}
+use Rattle.tell_entries.specs.Ways.{IsNoEntry, IsOfLinks}
 use Rattle.tell_checks.specs.Spots.{IsNowhere, IsPlaceOf, IsPromised}
 use Rattle.tell_checks.specs.declared.spot.Place.{Place}
 use Rattle.tell_checks.specs.declared.spot.Place.TheVariants as place

@@ -4,8 +4,8 @@ use Rattle.cfb_chains.specs.Chain.{IsChain}
 use Rattle.cfb_chains.specs.Fat.{FatValue, IsTableOf, sectors_of, store_of}
 use Rattle.cfb_chains.proofs.Chains.{chain_same}
 use Rattle.cfb_header.specs.Header.{HeaderValue, first_mini_fat, header_of, listed}
-use Rattle.tell_faults.specs.Ways.{IsDirectoryOf}
-use Rattle.tell_faults.specs.declared.directory.Directory.{Directory}
+use Rattle.tell_entries.specs.Ways.{IsDirectoryOf}
+use Rattle.tell_entries.specs.declared.directory.Directory.{Directory}
 use Rattle.tell_checks.specs.Spots.{IsEntryIn, IsItemAt, IsNextMiniOf}
 
 pub entry_in : (file : List ℕ) (d : Directory) (sectors : List ℕ) (id at : ℕ) → IsDirectoryOf file d

@@ -7,14 +7,14 @@ use Rattle.std.specs.Fmt.{decimal}
 use Rattle.json.specs.Print.{print}
 use Rattle.json.specs.Token.{Token, begin_object, boolean, end_object, key, null, number, string}
 use Rattle.text_words.specs.Told.{told}
-use Rattle.tell_faults.specs.Ways.{end_of}
+use Rattle.tell_entries.specs.Ways.{end_of}
 use Rattle.tell_faults.specs.declared.place.Link.{Link}
 use Rattle.tell_faults.specs.declared.place.FaultPlace.{FaultPlace}
 use Rattle.tell_faults.specs.declared.place.FaultPlace.TheVariants as chain
-use Rattle.tell_faults.specs.declared.place.EntryPlace.{EntryPlace}
-use Rattle.tell_faults.specs.declared.place.EntryPlace.TheVariants as entry
-use Rattle.tell_faults.specs.declared.place.Owner.{Owner}
-use Rattle.tell_faults.specs.declared.place.Owner.TheVariants as owner
+use Rattle.tell_entries.specs.declared.place.EntryPlace.{EntryPlace}
+use Rattle.tell_entries.specs.declared.place.EntryPlace.TheVariants as entry
+use Rattle.tell_chains.specs.declared.place.Owner.{Owner}
+use Rattle.tell_chains.specs.declared.place.Owner.TheVariants as owner
 use Rattle.read_files.specs.Reads.{read_fault_name}
 use Rattle.read_files.specs.declared.fault.ReadFault.{ReadFault}
 use Rattle.tell_checks.specs.Lines.{SOUND, told_line}

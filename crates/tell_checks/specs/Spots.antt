@@ -11,13 +11,13 @@ use Rattle.cfb_entries.specs.Entries.{IsNamed, entry_at}
 use Rattle.text_words.specs.Spelled.{name_text}
 use Rattle.cfb_faults.specs.Faults.{IsDirectory}
 use Rattle.tell_faults.specs.Places.{IsFaultAt}
-use Rattle.tell_faults.specs.Streams.{IsFaultOfStream}
-use Rattle.tell_faults.specs.Ways.{IsFaultOfEntry, IsOfLinks, end_of}
+use Rattle.tell_chains.specs.Streams.{IsFaultOfStream}
+use Rattle.tell_entries.specs.Ways.{IsFaultOfEntry, IsOfLinks, end_of}
 use Rattle.tell_faults.specs.declared.place.FaultPlace.{FaultPlace}
 use Rattle.tell_faults.specs.declared.place.FaultPlace.TheVariants as chain
-use Rattle.tell_faults.specs.declared.place.EntryPlace.{EntryPlace}
-use Rattle.tell_faults.specs.declared.place.EntryPlace.TheVariants as entry
-use Rattle.tell_faults.specs.declared.place.StreamPlace.{StreamPlace}
+use Rattle.tell_entries.specs.declared.place.EntryPlace.{EntryPlace}
+use Rattle.tell_entries.specs.declared.place.EntryPlace.TheVariants as entry
+use Rattle.tell_chains.specs.declared.place.StreamPlace.{StreamPlace}
 use Rattle.read_files.specs.declared.fault.ReadFault.{ReadFault}
 use Rattle.read_files.specs.declared.fault.ReadFault.TheVariants as read
 use Rattle.tell_checks.specs.declared.spot.Place.{Place}

@@ -1,7 +1,7 @@
 //! The bytes of a file at which what is wrong stands.
 
 ghost use Rattle.cfb_header.specs.Bytes.{u32_at};
-ghost use Rattle.tell_faults.specs.Ways.{IsDirectoryOf, end_of};
+ghost use Rattle.tell_entries.specs.Ways.{IsDirectoryOf, end_of};
 ghost use Rattle.tell_checks.specs.Spots.{IsByteOf, IsByteOfChain, IsByteOfEntry, IsEntryAt, IsFirstOf, IsItemAt};
 ghost use Rattle.tell_checks.specs.Spots.{IsNextMiniOf, IsNextOf, IsStreamLinkAt, IsWordAt};
 ghost use Rattle.std.specs.Prelude.{◌*◌, ◌+◌, ◌≡◌, ◌≤◌, IfNone, IfOk, IfSome, Some, drop, length, take, true};
@@ -14,9 +14,11 @@ use read_chains::difat::fat_sectors;
 use read_chains::fat::Fat;
 use read_chains::image::Image;
 use std::alloc::{AllocError, Global};
-use tell_faults::directory::{Directory, read_directory};
-use tell_faults::place::{EntryPlace, FaultPlace, Link, StreamPlace};
-use tell_faults::ways::end_of;
+use tell_chains::place::StreamPlace;
+use tell_entries::directory::{Directory, read_directory};
+use tell_entries::place::EntryPlace;
+use tell_entries::ways::end_of;
+use tell_faults::place::{FaultPlace, Link};
 
 /// The bytes of a sector.
 const SECTOR: usize = 512;

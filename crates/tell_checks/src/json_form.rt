@@ -11,8 +11,10 @@ use crate::spot::{Place, Spot};
 use json::Writer;
 use read_files::fault::ReadFault;
 use std::alloc::{AllocError, Global};
-use tell_faults::place::{EntryPlace, FaultPlace, Link, Owner};
-use tell_faults::ways::end_of;
+use tell_chains::place::Owner;
+use tell_entries::place::EntryPlace;
+use tell_entries::ways::end_of;
+use tell_faults::place::{FaultPlace, Link};
 
 /// The part that a chain is of.
 fn chain_part(place: FaultPlace) -> &'static str

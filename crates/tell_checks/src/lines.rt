@@ -9,8 +9,10 @@ ghost use Rattle.std.specs.Prelude.{◌≡◌, ◌++◌, IfOk, OnOk};
 use crate::spot::{Place, Spot};
 use read_files::fault::ReadFault;
 use std::alloc::{AllocError, Global};
-use tell_faults::place::{EntryPlace, FaultPlace, Link, Owner, StreamPlace};
-use tell_faults::ways::end_of;
+use tell_chains::place::{Owner, StreamPlace};
+use tell_entries::place::EntryPlace;
+use tell_entries::ways::end_of;
+use tell_faults::place::{FaultPlace, Link};
 
 /// Writes a number behind words.
 fn push_number(

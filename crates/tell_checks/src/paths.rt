@@ -10,7 +10,7 @@ use cfb_names::fault::DirFault;
 use cfb_names::name::Name;
 use read_directories::entries::Entries;
 use std::alloc::{AllocError, Global};
-use tell_faults::directory::read_directory;
+use tell_entries::directory::read_directory;
 use text_spelling::writing::push_name;
 
 /// The name of an entry other than the root, where it can be read.

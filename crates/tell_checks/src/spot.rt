@@ -4,7 +4,7 @@ ghost use Rattle.cfb_header.specs.Header.{IsHeader, header_read};
 ghost use Rattle.cfb_header.specs.declared.fault.ChainFault.{ChainFault};
 ghost use Rattle.cfb_header.specs.declared.fault.ChainFault.TheVariants.{NoMemory};
 ghost use Rattle.tell_faults.specs.Places.{IsNowhere as IsNoPart};
-ghost use Rattle.tell_faults.specs.Ways.{IsNoEntry, IsOfLinks};
+ghost use Rattle.tell_entries.specs.Ways.{IsNoEntry, IsOfLinks};
 ghost use Rattle.tell_checks.specs.Spots.{IsHeaderTold, IsNowhere, IsPathOf, IsPlaceOf, IsPlaceTold, IsSpotOf, way_of};
 ghost use Rattle.std.specs.Prelude.{[], ◌∷◌, ◌≡◌, ◌≢◌, ◌++◌, Err, IfNone, IfOk, IfSome, Some, string_bytes};
 
@@ -14,10 +14,12 @@ use cfb_header::fault::ChainFault;
 use cfb_names::fault::DirFault;
 use read_files::fault::ReadFault;
 use std::alloc::{AllocError, Global};
-use tell_faults::chains::find_stream;
-use tell_faults::directory::find_entry;
+use tell_chains::chains::find_stream;
+use tell_chains::place::StreamPlace;
+use tell_entries::directory::find_entry;
+use tell_entries::place::EntryPlace;
 use tell_faults::finding::find_place;
-use tell_faults::place::{EntryPlace, FaultPlace, StreamPlace};
+use tell_faults::place::FaultPlace;
 
 /// A place at which a file has a fault.
 #[derive(Drop)]

@@ -1,11 +1,5 @@
+pub mod Held
 pub mod Walks
 pub mod Places
-pub mod Steps
-pub mod Cycles
-pub mod Owned
-pub mod Laid
 pub mod Stops
 pub mod Fats
-pub mod OwnFaults
-pub mod Searches
-pub mod Found

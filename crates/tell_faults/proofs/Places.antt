@@ -289,3 +289,17 @@ module _ (file : List ℕ) (f : FatValue) (lists table : List ℕ) (t : AreTable
   abbrev pub directory_at : (dir ns : List ℕ) → IsChain (sectors_of file (listed file)) (first_directory file) 0 ns
       → dir ≡ joined (sector file) ns → IsDirectory file dir
   directory_at dir ns h e = record { is_fat = t.is_fat; sectors = ns; is_chain = h; bytes_are = e }
+
+  -- the same where the table is a copy
+  pub whole_in : (seen : List ℕ) (c : Chain) (first size : ℕ) (ns seen_ns : List ℕ)
+      → ((s : Store) → IsTabled seen s → s.width ≡ c.width → IsChain s c.first c.size ns) → seen ≡ table
+      → c.first ≡ first → c.size ≡ size → c.width ≡ 512 → seen_ns ≡ ns
+      → IsChain (sectors_of file (listed file)) first size seen_ns
+  whole_in seen c first size ns seen_ns e s a b w n =
+      let tabled : IsTabled seen (sectors_of file (listed file)) =
+      subst (λ (xs : List ℕ). IsTabled xs (sectors_of file (listed file))) (sym s) t.tabled in
+      let at : IsChain (sectors_of file (listed file)) c.first c.size ns =
+      e (sectors_of file (listed file)) tabled (width_by file (listed file) ∙ sym w) in
+      subst (λ (xs : List ℕ). IsChain (sectors_of file (listed file)) first size xs) (sym n)
+      (subst (λ (x : ℕ). IsChain (sectors_of file (listed file)) x size ns) a
+      (subst (λ (x : ℕ). IsChain (sectors_of file (listed file)) c.first x ns) b at))

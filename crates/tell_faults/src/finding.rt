@@ -12,18 +12,15 @@ ghost use Rattle.cfb_faults.specs.Faults.{IsFatAtFault};
 ghost use Rattle.std.specs.Prelude.{◌*◌, ◌++◌, ◌≡◌, ◌≢◌, ◌≤◌, Err, IfNone, IfOk, IfSome, Some, length, true};
 
 use crate::fat_faults::is_fat_at_fault;
-use crate::parts::root_of;
 use crate::place::FaultPlace;
+use crate::root::root_of;
 use crate::tables::{Tables, lists_of, tables_of};
-use crate::walking::{Chain, Examined, examine};
+use crate::walking::{Chain, Examined, SECTOR, examine};
 use cfb_header::fault::ChainFault;
 use cfb_header::header::Header;
 use read_chains::fat::Fat;
 use read_chains::image::Image;
 use std::alloc::{AllocError, Global};
-
-/// The bytes of a sector.
-pub(crate) const SECTOR: u32 = 512;
 
 /// Whether two faults are the same one, other than want of memory.
 fn is_same(a: ChainFault, b: ChainFault) -> bool
@@ -168,7 +165,7 @@ fn both(alloc: Global, some: &[u32], others: &[u32]) -> Result<Vec<u32>, AllocEr
 }
 
 /// The same of three lists.
-pub(crate) fn all_of(
+pub fn all_of(
     alloc: Global,
     some: &[u32],
     others: &[u32],

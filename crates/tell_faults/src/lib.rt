@@ -1,18 +1,10 @@
-//! Where a compound file that is refused is at fault.
+//! Where a compound file that is refused is at fault: its header, its FAT, and the chains of the system's own parts.
 #![tactic(auto)]
 
-pub mod chains;
-pub mod directory;
-mod ends;
 mod fat_faults;
 pub mod finding;
 pub mod law;
-mod looking;
-mod own_faults;
-mod parts;
 pub mod place;
-mod searching;
-mod streams;
-mod tables;
-mod walking;
-pub mod ways;
+pub mod root;
+pub mod tables;
+pub mod walking;

@@ -14,13 +14,13 @@ use std::alloc::{AllocError, Global};
 
 /// The FAT of a file.
 #[derive(Drop)]
-pub(crate) struct Tables<'a> {
+pub struct Tables<'a> {
     /// The table over the file.
-    pub(crate) fat: Fat<'a>,
+    pub fat: Fat<'a>,
     /// The sectors of the FAT, and then those of the DIFAT.
-    pub(crate) lists: Vec<u32>,
+    pub lists: Vec<u32>,
     /// What stands in its entries.
-    pub(crate) entries: Vec<u32>,
+    pub entries: Vec<u32>,
 }
 
 /// What a file lists of its FAT, be that at fault or not.
@@ -50,7 +50,7 @@ pub(crate) fn lists_of(alloc: Global, header: &Header, file: &[u8]) -> Result<Li
 }
 
 /// The FAT of a file with this header, whose table is given.
-pub(crate) fn tables_of<'a>(
+pub fn tables_of<'a>(
     alloc: Global,
     header: &Header,
     file: &[u8],

@@ -14,15 +14,18 @@ use cfb_header::fault::ChainFault;
 use cfb_header::header::END_OF_CHAIN;
 use std::alloc::{AllocError, Global};
 
+/// The bytes of a sector.
+pub const SECTOR: u32 = 512;
+
 /// A chain that is looked for: its first sector, how wide each is, and for how many bytes it needs room.
 #[derive(Clone, Copy)]
-pub(crate) struct Chain {
+pub struct Chain {
     /// The first sector.
-    pub(crate) first: u32,
+    pub first: u32,
     /// The bytes of each sector.
-    pub(crate) width: u32,
+    pub width: u32,
     /// The bytes for which it needs room.
-    pub(crate) size: u64,
+    pub size: u64,
 }
 
 /// What was walked of a chain: its sectors, and the link at which it stops.
@@ -99,7 +102,7 @@ fn is_outside(count: usize, to: u32) -> bool
 }
 
 /// Whether a number stands in a list.
-pub(crate) fn stands_in(sectors: &[u32], n: u32) -> bool
+pub fn stands_in(sectors: &[u32], n: u32) -> bool
     ensures there { result ≡ true → Contains sectors.now n }
     ensures absent { result ≡ false → Contains sectors.now n → ⊥ }
 {
@@ -173,7 +176,7 @@ fn is_at_fault(
 
 /// What a chain is found to be.
 #[derive(Drop)]
-pub(crate) enum Examined {
+pub enum Examined {
     /// It has the fault that is looked for at this link.
     AtFault(Link),
     /// It is whole, and these are its sectors.
@@ -195,7 +198,7 @@ fn stops_for(taken: &[u32], fault: ChainFault) -> &[u32]
 
 /// Looks for a fault in a chain, by the entries of its table, where some sectors are taken by other parts. The fault is
 /// found wherever the chain has it, whatever else is wrong with it.
-pub(crate) fn examine(
+pub fn examine(
     alloc: Global,
     table: &[u32],
     taken: &[u32],
@@ -221,11 +224,7 @@ pub(crate) fn examine(
 }
 
 /// The sectors of a chain, by the entries of its table. None where it isn't whole.
-pub(crate) fn chain_at(
-    alloc: Global,
-    table: &[u32],
-    chain: Chain,
-) -> Result<Option<Vec<u32>>, AllocError>
+pub fn chain_at(alloc: Global, table: &[u32], chain: Chain) -> Result<Option<Vec<u32>>, AllocError>
     requires { length table.now ≤ 0xFFFFFFF9 }
     ensures whole { IfOk result (λ v. IfSome v (λ ns. (s : Store) → IsTabled table.now s → s.width ≡ chain.width
         → IsChain s chain.first chain.size ns.items)) }

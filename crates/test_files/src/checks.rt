@@ -3,11 +3,11 @@
 use cfb_header::fault::ChainFault;
 use std::alloc::Global;
 use std::process::Abort;
+use tell_chains::chains::find_stream;
 use tell_checks::telling::Form;
-use tell_faults::chains::find_stream;
+use tell_entries::ways::end_of;
 use tell_faults::finding::find_place;
 use tell_faults::place::{FaultPlace, Link};
-use tell_faults::ways::end_of;
 use tell_files::checking::check_file;
 use write_described::making::make_file;
 

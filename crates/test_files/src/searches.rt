@@ -4,10 +4,11 @@ use cfb_header::fault::ChainFault;
 use cfb_names::fault::DirFault;
 use std::alloc::Global;
 use std::process::Abort;
-use tell_faults::directory::find_entry;
+use tell_entries::directory::find_entry;
+use tell_entries::place::EntryPlace;
+use tell_entries::ways::end_of;
 use tell_faults::finding::find_place;
-use tell_faults::place::{EntryPlace, FaultPlace};
-use tell_faults::ways::end_of;
+use tell_faults::place::FaultPlace;
 use write_described::making::make_file;
 
 /// A file of two streams.

@@ -1,6 +1,6 @@
 use Rattle.std.proofs.Common.{Option, IfSome, refl, subst}
-use Rattle.tell_faults.specs.Ways.{IsDirectoryOf}
-use Rattle.tell_faults.specs.declared.directory.Directory.{Directory}
+use Rattle.tell_entries.specs.Ways.{IsDirectoryOf}
+use Rattle.tell_entries.specs.declared.directory.Directory.{Directory}
 use Rattle.tell_checks.proofs.Standing.{entry_in}
 use Rattle.tell_checks.proofs.bytes.byte_of_first.Goals as goal
 

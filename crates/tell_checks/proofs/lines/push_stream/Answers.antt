@@ -1,5 +1,5 @@
 use Rattle.std.proofs.Common.{◌≡◌, ◌++◌, ◌∙◌, ℕ, List, ap}
-use Rattle.tell_faults.specs.Ways.{end_of}
+use Rattle.tell_entries.specs.Ways.{end_of}
 use Rattle.tell_checks.specs.Lines.{owner_text, path_part, stream_link_text, stream_number_text}
 use Rattle.tell_checks.proofs.Told.{four, ok_map}
 use Rattle.tell_checks.proofs.lines.push_stream.Goals as goal

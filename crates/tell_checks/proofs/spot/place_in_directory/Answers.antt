@@ -1,5 +1,5 @@
-use Rattle.tell_faults.specs.Ways.{IsNoEntry}
-use Rattle.tell_faults.proofs.Owned.{none_gives}
+use Rattle.tell_entries.specs.Ways.{IsNoEntry}
+use Rattle.tell_faults.proofs.Held.{none_gives}
 use Rattle.tell_checks.proofs.spot.place_in_directory.Goals as goal
 
 pub returns-in-Ok-None-clause-nowhere : goal.returns-in-Ok-None-clause-nowhere

@@ -1,5 +1,0 @@
-use Rattle.tell_faults.proofs.Steps as steps
-use Rattle.tell_faults.proofs.law.entry_is_at_fault.Goals as goal
-
-pub returns : goal.returns
-returns c = steps.entry_is_at_fault

@@ -1,5 +1,0 @@
-use Rattle.tell_faults.proofs.Owned.{stream_is_at_fault}
-use Rattle.tell_faults.proofs.law.stream_is_at_fault.Goals as goal
-
-pub returns : goal.returns
-returns c = stream_is_at_fault

@@ -1,6 +1,0 @@
-use Rattle.std.specs.List.{All}
-use Rattle.tell_faults.specs.Ways.{IsWay}
-use Rattle.tell_faults.proofs.ways.push_ways.Given as goal
-
-abbrev pub invariant-loop-child : goal.invariant-loop-child
-invariant-loop-child l = All (λ w. IsWay l.directory w.items) l.ways.items
