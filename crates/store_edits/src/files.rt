@@ -64,11 +64,15 @@ fn update(alloc: Global, image: &mut Image, tree: &Tree, is_zeroed: bool) -> Res
     ensures allowed { OnOk result (writable (kept tree.now).now ≡ Ok tt) }
 {
     if is_zeroed {
-        image.update_zeroed(alloc, tree)?;
-    } else {
-        image.update(alloc, tree)?;
+        return match image.update_zeroed(alloc, tree) {
+            Ok(_) => Ok(()),
+            Err(fault) => Err(fault),
+        };
     }
-    Ok(())
+    match image.update(alloc, tree) {
+        Ok(_) => Ok(()),
+        Err(fault) => Err(fault),
+    }
 }
 
 /// How many blocks of a file differ from an older one's, or are new.
@@ -121,6 +125,8 @@ pub fn updated(
     ensures counted { IfOk result (λ u. u.blocks ≡ length (changed_blocks document.now u.image)) }
     ensures refused { IfErr result (MayRefuseUpdate changes.items document.now) }
 {
-    let tree = edited_tree(alloc, document, changes)?;
-    file_of(alloc, document, &tree, is_zeroed)
+    match edited_tree(alloc, document, changes) {
+        Ok(tree) => file_of(alloc, document, &tree, is_zeroed),
+        Err(fault) => Err(fault),
+    }
 }

@@ -79,8 +79,10 @@ fn carry_out(alloc: Global, tree: &mut Tree, change: Change) -> Result<(), LineF
 fn put(tree: &mut Tree, path: &[Name], bytes: Bytes) -> Result<(), LineFault>
     ensures { Does result (of_tree (put path.now bytes (kept tree.old))) (kept tree.new) }
 {
-    tree.put_stream(path, bytes)?;
-    Ok(())
+    match tree.put_stream(path, bytes) {
+        Ok(()) => Ok(()),
+        Err(fault) => Err(LineFault::from(fault)),
+    }
 }
 
 /// So many bytes that are all the same.
@@ -114,16 +116,20 @@ fn fill(
 fn make_storage(tree: &mut Tree, path: &[Name], class: ClassId) -> Result<(), LineFault>
     ensures { Does result (of_tree (made path.now class 0 (kept tree.old))) (kept tree.new) }
 {
-    tree.make_storage(path, class, 0)?;
-    Ok(())
+    match tree.make_storage(path, class, 0) {
+        Ok(()) => Ok(()),
+        Err(fault) => Err(LineFault::from(fault)),
+    }
 }
 
 /// Removes what stands at a path.
 fn remove(tree: &mut Tree, path: &[Name]) -> Result<(), LineFault>
     ensures { Does result (of_tree (removed path.now (kept tree.old))) (kept tree.new) }
 {
-    tree.remove(path)?;
-    Ok(())
+    match tree.remove(path) {
+        Ok(()) => Ok(()),
+        Err(fault) => Err(LineFault::from(fault)),
+    }
 }
 
 /// Gives what stands at a path the name of a path of one name.
@@ -153,8 +159,10 @@ fn rename_to(tree: &mut Tree, path: &[Name], new: &[Name]) -> Result<(), LineFau
 fn rename_child(tree: &mut Tree, path: &[Name], name: &Name) -> Result<(), LineFault>
     ensures { Does result (of_tree (renamed path.now name.now (kept tree.old))) (kept tree.new) }
 {
-    tree.rename(path, name.copy())?;
-    Ok(())
+    match tree.rename(path, name.copy()) {
+        Ok(()) => Ok(()),
+        Err(fault) => Err(LineFault::from(fault)),
+    }
 }
 
 /// Sets the class id or the state bits of the storage at a path, the root at the empty one.
@@ -165,6 +173,8 @@ fn set_mark(alloc: Global, tree: &mut Tree, path: &[Name], mark: Mark) -> Result
     let mut root = mem::replace(tree, nothing).into_root();
     let done = mark_at(&mut root, path, mark);
     *tree = Tree::from_root(alloc, root);
-    done?;
-    Ok(())
+    match done {
+        Ok(()) => Ok(()),
+        Err(fault) => Err(LineFault::from(fault)),
+    }
 }
