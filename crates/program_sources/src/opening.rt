@@ -30,9 +30,11 @@ pub fn open_source<R: Runtime + AllocGlobal>(
     rt: &R,
     path: &str,
 ) -> Result<FileSource<R::File>, ExitCode> {
-    let file = open(rt, path)?;
-    match source_of(rt.alloc(), file) {
-        Ok(source) => Ok(source),
-        Err(fault) => Err(refuse(rt, &Report::File(path, fault.name()))),
+    match open(rt, path) {
+        Ok(file) => match source_of(rt.alloc(), file) {
+            Ok(source) => Ok(source),
+            Err(fault) => Err(refuse(rt, &Report::File(path, fault.name()))),
+        },
+        Err(code) => Err(code),
     }
 }

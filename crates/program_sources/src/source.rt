@@ -45,6 +45,8 @@ pub fn read_source<F: Read + Seek>(alloc: Global, file: &mut F) -> Result<FileSo
     ensures whole { IfOk result (λ source. IfSome (F.remaining file.old) (λ bytes. known_bytes source ≡ Some bytes)) }
     ensures refused { IfErr result (λ fault. IfSome (F.remaining file.old) (λ bytes. MayRefuseInput bytes fault)) }
 {
-    let bytes = read_all(alloc, file)?;
-    Ok(FileSource::Whole(bytes))
+    match read_all(alloc, file) {
+        Ok(bytes) => Ok(FileSource::Whole(bytes)),
+        Err(fault) => Err(fault),
+    }
 }
