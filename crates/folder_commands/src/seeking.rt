@@ -87,9 +87,13 @@ pub(crate) fn seek<S: Source>(
     ensures kept { S.bytes source.new ≡ S.bytes source.old }
 {
     if is_short(place) {
-        let bytes = read_short(alloc, source, tables, window, place)?;
-        return Ok(Stream::Held(bytes));
+        return match read_short(alloc, source, tables, window, place) {
+            Ok(bytes) => Ok(Stream::Held(bytes)),
+            Err(fault) => Err(fault),
+        };
     }
-    let lies = follow_long(alloc, tables, place)?;
-    Ok(Stream::Lies(lies))
+    match follow_long(alloc, tables, place) {
+        Ok(lies) => Ok(Stream::Lies(lies)),
+        Err(fault) => Err(fault),
+    }
 }
