@@ -20,7 +20,8 @@ use Rattle.cfb_entries.proofs.Linked.{reaches_left, reaches_right}
 use Rattle.cfb_names.specs.declared.fault.DirFault.{DirFault}
 use Rattle.cfb_names.specs.declared.fault.DirFault.TheVariants as directory
 use Rattle.cfb_faults.specs.Faults.{Descends, IsChild, IsStorage, LeadsOutside}
-use Rattle.tell_entries.specs.Searches.{AreAllMet, AreMet, IsAhead, IsFollowed, IsMetAtFault, IsOpening, IsSearch, IsWayAtFault}
+use Rattle.tell_entries.specs.Searches.{AreAllMet, AreMet, IsAhead, IsFollowed, IsMetAtFault, IsOpening, IsSearch}
+use Rattle.tell_entries.specs.Searches.{IsWayAtFault}
 use Rattle.tell_entries.specs.Searches.{Waits}
 use Rattle.tell_entries.specs.Ways.{IsWay, end_of}
 use Rattle.tell_entries.specs.declared.searching.Ahead.{Ahead}
@@ -639,7 +640,8 @@ module _ (dir ids parents : List ℕ) (seen : List Bool) (unseen : ℕ)
     (s : IsSearch dir directory.NoMemory ids parents seen [] unseen) where
   marked_met : (n : ℕ) → n ≢ 0 → n < length seen → get_or seen n true ≡ true → Contains ids n
   marked_met n below lt t =
-      elim (s.noted n (linked_by dir directory.NoMemory ids parents seen [] unseen n s (omega (arith, lt, s.sized)) t)) [
+      elim (s.noted n
+      (linked_by dir directory.NoMemory ids parents seen [] unseen n s (omega (arith, lt, s.sized)) t)) [
         | inl root ↦ absurd (below root)
         | inr there ↦ there
       ]

@@ -18,8 +18,10 @@ returns-in-Some-clause-there c =
     × IsMetAtFault c.args.directory.now c.args.fault c.follow.new.search.ids.items k) c.in_ok-found.found
     c.in-Some.place c.in-Some.is c.in_ok-found.ensures.met in (
       c.in_ok-way-in-Some.ensures.way,
-      found_by c.args.directory.now c.args.fault c.follow.new.search.ids.items c.in_ok-way-in-Some.way.items c.in-Some.place
-          met.1 (c.in_ok-way-in-Some.ensures.end ∙ ap (λ (xs : List ℕ). get_or xs c.in-Some.place 0) c.deref.ensures.value),
+      found_by c.args.directory.now c.args.fault c.follow.new.search.ids.items c.in_ok-way-in-Some.way.items
+          c.in-Some.place met.1
+          (c.in_ok-way-in-Some.ensures.end
+          ∙ ap (λ (xs : List ℕ). get_or xs c.in-Some.place 0) c.deref.ensures.value),
     )
 
 pub returns-clause-nowhere : goal.returns-clause-nowhere
