@@ -97,14 +97,16 @@ fn crossing_at(
     at: usize,
     count: usize,
 ) -> Crossing {
-    if ending.to != END_OF_CHAIN {
+    if !lies_in_minis(stream.size) && (ending.to as usize) < endings.sectors.len() {
         return Crossing::System;
     }
     let Some(last) = ending.last else {
         return Crossing::Nobody;
     };
     match first_of(endings, stream, last) {
-        Some(other) if other != at && other < count => Crossing::Stream(other),
+        Some(other) if other != at && other < count && ending.to == END_OF_CHAIN => {
+            Crossing::Stream(other)
+        }
         _ => Crossing::Nobody,
     }
 }
