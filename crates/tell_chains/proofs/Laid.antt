@@ -9,7 +9,7 @@ use Rattle.cfb_header.specs.Header.{difat, first_directory, first_mini_fat, list
 use Rattle.cfb_chains.specs.Chain.{IsChain, IsChainOf, Store}
 use Rattle.cfb_chains.specs.Fat.{FatValue, mini_sectors_of, sectors_of, store_of}
 use Rattle.cfb_chains.proofs.Blocks.{length_block, length_joined}
-use Rattle.cfb_chains.proofs.Chains.{chain_below, joined_same}
+use Rattle.cfb_chains.proofs.Chains.{chain_below, chain_once, chain_one, joined_same}
 use Rattle.cfb_entries.specs.Entries.{entry_at, first_of, size_of}
 use Rattle.cfb_file.specs.Denotes.{IsLaidOut, Layout, directory_of, minis, root_of, sectors}
 use Rattle.cfb_faults.specs.Faults.{base_in}
@@ -163,3 +163,95 @@ parts_are file f lists table t ns mini_fat mini_stream dir first size count p d 
       narrow = mini_width file (take (mini_fat_count file) mini_fat) mini_stream (size_of (root_of file l));
     } in
     ((subst (λ (xs : List ℕ). length xs ≤ 0xFFFFFFF9) (sym pt) t.few, few), (l, laid, base))
+
+-- ---- a file has one layout
+module _ (file : List ℕ) (l : Layout) (laid : IsLaidOut file l) where
+  pub directory_laid : IsChain (sectors_of file (listed file)) (first_directory file) 0 l.directory
+  directory_laid = subst (λ (x : List ℕ). IsChain (sectors_of file x) (first_directory file) 0 l.directory)
+      laid.fat_listed laid.directory
+
+  pub mini_fat_laid : IsChainOf (sectors_of file (listed file)) (first_mini_fat file) (512 * mini_fat_count file)
+      l.mini_fat
+  mini_fat_laid = subst (λ (x : List ℕ). IsChainOf (sectors_of file x) (first_mini_fat file)
+      (512 * mini_fat_count file) l.mini_fat) laid.fat_listed laid.mini_fat
+
+  pub mini_stream_laid : (ns : List ℕ) → l.directory ≡ ns
+      → IsChainOf (sectors_of file (listed file)) (first_of (entry_at (joined (sector file) ns) 0))
+      (size_of (entry_at (joined (sector file) ns) 0)) l.mini_stream
+  unfolding directory_of
+  mini_stream_laid ns same =
+      subst (λ (x : List ℕ). IsChainOf (sectors_of file (listed file)) (first_of (entry_at (joined (sector file) x) 0))
+      (size_of (entry_at (joined (sector file) x) 0)) l.mini_stream) same
+      (subst (λ (x : List ℕ). IsChainOf (sectors_of file x)
+      (first_of (entry_at (joined (sector file) l.directory) 0))
+      (size_of (entry_at (joined (sector file) l.directory) 0)) l.mini_stream) laid.fat_listed laid.mini_stream)
+
+  pub directory_same : (ns : List ℕ) → IsChain (sectors_of file (listed file)) (first_directory file) 0 ns
+      → l.directory ≡ ns
+  directory_same ns h = chain_one (sectors_of file (listed file)) (first_directory file) l.directory ns directory_laid h
+
+pub one_layout : (file : List ℕ) (l m : Layout) → IsLaidOut file l → IsLaidOut file m → l ≡ m
+one_layout file l m a b =
+    let fat : l.fat ≡ m.fat = a.fat_listed ∙ sym b.fat_listed in
+    let difat : l.difat ≡ m.difat = a.difat_listed ∙ sym b.difat_listed in
+    let dir : l.directory ≡ m.directory = directory_same file l a m.directory (directory_laid file m b) in
+    let mini : l.mini_fat ≡ m.mini_fat =
+    chain_once (sectors_of file (listed file)) (first_mini_fat file) (512 * mini_fat_count file) l.mini_fat m.mini_fat
+    (mini_fat_laid file l a) (mini_fat_laid file m b) in
+    let stream : l.mini_stream ≡ m.mini_stream =
+    chain_once (sectors_of file (listed file)) (first_of (entry_at (joined (sector file) m.directory) 0))
+    (size_of (entry_at (joined (sector file) m.directory) 0)) l.mini_stream m.mini_stream
+    (mini_stream_laid file l a m.directory dir) (mini_stream_laid file m b m.directory refl) in
+    λ i. record {
+      fat = fat i;
+      difat = difat i;
+      directory = dir i;
+      mini_fat = mini i;
+      mini_stream = stream i;
+    }
+
+-- ---- a file with a part at fault has none
+pub no_directory : (file : List ℕ)
+    → ((ns : List ℕ) → IsChain (sectors_of file (listed file)) (first_directory file) 0 ns → ⊥)
+    → (l : Layout) → IsLaidOut file l → ⊥
+no_directory file none l laid = none l.directory (directory_laid file l laid)
+
+pub no_mini_fat : (file : List ℕ) → ((ns : List ℕ)
+    → IsChainOf (sectors_of file (listed file)) (first_mini_fat file) (512 * mini_fat_count file) ns → ⊥)
+    → (l : Layout) → IsLaidOut file l → ⊥
+no_mini_fat file none l laid = none l.mini_fat (mini_fat_laid file l laid)
+
+pub no_mini_stream : (file ns dir : List ℕ)
+    → IsChain (sectors_of file (listed file)) (first_directory file) 0 ns → dir ≡ joined (sector file) ns
+    → ((ms : List ℕ)
+    → IsChainOf (sectors_of file (listed file)) (first_of (entry_at dir 0)) (size_of (entry_at dir 0)) ms → ⊥)
+    → (l : Layout) → IsLaidOut file l → ⊥
+no_mini_stream file ns dir h is none l laid =
+    none l.mini_stream
+    (subst (λ (x : List ℕ). IsChainOf (sectors_of file (listed file)) (first_of (entry_at x 0))
+    (size_of (entry_at x 0)) l.mini_stream) (sym is)
+    (mini_stream_laid file l laid ns (directory_same file l laid ns h)))
+
+-- no chain of a file, by its table
+pub not_chain_in : (file table seen : List ℕ) (c : Chain) (first size : ℕ)
+    → IsTabled table (sectors_of file (listed file)) → seen ≡ table
+    → ((s : Store) → IsTabled seen s → s.width ≡ c.width → (ns : List ℕ) → IsChainOf s c.first c.size ns → ⊥)
+    → c.first ≡ first → c.size ≡ size → c.width ≡ 512
+    → (ns : List ℕ) → IsChainOf (sectors_of file (listed file)) first size ns → ⊥
+not_chain_in file table seen c first size t same none a b w ns h =
+    none (sectors_of file (listed file))
+    (subst (λ (x : List ℕ). IsTabled x (sectors_of file (listed file))) (sym same) t)
+    (width_by file (listed file) ∙ sym w) ns
+    (subst (λ (x : ℕ). IsChainOf (sectors_of file (listed file)) c.first x ns) (sym b)
+    (subst (λ (x : ℕ). IsChainOf (sectors_of file (listed file)) x size ns) (sym a) h))
+
+-- a directory has whole entries
+pub whole_directory : (file : List ℕ) (p : Parts) → ArePartsOf file p
+    → (m : ℕ) × (length p.directory.items ≡ 128 * m)
+unfolding directory_of
+whole_directory file p h =
+    let l : Layout = h.1.0 in
+    let base : IsBaseOf p (base_in file l) = h.1.2 in
+    let long : length p.directory.items ≡ 512 * length l.directory =
+    ap (λ (x : List ℕ). length x) base.directory ∙ long_joined file l.directory in
+    (4 * length l.directory, omega (arith, long))

@@ -1,2 +1,4 @@
 pub mod Owned
 pub mod Laid
+pub mod Listed
+pub mod Leading

@@ -1,6 +1,6 @@
 -- What is wrong with the chain of a stream, and where.
-use Rattle.std.specs.Prelude.{◌≡◌, ◌≢◌, ◌<◌, ◌≤◌, ℕ, Bool, false, List, length, nat_lt}
-use Rattle.std.specs.List.{Contains}
+use Rattle.std.specs.Prelude.{◌≡◌, ◌≢◌, ◌<◌, ◌≤◌, ℕ, Bool, true, false, List, get_or, length, nat_lt, slice_index_or}
+use Rattle.std.specs.List.{All, Contains}
 use Rattle.cfb_chains.specs.Chain.{IsChainOf}
 use Rattle.cfb_header.specs.declared.fault.ChainFault.{ChainFault}
 use Rattle.cfb_header.specs.declared.fault.ChainFault.TheVariants as chain
@@ -12,6 +12,7 @@ use Rattle.tell_faults.specs.Places.{IsLinkAtFault}
 use Rattle.tell_faults.specs.Tables.{IsTabled}
 use Rattle.tell_entries.specs.Ways.{IsWay, end_of}
 use Rattle.tell_chains.specs.declared.parts.Parts.{Parts}
+use Rattle.tell_faults.specs.declared.place.Link.{Link}
 use Rattle.tell_chains.specs.declared.place.Owner.{Owner}
 use Rattle.tell_chains.specs.declared.place.Owner.TheVariants as owner
 use Rattle.tell_chains.specs.declared.place.StreamPlace.{StreamPlace}
@@ -57,6 +58,10 @@ pub record IsStreamPlace (b : Base) (fault : ChainFault) (p : StreamPlace) : Typ
 abbrev pub IsFaultOfStream : List ℕ → ChainFault → StreamPlace → Type 0
 IsFaultOfStream file fault p = (l : Layout) × IsLaidOut file l × IsStreamPlace (base_in file l) fault p
 
+-- no stream of a file has the fault
+abbrev pub IsNoStream : List ℕ → ChainFault → Type 0
+IsNoStream file fault = (where_it_is : StreamPlace) → IsFaultOfStream file fault where_it_is → ⊥
+
 -- ---- what is read of a file, and of its streams
 -- what storages are read from, by what was read of a file
 pub record IsBaseOf (p : Parts) (b : Base) : Type 0 where
@@ -75,11 +80,38 @@ AreFew p = (length p.table.items ≤ 0xFFFFFFF9) × (length p.minis.items ≤ 0x
 abbrev pub ArePartsOf : List ℕ → Parts → Type 0
 ArePartsOf file p = AreFew p × ((l : Layout) × IsLaidOut file l × IsBaseOf p (base_in file l))
 
--- what a stream's entry says
-pub record IsStream (dir : List ℕ) (s : Stream) : Type 0 where
-  pub at : IsStreamAt dir s.way.items
-  pub first : s.first ≡ first_of (entry_at dir (end_of s.way.items))
-  pub size : s.size ≡ size_of (entry_at dir (end_of s.way.items))
+-- a stream that isn't empty, as the entry says that was met
+pub record IsStream (dir ids : List ℕ) (s : Stream) : Type 0 where
+  pub met : Contains ids s.id
+  pub below : s.id ≢ 0
+  pub kind_is : kind (entry_at dir s.id) ≡ 2
+  pub first : s.first ≡ first_of (entry_at dir s.id)
+  pub size : s.size ≡ size_of (entry_at dir s.id)
+  pub some : 0 < s.size
+
+-- the stream of an entry is among some
+abbrev pub IsAmong : List Stream → ℕ → Type 0
+IsAmong ss id = (k : ℕ) × (k < length ss) × ((d : Stream) → (get_or ss k d).id ≡ id)
+
+-- The streams that aren't empty of the first so many entries, of which marks tell whether they were met.
+pub record AreStreamsBelow (dir ids : List ℕ) (seen : List Bool) (bound : ℕ) (ss : List Stream) : Type 0 where
+  pub each : All (IsStream dir ids) ss
+  pub every : (id : ℕ) → id < bound → id ≢ 0 → slice_index_or seen id true ≡ true → kind (entry_at dir id) ≡ 2
+      → 0 < size_of (entry_at dir id) → IsAmong ss id
+
+-- All streams of a directory that aren't empty.
+pub record AreStreams (dir ids : List ℕ) (ss : List Stream) : Type 0 where
+  pub each : All (IsStream dir ids) ss
+  pub every : (way : List ℕ) → IsStreamAt dir way → 0 < size_of (entry_at dir (end_of way)) → IsAmong ss (end_of way)
+
+-- at no link the chain of a stream has a fault, where these sectors are taken
+abbrev pub IsSparedBy : Parts → List ℕ → ChainFault → Stream → Type 0
+IsSparedBy p taken fault s = (b : Base) → IsBaseOf p b → (link : Link)
+    → IsLinkAtFault (store_in b s.size) (Contains taken) s.first s.size fault link → ⊥
+
+-- no stream has the fault, by the parts of a file
+abbrev pub IsNoPlace : Parts → ChainFault → Type 0
+IsNoPlace p fault = (b : Base) → IsBaseOf p b → (where_it_is : StreamPlace) → IsStreamPlace b fault where_it_is → ⊥
 
 -- ---- the law
 -- where a place of a stream is told, the file is at fault

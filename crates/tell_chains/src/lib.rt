@@ -2,8 +2,10 @@
 #![tactic(auto)]
 
 pub mod chains;
-mod ends;
+mod crossings;
+mod fates;
 pub mod law;
+mod links;
 mod parts;
 pub mod place;
 mod streams;

@@ -3,6 +3,7 @@
 ghost use Rattle.cfb_bytes.specs.Bytes.{u32_at};
 ghost use Rattle.cfb_chains.specs.Chain.{IsChain, IsChainOf, Store};
 ghost use Rattle.cfb_chains.specs.Fat.{mini_sectors_of, sectors_of};
+ghost use Rattle.cfb_file.specs.Denotes.{IsLaidOut, Layout};
 ghost use Rattle.cfb_header.specs.Header.{first_directory, first_mini_fat, header_of, listed, mini_fat_count};
 ghost use Rattle.tell_chains.specs.Streams.{ArePartsOf};
 ghost use Rattle.tell_faults.specs.Tables.{AreTablesOf, IsTabled};
@@ -88,7 +89,8 @@ pub(crate) fn parts_of(
 ) -> Result<Option<Parts>, AllocError>
     requires same { header.now ≡ header_of file.now }
     requires tables { AreTablesOf file.now tables.now.fat tables.now.lists.items tables.now.entries.items }
-    ensures { IfOk result (λ v. IfSome v (ArePartsOf file.now)) }
+    ensures there { IfOk result (λ v. IfSome v (ArePartsOf file.now)) }
+    ensures none { IfOk result (λ v. IfNone v ((l : Layout) → IsLaidOut file.now l → ⊥)) }
 {
     let chain = Chain {
         first: header.first_directory(),
@@ -113,7 +115,8 @@ fn with_mini_fat(
     requires same { header.now ≡ header_of file.now }
     requires tables { AreTablesOf file.now tables.now.fat tables.now.lists.items tables.now.entries.items }
     requires directory { IsChain (sectors_of file.now (listed file.now)) (first_directory file.now) 0 directory.now }
-    ensures { IfOk result (λ v. IfSome v (ArePartsOf file.now)) }
+    ensures there { IfOk result (λ v. IfSome v (ArePartsOf file.now)) }
+    ensures none { IfOk result (λ v. IfNone v ((l : Layout) → IsLaidOut file.now l → ⊥)) }
 {
     let count = header.mini_fat_count();
     let chain = Chain {
@@ -142,7 +145,8 @@ fn with_mini_stream(
     requires counted { count ≡ mini_fat_count file.now }
     requires mini_fat { IsChainOf (sectors_of file.now (listed file.now)) (first_mini_fat file.now) (512 * count)
         mini_fat.now }
-    ensures { IfOk result (λ v. IfSome v (ArePartsOf file.now)) }
+    ensures there { IfOk result (λ v. IfSome v (ArePartsOf file.now)) }
+    ensures none { IfOk result (λ v. IfNone v ((l : Layout) → IsLaidOut file.now l → ⊥)) }
 {
     let bytes = tables.fat.join(alloc, directory)?;
     let (first, size) = root_of(&bytes);

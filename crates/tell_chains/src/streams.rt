@@ -1,27 +1,28 @@
-//! The streams of a directory.
+//! The streams of a directory, whatever is wrong with the links between its entries.
 
-ghost use Rattle.tell_chains.specs.Streams.{IsStream, lies_in_minis};
-ghost use Rattle.tell_entries.specs.Ways.{IsWay, end_of};
-ghost use Rattle.cfb_faults.specs.Faults.{IsStorage};
-ghost use Rattle.std.specs.List.{All};
-ghost use Rattle.std.specs.Prelude.{◌≡◌, IfOk, OnOk};
+ghost use Rattle.cfb_entries.specs.Entries.{entry_at, first_of, kind, size_of};
+ghost use Rattle.tell_chains.specs.Streams.{AreStreams, AreStreamsBelow, IsStream, IsStreamAt, lies_in_minis};
+ghost use Rattle.tell_entries.specs.Searches.{AreAllMet};
+ghost use Rattle.tell_entries.specs.Ways.{end_of};
+ghost use Rattle.std.specs.List.{Contains};
+ghost use Rattle.std.specs.Prelude.{◌≡◌, ◌<◌, ◌≤◌, ◌+◌, ◌*◌, IfNone, IfOk, IfSome, OnOk, length, slice_index};
 
-use cfb_names::fault::DirFault;
-use read_directories::entries::{Entries, EntryKind};
+use cfb_bytes::numbers::read_u32;
 use std::alloc::{AllocError, Global};
-use tell_entries::ways::{end_of, push_ways, root_way};
+use tell_entries::own_faults::entry_of;
+use tell_entries::searching::{Met, way_to};
 
 /// How many bytes a stream has at least that lies in sectors.
 const CUTOFF: u32 = 4096;
 
-/// How long the way to a storage is that no file is read with, so that no longer ones are kept.
-const TOO_DEEP: usize = 33;
+/// The kind of a stream.
+const STREAM: u8 = 2;
 
-/// A stream of a directory.
-#[derive(Drop)]
+/// A stream that isn't empty.
+#[derive(Clone, Copy)]
 pub(crate) struct Stream {
-    /// The way to its entry.
-    pub(crate) way: Vec<u32>,
+    /// Its entry.
+    pub(crate) id: usize,
     /// Its first sector, or its first mini sector.
     pub(crate) first: u32,
     /// How many bytes it has.
@@ -35,93 +36,96 @@ pub(crate) fn lies_in_minis(size: u32) -> bool
     size < CUTOFF
 }
 
-/// Looks at the entry of a way: adds the ways to the children of a storage, and the stream that it is.
-fn look_for_streams(
-    alloc: Global,
-    directory: &[u8],
-    entries: &mut Entries<'_>,
-    ways: &mut Vec<Vec<u32>>,
-    streams: &mut Vec<Stream>,
-    way: &[u32],
-) -> Result<(), AllocError>
-    requires same { entries.old.directory ≡ directory.now }
-    requires way { IsWay directory.now way.now }
-    requires ways { All (λ w. IsWay directory.now w.items) ways.old.items }
-    requires streams { All (IsStream directory.now) streams.old.items }
-    ensures same { OnOk result (entries.new.directory ≡ directory.now) }
-    ensures ways { OnOk result (All (λ w. IsWay directory.now w.items) ways.new.items) }
-    ensures streams { OnOk result (All (IsStream directory.now) streams.new.items) }
+/// The stream of an entry. None where it has none, or an empty one.
+fn stream_of(directory: &[u8], id: usize) -> Option<Stream>
+    requires { 128 * id + 128 ≤ length directory.now }
+    ensures some { IfSome result (λ s. (s.id ≡ id) × (kind (entry_at directory.now id) ≡ 2)
+        × (s.first ≡ first_of (entry_at directory.now id)) × (s.size ≡ size_of (entry_at directory.now id))
+        × (0 < s.size)) }
+    ensures none { IfNone result (kind (entry_at directory.now id) ≡ 2 → 0 < size_of (entry_at directory.now id) → ⊥) }
 {
-    let Ok(entry) = entries.entry(end_of(way)) else {
+    let entry = entry_of(directory, id);
+    if entry[66] != STREAM {
+        return None;
+    }
+    let size = read_u32(entry, 120);
+    if size == 0 {
+        return None;
+    }
+    let first = read_u32(entry, 116);
+    Some(Stream { id, first, size })
+}
+
+/// Adds the stream of an entry, if that was met and has one that isn't empty.
+fn push_stream(
+    directory: &[u8],
+    met: &Met,
+    streams: &mut Vec<Stream>,
+    id: usize,
+) -> Result<(), AllocError>
+    requires met { AreAllMet directory.now met.now.ids.items met.now.parents.items met.now.seen.items }
+    requires inside { id < length met.now.seen.items }
+    requires streams { AreStreamsBelow directory.now met.now.ids.items met.now.seen.items id streams.old.items }
+    ensures { OnOk result (AreStreamsBelow directory.now met.now.ids.items met.now.seen.items (id + 1)
+        streams.new.items) }
+{
+    if id == 0 {
         return Ok(());
-    };
-    match entry.kind {
-        EntryKind::Stream => {
-            let own = Vec::from_slice(alloc, way)?;
-            streams.push(Stream {
-                way: own,
-                first: entry.first,
-                size: entry.size,
-            })?;
+    }
+    if !met.seen[id] {
+        return Ok(());
+    }
+    match stream_of(directory, id) {
+        Some(stream) => {
+            streams.push(stream)?;
             Ok(())
         }
-        EntryKind::Root => open(alloc, directory, entries, ways, way),
-        EntryKind::Storage => {
-            if way.len() >= TOO_DEEP {
-                return Ok(());
-            }
-            open(alloc, directory, entries, ways, way)
-        }
+        None => Ok(()),
     }
 }
 
-/// Adds the ways to the children of the storage of a way, as far as its links lead to any.
-fn open(
+/// The streams of a directory that aren't empty, in the order of their entries.
+pub(crate) fn streams_of(
     alloc: Global,
     directory: &[u8],
-    entries: &mut Entries<'_>,
-    ways: &mut Vec<Vec<u32>>,
-    way: &[u32],
-) -> Result<(), AllocError>
-    requires same { entries.old.directory ≡ directory.now }
-    requires way { IsWay directory.now way.now }
-    requires storage { IsStorage directory.now (end_of way.now) }
-    requires ways { All (λ w. IsWay directory.now w.items) ways.old.items }
-    ensures same { OnOk result (entries.new.directory ≡ directory.now) }
-    ensures ways { OnOk result (All (λ w. IsWay directory.now w.items) ways.new.items) }
-{
-    let children = match entries.children(alloc, end_of(way)) {
-        Ok(children) => children,
-        Err(DirFault::NoMemory) => return Err(AllocError),
-        Err(_) => return Ok(()),
-    };
-    push_ways(alloc, directory, ways, way, &children)
-}
-
-/// The streams that links reach from the root of a directory of these bytes, as far as entries can be read.
-pub(crate) fn streams_of(alloc: Global, directory: &[u8]) -> Result<Vec<Stream>, AllocError>
-    ensures { IfOk result (λ v. All (IsStream directory.now) v.items) }
+    met: &Met,
+) -> Result<Vec<Stream>, AllocError>
+    requires { AreAllMet directory.now met.now.ids.items met.now.parents.items met.now.seen.items }
+    ensures { IfOk result (λ v. AreStreams directory.now met.now.ids.items v.items) }
 {
     let mut streams = Vec::new(alloc);
-    let mut entries = match Entries::load(alloc, directory) {
-        Ok(entries) => entries,
-        Err(DirFault::NoMemory) => return Err(AllocError),
-        Err(_) => return Ok(streams),
-    };
-    let mut ways = root_way(alloc)?;
-    for at in 0..directory.len() {
-        if at >= ways.len() {
-            return Ok(streams);
-        }
-        let way = Vec::from_slice(alloc, &ways[at])?;
-        look_for_streams(
-            alloc,
-            directory,
-            &mut entries,
-            &mut ways,
-            &mut streams,
-            &way,
-        )?;
+    for id in 0..met.seen.len() {
+        push_stream(directory, met, &mut streams, id)?;
     }
     Ok(streams)
+}
+
+/// The place of an entry among those that were met.
+fn place_among(ids: &[u32], id: usize) -> usize
+    requires { Contains ids.now id }
+    ensures inside { result < length ids.now }
+    ensures there { slice_index ids.now result ≡ id }
+{
+    for k in 0..ids.len() {
+        if ids[k] as usize == id {
+            return k;
+        }
+    }
+    0
+}
+
+/// The way to the entry of a stream.
+pub(crate) fn way_of(
+    alloc: Global,
+    directory: &[u8],
+    met: &Met,
+    stream: &Stream,
+) -> Result<Vec<u32>, AllocError>
+    requires met { AreAllMet directory.now met.now.ids.items met.now.parents.items met.now.seen.items }
+    requires stream { IsStream directory.now met.now.ids.items stream.now }
+    ensures { IfOk result (λ w. IsStreamAt directory.now w.items × (end_of w.items ≡ stream.now.id)) }
+{
+    let place = place_among(&met.ids, stream.id);
+    let way = way_to(alloc, directory, &met.ids, &met.parents, place)?;
+    Ok(way)
 }

@@ -1,10 +1,12 @@
 -- Where a file is at fault, with the path of the entry and the byte of the file.
-use Rattle.std.specs.Prelude.{◌≡◌, ◌⊎◌, ◌<◌, ◌≤◌, ◌+◌, ◌*◌, ◌/◌, ◌%◌, ◌++◌, ℕ, Bool, true, false, List, [], ◌∷◌, Option}
+use Rattle.std.specs.Prelude.{◌≡◌, ◌≢◌, ◌⊎◌, ◌<◌, ◌≤◌, ◌+◌, ◌*◌, ◌/◌, ◌%◌, ◌++◌, ℕ, Bool, true, false, List, [], ◌∷◌}
+use Rattle.std.specs.Prelude.{Option}
 use Rattle.std.specs.Prelude.{Some, None, IfNone, IfSome, Err, drop, length, option_map, slice_index, string_bytes}
 use Rattle.std.specs.Prelude.{take}
 use Rattle.cfb_header.specs.Bytes.{u32_at}
 use Rattle.cfb_header.specs.Header.{IsHeader, first_mini_fat, header_read, listed}
 use Rattle.cfb_header.specs.declared.fault.ChainFault.{ChainFault}
+use Rattle.cfb_header.specs.declared.fault.ChainFault.TheVariants as chain_fault
 use Rattle.cfb_chains.specs.Chain.{IsChain}
 use Rattle.cfb_chains.specs.Fat.{sectors_of}
 use Rattle.cfb_entries.specs.Entries.{IsNamed, entry_at}
@@ -37,10 +39,13 @@ IsPlaceOf file read.NoMemory (place.Stream p) = ⊥
 IsPlaceOf file read.NoMemory (place.Entry p) = ⊥
 
 -- The places of which one is told wherever a file with a sound header has one: those of the FAT and of the system's
--- parts, and those of entries but for the faults of links between them.
+-- parts, those of streams but for a chain that leads to a taken sector, and those of entries but for the faults of
+-- links between them.
 abbrev pub IsPromised : ReadFault → Place → Type 0
 IsPromised fault (place.Chain p) = Unit {0}
-IsPromised fault (place.Stream p) = ⊥
+IsPromised (read.Chain fault) (place.Stream p) = fault ≢ chain_fault.CrossLinked
+IsPromised (read.Directory fault) (place.Stream p) = Unit {0}
+IsPromised read.NoMemory (place.Stream p) = Unit {0}
 IsPromised (read.Directory fault) (place.Entry p) = IsOfLinks fault → ⊥
 IsPromised (read.Chain fault) (place.Entry p) = Unit {0}
 IsPromised read.NoMemory (place.Entry p) = Unit {0}

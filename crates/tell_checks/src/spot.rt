@@ -2,7 +2,8 @@
 
 ghost use Rattle.cfb_header.specs.Header.{IsHeader, header_read};
 ghost use Rattle.cfb_header.specs.declared.fault.ChainFault.{ChainFault};
-ghost use Rattle.cfb_header.specs.declared.fault.ChainFault.TheVariants.{NoMemory};
+ghost use Rattle.cfb_header.specs.declared.fault.ChainFault.TheVariants.{CrossLinked, NoMemory};
+ghost use Rattle.tell_chains.specs.Streams.{IsNoStream};
 ghost use Rattle.tell_faults.specs.Places.{IsNowhere as IsNoPart};
 ghost use Rattle.tell_entries.specs.Ways.{IsNoEntry, IsOfLinks};
 ghost use Rattle.tell_checks.specs.Spots.{IsHeaderTold, IsNowhere, IsPathOf, IsPlaceOf, IsPlaceTold, IsSpotOf, way_of};
@@ -68,7 +69,9 @@ fn place_in_streams(
     file: &[u8],
     fault: ChainFault,
 ) -> Result<Option<Place>, AllocError>
-    ensures { IfOk result (λ p. IfSome p (IsPlaceOf file.now (ReadFault.Chain fault))) }
+    ensures there { IfOk result (λ p. IfSome p (IsPlaceOf file.now (ReadFault.Chain fault))) }
+    ensures nowhere { IsHeader file.now → fault ≢ CrossLinked
+        → IfOk result (λ p. IfNone p (IsNoStream file.now fault)) }
 {
     match find_stream(alloc, file, fault) {
         Ok(Some(place)) => Ok(Some(Place::Stream(place))),
@@ -87,6 +90,8 @@ fn place_in_chains(
     ensures header { header_read file.now ≡ Err fault → fault ≢ NoMemory
         → IfOk result (λ p. p ≡ Some (Place.Chain FaultPlace.Header)) }
     ensures nowhere { IsHeader file.now → IfOk result (λ p. IfNone p (IsNoPart file.now fault)) }
+    ensures streams { IsHeader file.now → fault ≢ CrossLinked
+        → IfOk result (λ p. IfNone p (IsNoStream file.now fault)) }
 {
     match place_in_parts(alloc, file, fault) {
         Ok(Some(place)) => Ok(Some(place)),
@@ -158,9 +163,10 @@ fn known_path(alloc: Global, file: &[u8], place: &Place) -> Result<Option<String
 
 /// The place at which a file has a fault, where one is found, with the path of its entry and the byte, where these are
 /// known. That of a fault of the header is found. Where the header is sound, so is a place of the FAT, of the chain of
-/// the directory, the mini FAT or the mini stream, and of an entry that is at fault by itself or from which links lead
-/// outside, whatever else is wrong with the file. It isn't promised that one of a stream's chain is found, nor one of
-/// two entries of one name, of too many storages in one another and of links in a circle.
+/// the directory, the mini FAT, the mini stream or a stream, and of an entry that is at fault by itself or from which
+/// links lead outside, whatever else is wrong with the file. It isn't promised that one of a stream's chain is found
+/// that leads to a taken sector, nor one of two entries of one name, of too many storages in one another and of links
+/// in a circle.
 ///
 /// Refused for want of memory alone.
 pub fn find_spot(alloc: Global, file: &[u8], fault: ReadFault) -> Result<Option<Spot>, AllocError>

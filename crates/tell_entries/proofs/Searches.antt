@@ -20,7 +20,8 @@ use Rattle.cfb_entries.proofs.Linked.{reaches_left, reaches_right}
 use Rattle.cfb_names.specs.declared.fault.DirFault.{DirFault}
 use Rattle.cfb_names.specs.declared.fault.DirFault.TheVariants as directory
 use Rattle.cfb_faults.specs.Faults.{Descends, IsChild, IsStorage, LeadsOutside}
-use Rattle.tell_entries.specs.Searches.{AreMet, IsAhead, IsFollowed, IsMetAtFault, IsOpening, IsSearch, IsWayAtFault}
+use Rattle.tell_entries.specs.Searches.{AreAllMet, AreMet, IsAhead, IsFollowed, IsMetAtFault, IsOpening, IsSearch}
+use Rattle.tell_entries.specs.Searches.{IsWayAtFault}
 use Rattle.tell_entries.specs.Searches.{Waits}
 use Rattle.tell_entries.specs.Ways.{IsWay, end_of}
 use Rattle.tell_entries.specs.declared.searching.Ahead.{Ahead}
@@ -601,7 +602,7 @@ module _ (dir : List ℕ) (fault : DirFault) (ids parents : List ℕ) (seen : Li
   settled n lt ne (inr (inr (inl c))) = s.noted n c
   settled n lt ne (inr (inr (inr w))) = absurd (omega (arith, w.1))
 
-  way_met : (p : ℕ) (way : List ℕ) (id : ℕ) → Contains ids p → ((m : ℕ) → Contains way m → m ≢ 0)
+  pub way_met : (p : ℕ) (way : List ℕ) (id : ℕ) → Contains ids p → ((m : ℕ) → Contains way m → m ≢ 0)
       → Descends dir p way id → Contains ids id
   way_met p [] id c below d = subst (Contains ids) (sym d) c
   way_met p (n ∷ way) id c below d =
@@ -630,3 +631,43 @@ module _ (dir : List ℕ) (fault : DirFault) (ids parents : List ℕ) (seen : Li
             let o : LeadsOutside dir (end_of way) = outside.1 in
             not_outside o.0 o.4 o.3 outside.0 (followed (end_of way) o.0 c o.1 o.2)
       ]
+
+-- ---- all entries that links reach
+not_met : (dir ids : List ℕ) (k : ℕ) → IsMetAtFault dir directory.NoMemory ids k → ⊥
+not_met dir ids k h = elim h.1 [ inl refused ↦ refused | inr outside ↦ absurd (cc outside.0) ]
+
+module _ (dir ids parents : List ℕ) (seen : List Bool) (unseen : ℕ)
+    (s : IsSearch dir directory.NoMemory ids parents seen [] unseen) where
+  marked_met : (n : ℕ) → n ≢ 0 → n < length seen → get_or seen n true ≡ true → Contains ids n
+  marked_met n below lt t =
+      elim (s.noted n
+      (linked_by dir directory.NoMemory ids parents seen [] unseen n s (omega (arith, lt, s.sized)) t)) [
+        | inl root ↦ absurd (below root)
+        | inr there ↦ there
+      ]
+
+  met_marked : (n : ℕ) → n ≢ 0 → Contains ids n → (n < length seen) × (get_or seen n true ≡ true)
+  met_marked n below c =
+      elim (s.listed n c) [
+        | inl root ↦ absurd (below root)
+        | inr linked ↦ (
+          All-contains (λ x. x < length seen) s.linked n s.below linked,
+          ap (λ (x : List Bool). get_or x n true) s.marks ∙ marked_by (replicate (length seen) false) s.linked n linked,
+        )
+      ]
+
+  way_marked : (way : List ℕ) → IsWay dir way → end_of way ≢ 0
+      → (end_of way < length seen) × (get_or seen (end_of way) true ≡ true)
+  way_marked way w below =
+      met_marked (end_of way) below
+      (way_met dir directory.NoMemory ids parents seen unseen s 0 way (end_of way) (0, s.met.some, s.met.root)
+      (λ m i z. All-contains (λ x. 0 ≢ x) way m (distinct_head 0 way w.once) i (sym z)) w.leads)
+
+  all_of_search : AreAllMet dir ids parents seen
+  all_of_search = record { met = s.met; sized = s.sized; marked = marked_met; reached = way_marked }
+
+pub all_met : (dir ids parents : List ℕ) (seen : List Bool) (unseen : ℕ) (v : Option ℕ)
+    → IfSome v (λ k. AreMet dir ids parents × IsMetAtFault dir directory.NoMemory ids k)
+    → IfNone v (IsSearch dir directory.NoMemory ids parents seen [] unseen) → AreAllMet dir ids parents seen
+all_met dir ids parents seen unseen None some none = all_of_search dir ids parents seen unseen none
+all_met dir ids parents seen unseen (Some k) some none = absurd (not_met dir ids k some.1)

@@ -1,14 +1,14 @@
 -- The search of a directory for an entry with a fault of its own: each entry that links reach is met once, whatever
 -- else is wrong with the links.
 use Rattle.std.specs.Prelude.{◌≡◌, ◌≢◌, ◌⊎◌, ◌<◌, ◌≤◌, ◌+◌, ◌*◌, ℕ, Bool, false, List, get_or, length, replicate}
-use Rattle.std.specs.Prelude.{slice_index}
+use Rattle.std.specs.Prelude.{slice_index, slice_index_or, true}
 use Rattle.std.specs.List.{All, Contains}
 use Rattle.cfb_bytes.specs.Marks.{AreDistinct, set_all}
 use Rattle.cfb_entries.specs.Entries.{MayRefuseEntry, NO_STREAM, Reaches, child, entry_at, left, right}
 use Rattle.cfb_names.specs.declared.fault.DirFault.{DirFault}
 use Rattle.cfb_names.specs.declared.fault.DirFault.TheVariants as directory
 use Rattle.cfb_faults.specs.Faults.{IsChild, IsStorage, LeadsOutside}
-use Rattle.tell_entries.specs.Ways.{end_of}
+use Rattle.tell_entries.specs.Ways.{IsWay, end_of}
 use Rattle.tell_entries.specs.declared.searching.Ahead.{Ahead}
 
 -- The entries that were met: the root, and others each a child of one that was met before it, all different.
@@ -62,6 +62,14 @@ pub record IsSearch (dir : List ℕ) (fault : DirFault) (ids parents : List ℕ)
   pub free : (k : ℕ) → k < length ids → MayRefuseEntry dir (slice_index ids k) fault → ⊥
   pub children : (k : ℕ) → k < length ids → IsStorage dir (slice_index ids k)
       → IsFollowed dir fault linked ahead (child (entry_at dir (slice_index ids k)))
+
+-- All entries that links reach were met, and marks tell which these are but for the root.
+pub record AreAllMet (dir ids parents : List ℕ) (seen : List Bool) : Type 0 where
+  pub met : AreMet dir ids parents
+  pub sized : length dir ≡ 128 * length seen
+  pub marked : (n : ℕ) → n ≢ 0 → n < length seen → slice_index_or seen n true ≡ true → Contains ids n
+  pub reached : (way : List ℕ) → IsWay dir way → end_of way ≢ 0
+      → (end_of way < length seen) × (slice_index_or seen (end_of way) true ≡ true)
 
 -- What is found to be wrong with an entry that was met, of which the search tells its place among them.
 abbrev pub IsMetAtFault : List ℕ → DirFault → List ℕ → ℕ → Type 0

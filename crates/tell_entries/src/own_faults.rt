@@ -12,16 +12,16 @@ use cfb_names::fault::DirFault;
 use cfb_names::name::is_forbidden;
 
 /// How many bytes an entry has.
-pub(crate) const ENTRY: usize = 128;
+pub const ENTRY: usize = 128;
 
 /// The bytes of an entry.
 #[tactic(auto, unfolding(cfb_bytes::specs::Bytes::block))]
-fn entry_of(directory: &[u8], id: u32) -> &[u8]
+pub fn entry_of(directory: &[u8], id: usize) -> &[u8]
     requires { 128 * id + 128 ≤ length directory.now }
     ensures is { result.now ≡ entry_at directory.now id }
     ensures long { length result.now ≡ 128 }
 {
-    let start = ENTRY * id as usize;
+    let start = ENTRY * id;
     &directory[start..start + ENTRY]
 }
 
@@ -31,7 +31,7 @@ pub(crate) fn number_of(directory: &[u8], id: u32, at: usize) -> u32
     requires within { at + 4 ≤ 128 }
     ensures { result ≡ u32_at (entry_at directory.now id) at }
 {
-    read_u32(entry_of(directory, id), at)
+    read_u32(entry_of(directory, id as usize), at)
 }
 
 /// The kind of an entry.
@@ -39,7 +39,7 @@ pub(crate) fn kind_of(directory: &[u8], id: u32) -> u8
     requires inside { 128 * id + 128 ≤ length directory.now }
     ensures { result ≡ kind (entry_at directory.now id) }
 {
-    entry_of(directory, id)[66]
+    entry_of(directory, id as usize)[66]
 }
 
 /// Whether an entry may have a kind: entry 0 that of the root, and others those of storages and streams.
@@ -171,7 +171,7 @@ pub(crate) fn has_fault(directory: &[u8], id: u32, fault: DirFault) -> bool
     ensures told { result ≡ true → MayRefuseEntry directory.now id fault }
     ensures free { result ≡ false → MayRefuseEntry directory.now id fault → ⊥ }
 {
-    let entry = entry_of(directory, id);
+    let entry = entry_of(directory, id as usize);
     if is_of_entry(fault) {
         return is_bad(entry, id);
     }

@@ -2,7 +2,8 @@
 
 ghost use Rattle.cfb_entries.specs.Entries.{MayRefuseEntry, NO_STREAM as NOBODY, child, entry_at, left, right};
 ghost use Rattle.cfb_names.specs.declared.fault.DirFault.TheVariants.{BadEntry};
-ghost use Rattle.tell_entries.specs.Searches.{AreMet, IsAhead, IsMetAtFault, IsOpening, IsSearch, IsWayAtFault, Waits};
+ghost use Rattle.tell_entries.specs.Searches.{AreAllMet, AreMet, IsAhead, IsMetAtFault, IsOpening, IsSearch};
+ghost use Rattle.tell_entries.specs.Searches.{IsWayAtFault, Waits};
 ghost use Rattle.tell_entries.specs.Ways.{IsWay, end_of};
 ghost use Rattle.cfb_faults.specs.Faults.{IsStorage};
 ghost use Rattle.std.specs.List.{All};
@@ -35,6 +36,17 @@ pub(crate) struct Ahead {
     pub(crate) to: u32,
     /// The place of the storage.
     pub(crate) parent: usize,
+}
+
+/// The entries that links reach from the root of a directory, whatever is wrong with the links.
+#[derive(Drop)]
+pub struct Met {
+    /// The root, and then each with the place of the storage whose child it is.
+    pub ids: Vec<u32>,
+    /// The places of these storages.
+    pub parents: Vec<usize>,
+    /// Whether an entry was met, by its number; it may be told of the root or not.
+    pub seen: Vec<bool>,
 }
 
 /// What a search has come to.
@@ -251,8 +263,8 @@ fn is_seen(seen: &[bool], id: u32) -> bool
     seen[id as usize]
 }
 
-/// The way to an entry that was met, by its place among them.
-fn way_to(
+/// The way to an entry that was met, by its place among them. Refused for want of memory alone.
+pub fn way_to(
     alloc: Global,
     directory: &[u8],
     ids: &[u32],
@@ -274,6 +286,46 @@ fn way_to(
     Ok(way)
 }
 
+/// Follows the links ahead until an entry with the fault is met, whose place it gives, or none is ahead.
+fn follow(
+    directory: &[u8],
+    search: &mut Search,
+    fault: DirFault,
+) -> Result<Option<usize>, AllocError>
+    requires is { IsSearch directory.now fault search.old.ids.items search.old.parents.items search.old.seen.items
+        search.old.ahead.items search.old.unseen }
+    ensures met { IfOk result
+        (λ v. IfSome v (λ k. AreMet directory.now search.new.ids.items search.new.parents.items
+        × IsMetAtFault directory.now fault search.new.ids.items k)) }
+    ensures all { IfOk result
+        (λ v. IfNone v (IsSearch directory.now fault search.new.ids.items search.new.parents.items
+        search.new.seen.items [] search.new.unseen)) }
+{
+    while !search.ahead.is_empty() {
+        let found = step(directory, search, fault)?;
+        if let Some(place) = found {
+            return Ok(Some(place));
+        }
+    }
+    Ok(None)
+}
+
+/// The entries that links reach from the root of a directory, each met once, whatever is wrong with them. Refused for
+/// want of memory alone.
+pub fn meet_all(alloc: Global, directory: &[u8]) -> Result<Met, AllocError>
+    requires some { 128 ≤ length directory.now }
+    requires whole { (m : ℕ) × (length directory.now ≡ 128 * m) }
+    ensures { IfOk result (λ m. AreAllMet directory.now m.ids.items m.parents.items m.seen.items) }
+{
+    let mut search = search_of(alloc, directory)?;
+    follow(directory, &mut search, DirFault::NoMemory)?;
+    Ok(Met {
+        ids: search.ids,
+        parents: search.parents,
+        seen: search.seen,
+    })
+}
+
 /// The way to an entry of a directory that has a fault of its own, or to a storage from which links lead outside where
 /// that is the fault. None where no entry that links reach has it, whatever else is wrong with the links.
 pub(crate) fn find_own(
@@ -292,12 +344,12 @@ pub(crate) fn find_own(
         return Ok(Some(Vec::new(alloc)));
     }
     let mut search = search_of(alloc, directory)?;
-    while !search.ahead.is_empty() {
-        let found = step(directory, &mut search, fault)?;
-        if let Some(place) = found {
+    let found = follow(directory, &mut search, fault)?;
+    match found {
+        Some(place) => {
             let way = way_to(alloc, directory, &search.ids, &search.parents, place)?;
-            return Ok(Some(way));
+            Ok(Some(way))
         }
+        None => Ok(None),
     }
-    Ok(None)
 }

@@ -97,7 +97,7 @@ module _ (count : ℕ) (taken : List ℕ) (marks : List Bool) (ns : List ℕ) (m
       ]
 
 -- ---- a walk that stopped tells what links lead to
-prefix : (next : ℕ → ℕ) (count start : ℕ) (ns : List ℕ) (last : ℕ) (ms : List ℕ) (to : ℕ) → Leads next start ns last
+pub prefix : (next : ℕ → ℕ) (count start : ℕ) (ns : List ℕ) (last : ℕ) (ms : List ℕ) (to : ℕ) → Leads next start ns last
     → count ≤ last → Leads next start ms to → All (λ n. n < count) ms
     → (rest : List ℕ) × (ns ≡ ms ++ rest) × Leads next to rest last
 prefix next count start ns last [] to h out g below = (ns, refl, subst (λ (x : ℕ). Leads next x ns last) g h)
@@ -121,7 +121,7 @@ follows next start (n ∷ ns) last y h (suc k, l, e) =
           inr (suc c.0, omega (arith, c.1), c.2)
     ]
 
-stays : (next : ℕ → ℕ) (start : ℕ) (ns : List ℕ) (last : ℕ) → Leads next start ns last → Contains ns last
+pub stays : (next : ℕ → ℕ) (start : ℕ) (ns : List ℕ) (last : ℕ) → Leads next start ns last → Contains ns last
     → (at : ℕ) (ms : List ℕ) (to : ℕ) → Contains ns at → Leads next at ms to → Contains ns to
 stays next start ns last h back at [] to c g = subst (Contains ns) g c
 stays next start ns last h back at (m ∷ ms) to c g =
@@ -133,7 +133,7 @@ stays next start ns last h back at (m ∷ ms) to c g =
     ] in
     stays next start ns last h back (next m) ms to onward g.1
 
-begins : (next : ℕ → ℕ) (start : ℕ) (ns : List ℕ) (last : ℕ) → Leads next start ns last → Contains ns last
+pub begins : (next : ℕ → ℕ) (start : ℕ) (ns : List ℕ) (last : ℕ) → Leads next start ns last → Contains ns last
     → Contains ns start
 begins next start [] last h c = absurd (omega (arith, c.1))
 begins next start (n ∷ ns) last h c = (0, omega arith, sym h.0)

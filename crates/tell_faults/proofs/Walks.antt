@@ -9,7 +9,7 @@ use Rattle.tell_faults.specs.Places.{IsLed, IsWalk, last_of}
 use Rattle.tell_faults.specs.Tables.{IsTabled}
 use Rattle.tell_faults.specs.declared.place.Link.{Link}
 
-last_push : (ns : List ℕ) (at : ℕ) → last_of (ns ++ at ∷ []) ≡ Some at
+pub last_push : (ns : List ℕ) (at : ℕ) → last_of (ns ++ at ∷ []) ≡ Some at
 last_push [] at = refl
 last_push (n ∷ []) at = refl
 last_push (n ∷ m ∷ ns) at = last_push (m ∷ ns) at
@@ -30,7 +30,7 @@ walk_push table start at next from ns w lt e = record {
 }
 
 -- ---- what was walked, of a store
-leads_by : (f g : ℕ → ℕ) (count start : ℕ) (ns : List ℕ) (last : ℕ) → ((n : ℕ) → n < count → f n ≡ g n)
+pub leads_by : (f g : ℕ → ℕ) (count start : ℕ) (ns : List ℕ) (last : ℕ) → ((n : ℕ) → n < count → f n ≡ g n)
     → All (λ n. n < count) ns → Leads f start ns last → Leads g start ns last
 leads_by f g count start [] last same below h = h
 leads_by f g count start (n ∷ ns) last same below h = (

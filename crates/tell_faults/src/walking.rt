@@ -47,7 +47,7 @@ fn mark(marks: &mut Vec<bool>, n: u32)
 }
 
 /// A mark for each of so many sectors: those that are taken have one.
-fn marks(alloc: Global, count: usize, taken: &[u32]) -> Result<Vec<bool>, AllocError>
+pub fn marks(alloc: Global, count: usize, taken: &[u32]) -> Result<Vec<bool>, AllocError>
     ensures { IfOk result (λ v. v.items ≡ set_all (replicate count false) taken.now) }
 {
     let mut marks = vec![in alloc; false; count]?;
@@ -58,7 +58,7 @@ fn marks(alloc: Global, count: usize, taken: &[u32]) -> Result<Vec<bool>, AllocE
 }
 
 /// Whether a number is that of a sector without a mark.
-fn is_new(marks: &[bool], n: u32) -> bool
+pub fn is_new(marks: &[bool], n: u32) -> bool
     ensures new { result ≡ true → (n < length marks.now) × (slice_index_or marks.now n true ≡ false) }
     ensures old { result ≡ false → slice_index_or marks.now n true ≡ true }
 {
@@ -121,7 +121,7 @@ fn is_taken(count: usize, taken: &[u32], n: u32) -> bool
 }
 
 /// Whether so many sectors of a width that end at a number have no room for so many bytes.
-fn is_short(len: usize, to: u32, width: u32, size: u64) -> bool
+pub fn is_short(len: usize, to: u32, width: u32, size: u64) -> bool
     requires { len < 0x100000000 }
     ensures short { result ≡ true → (to ≡ END) × (width * len < size) }
     ensures long { result ≡ false → (to ≢ END) ⊎ (size ≤ width * len) }
@@ -133,7 +133,7 @@ fn is_short(len: usize, to: u32, width: u32, size: u64) -> bool
 }
 
 /// Whether so many sectors of a width end at a number, and have room for so many bytes.
-fn is_whole(len: usize, to: u32, width: u32, size: u64) -> bool
+pub fn is_whole(len: usize, to: u32, width: u32, size: u64) -> bool
     requires { len < 0x100000000 }
     ensures whole { result ≡ true → (to ≡ END) × (size ≤ width * len) }
     ensures cut { result ≡ false → (to ≢ END) ⊎ (width * len < size) }

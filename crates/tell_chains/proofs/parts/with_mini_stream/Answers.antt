@@ -5,8 +5,8 @@ use Rattle.cfb_chains.specs.Fat.{FatValue}
 use Rattle.cfb_chains.specs.Chain.{IsChainOf, Store}
 use Rattle.cfb_entries.specs.Entries.{entry_at, first_of, size_of}
 use Rattle.tell_faults.specs.Tables.{IsTabled}
-use Rattle.tell_faults.proofs.Held.{some_gives}
-use Rattle.tell_chains.proofs.Laid.{chain_in, parts_are}
+use Rattle.tell_faults.proofs.Held.{none_gives, some_gives}
+use Rattle.tell_chains.proofs.Laid.{chain_in, no_mini_stream, not_chain_in, parts_are}
 use Rattle.tell_faults.proofs.Places.{bytes_joined, sectors_below}
 use Rattle.tell_chains.proofs.parts.with_mini_stream.Goals as goal
 
@@ -16,8 +16,8 @@ join-requires c =
     c.args.tables.now.entries.items c.requires.tables (first_directory c.args.file.now) c.args.directory.now
     c.requires.directory
 
-pub returns-in_ok-table-in-Some : goal.returns-in_ok-table-in-Some
-returns-in_ok-table-in-Some c =
+pub returns-in_ok-table-in-Some-clause-there : goal.returns-in_ok-table-in-Some-clause-there
+returns-in_ok-table-in-Some-clause-there c =
     let file : List ℕ = c.args.file.now in
     let f : FatValue = c.args.tables.now.fat in
     let lists : List ℕ = c.args.tables.now.lists.items in
@@ -52,3 +52,21 @@ returns-in_ok-table-in-Some c =
     refl refl refl)
     (sym seen) (c.in_ok-table-in-Some.ensures.items ∙ c.deref-in-Some-3.ensures.value) own
     c.in_ok-minis.ensures.tabled c.in_ok-minis.ensures.few
+
+pub returns-in-None-clause-none : goal.returns-in-None-clause-none
+returns-in-None-clause-none c =
+    let file : List ℕ = c.args.file.now in
+    let ns : List ℕ = c.args.directory.now in
+    let dir : List ℕ = c.deref.result.now in
+    let dir_is : dir ≡ joined (sector file) ns =
+    c.deref.ensures.value ∙ bytes_joined file c.args.tables.now.fat c.args.tables.now.lists.items
+    c.args.tables.now.entries.items c.requires.tables c.in_ok-bytes.bytes.items ns (first_directory file)
+    c.requires.directory c.in_ok-bytes.ensures in
+    no_mini_stream file ns dir c.requires.directory dir_is
+    (not_chain_in file c.args.tables.now.entries.items c.deref-2.result.now
+    (record { first = c.root_of-first.result.0; width = 512; size = c.root_of-first.result.1 })
+    (first_of (entry_at dir 0)) (size_of (entry_at dir 0)) c.requires.tables.tabled c.deref-2.ensures.value
+    (none_gives ((s : Store) → IsTabled c.deref-2.result.now s → s.width ≡ 512 → (xs : List ℕ)
+    → IsChainOf s c.root_of-first.result.0 c.root_of-first.result.1 xs → ⊥)
+    c.in_ok-found.found c.in-None.is c.in_ok-found.ensures.other) c.root_of-first.ensures.0 c.root_of-first.ensures.1
+    refl)

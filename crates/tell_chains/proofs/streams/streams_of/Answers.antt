@@ -1,13 +1,8 @@
-use Rattle.std.proofs.Common.{ℕ, List, ap, arith, subst, sym}
-use Rattle.cfb_entries.specs.Entries.{EntriesValue}
-use Rattle.tell_entries.specs.Ways.{IsWay}
-use Rattle.tell_entries.proofs.Steps.{way_none}
+use Rattle.std.proofs.Common.{◌≡◌, ◌≤◌, arith, length}
+use Rattle.tell_chains.proofs.Listed.{all_streams, below_none}
 use Rattle.tell_chains.proofs.streams.streams_of.Goals as goal
 
-pub loop-at-init : goal.loop-at-init
-loop-at-init c =
-    let dir : List ℕ = c.args.directory.now in (
-      ap (λ (e : EntriesValue). e.directory) c.in-Ok.ensures.loaded,
-      λ k d lt. subst (IsWay dir) (sym (c.in_ok-ways.ensures k d lt)) (way_none dir),
-      λ k d lt. absurd (omega (arith, lt)),
-    )
+pub returns : goal.returns
+returns c =
+    all_streams c.args.directory.now c.args.met.now.ids.items c.args.met.now.parents.items c.args.met.now.seen.items
+    c.loop-id.streams.items c.loop-id.id c.requires c.loop-id.invariant (omega (arith, c.loop-id-test.false))
